@@ -1,0 +1,3 @@
+pub mod SignedLaws
+pub mod FloatLaws
+pub mod ValueLaws

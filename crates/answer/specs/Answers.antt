@@ -1,0 +1,62 @@
+-- The kind, value, place and length of each answer. The kind of a refusal is its number; stored or present is 32,
+-- fill or absent 33.
+use Prim.Native.Nat.{ℕ}
+use Rattle.answer.specs.declared.Cell.{Cell}
+use Rattle.answer.specs.declared.Cell.the-variants as cell
+use Rattle.answer.specs.declared.Content.{Content}
+use Rattle.answer.specs.declared.Content.the-variants as content
+use Rattle.answer.specs.declared.Laid.{Laid}
+use Rattle.answer.specs.declared.Laid.the-variants as laid
+use Rattle.answer.specs.Refusals.{refusalNumber, refusalPlace}
+use Rattle.answer.specs.Values.{valueKind, valueBits}
+
+abbrev pub cellKind : Cell → ℕ
+cellKind (cell.Stored v at) = 32
+cellKind (cell.Fill v) = 33
+cellKind (cell.Refused r) = refusalNumber r
+
+-- the value's type code and bits, 0 and 0 of a refusal
+abbrev pub cellType : Cell → ℕ
+cellType (cell.Stored v at) = valueKind v
+cellType (cell.Fill v) = valueKind v
+cellType (cell.Refused r) = 0
+
+abbrev pub cellBits : Cell → ℕ
+cellBits (cell.Stored v at) = valueBits v
+cellBits (cell.Fill v) = valueBits v
+cellBits (cell.Refused r) = 0
+
+abbrev pub cellPlace : Cell → ℕ
+cellPlace (cell.Stored v at) = at
+cellPlace (cell.Fill v) = 0
+cellPlace (cell.Refused r) = refusalPlace r
+
+abbrev pub contentKind : Content → ℕ
+contentKind (content.Present at n) = 32
+contentKind content.Absent = 33
+contentKind (content.Refused r) = refusalNumber r
+
+-- where the content starts, or the refusal's place
+abbrev pub contentPlace : Content → ℕ
+contentPlace (content.Present at n) = at
+contentPlace content.Absent = 0
+contentPlace (content.Refused r) = refusalPlace r
+
+abbrev pub contentLength : Content → ℕ
+contentLength (content.Present at n) = n
+contentLength content.Absent = 0
+contentLength (content.Refused r) = 0
+
+-- 0 where a page was laid down, else the refusal's number
+abbrev pub laidNumber : Laid → ℕ
+laidNumber (laid.Length n) = 0
+laidNumber (laid.Refused r) = refusalNumber r
+
+-- the file's length, 0 of a refusal
+abbrev pub laidLength : Laid → ℕ
+laidLength (laid.Length n) = n
+laidLength (laid.Refused r) = 0
+
+abbrev pub laidPlace : Laid → ℕ
+laidPlace (laid.Length n) = 0
+laidPlace (laid.Refused r) = refusalPlace r

@@ -1,0 +1,51 @@
+-- Document 01, 'Thirteen refusals': the number and the place of each.
+use Prim.Native.Nat.{ℕ}
+use mathlib.Core.Bool.{Bool, true, false}
+use Rattle.answer.specs.declared.Refusal.{Refusal}
+use Rattle.answer.specs.declared.Refusal.the-variants.{Identification, Version, Header, Ceiling, Opened, Chain, Checksum, Body, Directory, OutsideGrid, Compressed, Input, Room}
+use Rattle.answer.specs.declared.Verdict.{Verdict}
+use Rattle.answer.specs.declared.Verdict.the-variants.{Accepted, Refused}
+
+abbrev pub refusalNumber : Refusal → ℕ
+refusalNumber Identification = 1
+refusalNumber Version = 2
+refusalNumber Header = 3
+refusalNumber Ceiling = 4
+refusalNumber Opened = 5
+refusalNumber (Chain at) = 6
+refusalNumber (Checksum at) = 7
+refusalNumber (Body at) = 8
+refusalNumber Directory = 9
+refusalNumber OutsideGrid = 10
+refusalNumber (Compressed at) = 11
+refusalNumber Input = 12
+refusalNumber Room = 13
+
+abbrev pub refusalPlace : Refusal → ℕ
+refusalPlace Identification = 0
+refusalPlace Version = 0
+refusalPlace Header = 0
+refusalPlace Ceiling = 0
+refusalPlace Opened = 0
+refusalPlace (Chain at) = at
+refusalPlace (Checksum at) = at
+refusalPlace (Body at) = at
+refusalPlace Directory = 16
+refusalPlace OutsideGrid = 0
+refusalPlace (Compressed at) = at
+refusalPlace Input = 0
+refusalPlace Room = 0
+
+-- a check's answer as a number, 0 where it accepts, and its place
+abbrev pub verdictNumber : Verdict → ℕ
+verdictNumber Accepted = 0
+verdictNumber (Refused r) = refusalNumber r
+
+abbrev pub verdictPlace : Verdict → ℕ
+verdictPlace Accepted = 0
+verdictPlace (Refused r) = refusalPlace r
+
+-- the answer v where the test holds, and else the refusal r: stages in order are gates, one in the other
+unfoldable pub gate : Bool → Refusal → Verdict → Verdict
+gate true r v = v
+gate false r v = Refused r

@@ -1,0 +1,315 @@
+// The answer types, and what each case says as numbers.
+ghost use mathlib.Core.Path.{_≡_};
+ghost use Prim.Native.Nat.{_%_};
+ghost use lib.Ieee.{ofBits, binary32};
+ghost use mir.Syntax.{w16, w32};
+ghost use mir.Val.{toZ, ofZ};
+ghost use Rattle.answer.specs.Refusals.{refusalNumber, refusalPlace, verdictNumber, verdictPlace};
+ghost use Rattle.answer.specs.Values.{valueOf, valueKind, valueBits};
+ghost use Rattle.answer.specs.Answers.{cellKind, cellType, cellBits, cellPlace, contentKind, contentPlace, contentLength, laidNumber, laidLength, laidPlace};
+
+// The thirteen refusals, in their order, with a place where document 01 gives one that varies.
+pub enum Refusal {
+    Identification,
+    Version,
+    Header,
+    Ceiling,
+    Opened,
+    Chain(usize),
+    Checksum(usize),
+    Body(usize),
+    Directory,
+    OutsideGrid,
+    Compressed(usize),
+    Input,
+    Room,
+}
+
+// What a check answers.
+pub enum Verdict {
+    Accepted,
+    Refused(Refusal),
+}
+
+// A value of an element's type. The Float case has the f32 of the bit pattern, and the pattern itself, since the one
+// NaN of the language does not keep a NaN's bits.
+pub enum Value {
+    Integer(i32),
+    IntegerCoded(i32),
+    Float { value: f32, bits: u32 },
+    Short(i16),
+}
+
+// What a cell read answers.
+pub enum Cell {
+    Stored { value: Value, place: usize },
+    Fill { value: Value },
+    Refused(Refusal),
+}
+
+// What is said of an element's content in a tile.
+pub enum Content {
+    Present { start: usize, length: usize },
+    Absent,
+    Refused(Refusal),
+}
+
+// What a lay-down answers.
+pub enum Laid {
+    Length(usize),
+    Refused(Refusal),
+}
+
+// Document 01's number of a refusal.
+pub fn refusal_number(r: Refusal) -> u32
+    ensures { λ n. ⌜ n ≡ refusalNumber r ⌝ }
+{
+    match r {
+        Refusal::Identification => 1,
+        Refusal::Version => 2,
+        Refusal::Header => 3,
+        Refusal::Ceiling => 4,
+        Refusal::Opened => 5,
+        Refusal::Chain(_) => 6,
+        Refusal::Checksum(_) => 7,
+        Refusal::Body(_) => 8,
+        Refusal::Directory => 9,
+        Refusal::OutsideGrid => 10,
+        Refusal::Compressed(_) => 11,
+        Refusal::Input => 12,
+        Refusal::Room => 13,
+    }
+}
+
+// Document 01's place of a refusal.
+pub fn refusal_place(r: Refusal) -> usize
+    ensures { λ n. ⌜ n ≡ refusalPlace r ⌝ }
+{
+    match r {
+        Refusal::Chain(at) => at,
+        Refusal::Checksum(at) => at,
+        Refusal::Body(at) => at,
+        Refusal::Directory => 16,
+        Refusal::Compressed(at) => at,
+        Refusal::Identification => 0,
+        Refusal::Version => 0,
+        Refusal::Header => 0,
+        Refusal::Ceiling => 0,
+        Refusal::Opened => 0,
+        Refusal::OutsideGrid => 0,
+        Refusal::Input => 0,
+        Refusal::Room => 0,
+    }
+}
+
+// 0 where a check accepts, else the refusal's number.
+pub fn verdict_number(v: Verdict) -> u32
+    ensures { λ n. ⌜ n ≡ verdictNumber v ⌝ }
+{
+    match v {
+        Verdict::Accepted => 0,
+        Verdict::Refused(r) => refusal_number(r),
+    }
+}
+
+pub fn verdict_place(v: Verdict) -> usize
+    ensures { λ n. ⌜ n ≡ verdictPlace v ⌝ }
+{
+    match v {
+        Verdict::Accepted => 0,
+        Verdict::Refused(r) => refusal_place(r),
+    }
+}
+
+// The float of a bit pattern; of each NaN's pattern the one NaN of the language.
+fn float_of(bits: u32) -> f32
+    ensures { λ r. ⌜ r ≡ ofBits binary32 bits ⌝ }
+{
+    if 0x7F80_0000 < bits % 0x8000_0000 {
+        return 0.0 / 0.0;
+    }
+    f32::from_bits(bits)
+}
+
+// Two's complement, of 32 bits and of 16, and back.
+fn signed_32(bits: u32) -> i32
+    ensures { λ r. ⌜ r ≡ toZ w32 bits ⌝ }
+{
+    if bits < 0x8000_0000 {
+        return bits as i32;
+    }
+    0 - 1 - ((0xFFFF_FFFF - bits) as i32)
+}
+
+fn signed_16(bits: u16) -> i16
+    ensures { λ r. ⌜ r ≡ toZ w16 bits ⌝ }
+{
+    if bits < 0x8000 {
+        return bits as i16;
+    }
+    0 - 1 - ((0xFFFF - bits) as i16)
+}
+
+fn bits_32(z: i32) -> u32
+    ensures { λ r. ⌜ r ≡ ofZ w32 z ⌝ }
+{
+    if 0 <= z {
+        return z as u32;
+    }
+    0xFFFF_FFFF - ((0 - 1 - z) as u32)
+}
+
+fn bits_16(z: i16) -> u16
+    ensures { λ r. ⌜ r ≡ ofZ w16 z ⌝ }
+{
+    if 0 <= z {
+        return z as u16;
+    }
+    0xFFFF - ((0 - 1 - z) as u16)
+}
+
+// The value of a bit pattern, by the element's type code.
+pub fn value_of(kind: u32, bits: u32) -> Value
+    ensures { λ r. ⌜ r ≡ valueOf kind bits ⌝ }
+{
+    if kind == 1 {
+        return Value::IntegerCoded(signed_32(bits));
+    }
+    if kind == 2 {
+        return Value::Float {
+            value: float_of(bits),
+            bits,
+        };
+    }
+    if kind == 3 {
+        return Value::Short(signed_16((bits % 65536) as u16));
+    }
+    Value::Integer(signed_32(bits))
+}
+
+// A value's type code.
+pub fn value_kind(v: Value) -> u32
+    ensures { λ r. ⌜ r ≡ valueKind v ⌝ }
+{
+    match v {
+        Value::Integer(_) => 0,
+        Value::IntegerCoded(_) => 1,
+        Value::Float { value: _, bits: _ } => 2,
+        Value::Short(_) => 3,
+    }
+}
+
+// A value's bit pattern.
+pub fn value_bits(v: Value) -> u32
+    ensures { λ r. ⌜ r ≡ valueBits v ⌝ }
+{
+    match v {
+        Value::Integer(z) => bits_32(z),
+        Value::IntegerCoded(z) => bits_32(z),
+        Value::Float { value: _, bits } => bits,
+        Value::Short(z) => bits_16(z) as u32,
+    }
+}
+
+// A cell answer's kind, type code, bits and place.
+pub fn cell_kind(x: Cell) -> u32
+    ensures { λ r. ⌜ r ≡ cellKind x ⌝ }
+{
+    match x {
+        Cell::Stored { value: _, place: _ } => 32,
+        Cell::Fill { value: _ } => 33,
+        Cell::Refused(r) => refusal_number(r),
+    }
+}
+
+pub fn cell_type(x: Cell) -> u32
+    ensures { λ r. ⌜ r ≡ cellType x ⌝ }
+{
+    match x {
+        Cell::Stored { value, place: _ } => value_kind(value),
+        Cell::Fill { value } => value_kind(value),
+        Cell::Refused(_) => 0,
+    }
+}
+
+pub fn cell_bits(x: Cell) -> u32
+    ensures { λ r. ⌜ r ≡ cellBits x ⌝ }
+{
+    match x {
+        Cell::Stored { value, place: _ } => value_bits(value),
+        Cell::Fill { value } => value_bits(value),
+        Cell::Refused(_) => 0,
+    }
+}
+
+pub fn cell_place(x: Cell) -> usize
+    ensures { λ r. ⌜ r ≡ cellPlace x ⌝ }
+{
+    match x {
+        Cell::Stored { value: _, place } => place,
+        Cell::Fill { value: _ } => 0,
+        Cell::Refused(r) => refusal_place(r),
+    }
+}
+
+// A content answer's kind, place and length.
+pub fn content_kind(x: Content) -> u32
+    ensures { λ r. ⌜ r ≡ contentKind x ⌝ }
+{
+    match x {
+        Content::Present {
+            start: _,
+            length: _,
+        } => 32,
+        Content::Absent => 33,
+        Content::Refused(r) => refusal_number(r),
+    }
+}
+
+pub fn content_place(x: Content) -> usize
+    ensures { λ r. ⌜ r ≡ contentPlace x ⌝ }
+{
+    match x {
+        Content::Present { start, length: _ } => start,
+        Content::Absent => 0,
+        Content::Refused(r) => refusal_place(r),
+    }
+}
+
+pub fn content_length(x: Content) -> usize
+    ensures { λ r. ⌜ r ≡ contentLength x ⌝ }
+{
+    match x {
+        Content::Present { start: _, length } => length,
+        Content::Absent => 0,
+        Content::Refused(_) => 0,
+    }
+}
+
+// A lay-down answer's number, length and place.
+pub fn laid_number(x: Laid) -> u32
+    ensures { λ r. ⌜ r ≡ laidNumber x ⌝ }
+{
+    match x {
+        Laid::Length(_) => 0,
+        Laid::Refused(r) => refusal_number(r),
+    }
+}
+
+pub fn laid_length(x: Laid) -> usize
+    ensures { λ r. ⌜ r ≡ laidLength x ⌝ }
+{
+    match x {
+        Laid::Length(n) => n,
+        Laid::Refused(_) => 0,
+    }
+}
+
+pub fn laid_place(x: Laid) -> usize
+    ensures { λ r. ⌜ r ≡ laidPlace x ⌝ }
+{
+    match x {
+        Laid::Length(_) => 0,
+        Laid::Refused(r) => refusal_place(r),
+    }
+}

@@ -1,0 +1,19 @@
+use native.Mathlib.Omega.{arith}
+use Rattle.wire.proofs.TestLaws.{no, yes}
+use Rattle.check_header.specs.HeaderRecord.{optionsRight}
+use borrow.Author.Needs.{needs}
+use Rattle.check_header.proofs.header_record.options_right.Statement.{statement}
+use Rattle.check_header.proofs.header_record.options_right.Tie as tie
+
+pub options-right-spec : {M : Type 1} → statement M
+unfolding optionsRight
+options-right-spec =
+    tie.close
+    (tie.spec
+    (λ c κs. search needs)
+    (λ c. no _ (λ h. omega arith))
+    (λ c κs. search needs)
+    (λ c. no _ (λ h. omega arith))
+    (λ c κs. search needs)
+    (λ c. no _ (λ h. omega arith))
+    (λ c. yes _ (omega arith)))

@@ -1,0 +1,4 @@
+pub mod Identification
+pub mod HeaderRecord
+pub mod Ceilings
+pub mod Stages

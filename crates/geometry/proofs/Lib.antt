@@ -1,0 +1,3 @@
+pub mod TileLaws
+pub mod SizeLaws
+pub mod Samples

@@ -1,0 +1,12 @@
+-- The sample sums marked P. Assumes nothing.
+use mathlib.Core.Path.{refl}
+use Rattle.wire.specs.Pick.{pick}
+use Rattle.wire.specs.Tests.{passes, sumBelow}
+use Rattle.header.specs.Element.{cellSize}
+use Rattle.geometry.specs.Tiles.{tilesAlong, tileOf, insideOf, tilesIn, tileIn}
+use Rattle.geometry.specs.Sizes.{uncompressed, judge, cellOffset, storedSize, leastLength, tileLength}
+use Rattle.geometry.specs.Samples.{SamplesHold}
+
+pub samples-hold : SamplesHold
+unfolding passes sumBelow cellSize tilesAlong tileOf insideOf tilesIn tileIn uncompressed judge cellOffset storedSize leastLength tileLength
+samples-hold = refl

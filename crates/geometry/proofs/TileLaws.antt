@@ -1,0 +1,79 @@
+-- Bounds of quotients and products, and tiles from their parts. Assumes nothing.
+use Prim.Native.Nat.{ℕ, zero, suc, _+_, _*_, _/_, _%_, _-_, _^_, _≤_, _<_}
+use mathlib.Core.Path.{_≡_, refl, sym, ap, _∙_}
+use mathlib.Core.List.{List}
+use native.Mathlib.Omega.{arith}
+use native.Mathlib.Nat.{div-zero, mod-zero, div-le-self, mod-le, mul-le-mul, mul-le-mul-left, div-lt-iff-lt-mul, le-of-lt, mul-comm, mul-one, le-trans}
+use mir.Val.{Fits}
+use mir.Syntax.{w32, w64}
+use Rattle.header.specs.Fields.{gridRows, gridColumns, tileRows, tileColumns}
+use Rattle.geometry.specs.Tiles.{tilesAlong, tileOf, insideOf, tilesIn, tileIn, tilesAcross, tilesDown, tileCount, cellTile, cellInside}
+
+pub quotient-zero : (a b : ℕ) → b ≡ 0 → 0 ≡ a / b
+quotient-zero a b e = rw e (sym (div-zero a))
+
+pub remainder-zero : (a b : ℕ) → b ≡ 0 → a ≡ a % b
+remainder-zero a b e = rw e (sym (mod-zero a))
+
+pub quotient-small : (a b : ℕ) → a / b ≤ a
+quotient-small a b = div-le-self a b
+
+pub remainder-small : (a b : ℕ) → a % b ≤ a
+remainder-small a b = mod-le a b
+
+-- two four-byte numbers multiplied
+pub product : (a b : ℕ) → a < 4294967296 → b < 4294967296 → a * b ≤ 18446744065119617025
+product a b h k = let x : a ≤ 4294967295 = omega arith in let y : b ≤ 4294967295 = omega arith in mul-le-mul x y
+
+-- tiles along a side
+
+pub along-zero : (side tile : ℕ) → tile ≡ 0 → 0 ≡ tilesAlong side tile
+unfolding tilesAlong
+along-zero side tile e = rw e (sym (div-zero _))
+
+pub along-is : (side tile : ℕ) → (side + (tile - 1)) / tile ≡ tilesAlong side tile
+unfolding tilesAlong
+along-is side tile = refl
+
+pub along-small : (side tile : ℕ) → (tile ≡ 0 → ⊥) → (side + (tile - 1)) / tile ≤ side
+along-small side tile n =
+    let p : 0 < tile = omega arith in
+    let m : (side + 1) * 1 ≤ (side + 1) * tile = mul-le-mul-left (side + 1) p in
+    let q : (side + 1) * tile ≡ side * tile + tile = omega arith in
+    let r : side * 1 ≤ side * tile = mul-le-mul-left side p in
+    let l : side + (tile - 1) < (side + 1) * tile = omega arith in
+    let k : (side + (tile - 1)) / tile < side + 1 = div-lt-iff-lt-mul p .1 l in
+    omega arith
+
+-- from the parts
+
+pub tile-is : (h w across r c a b : ℕ) → a ≡ r / h → b ≡ c / w → a * across + b ≡ tileOf h w across r c
+unfolding tileOf
+tile-is h w across r c a b p q = rw (p, q)
+
+pub inside-is : (h w r c a b : ℕ) → a ≡ r % h → b ≡ c % w → a * w + b ≡ insideOf h w r c
+unfolding insideOf
+inside-is h w r c a b p q = rw (p, q)
+
+pub across-is : (s : List ℕ) (c w r : ℕ) → c ≡ gridColumns s → w ≡ tileColumns s → r ≡ tilesAlong c w → r ≡ tilesAcross s
+unfolding tilesAcross
+across-is s c w r p q e = e ∙ rw (p, q)
+
+pub down-is : (s : List ℕ) (c w r : ℕ) → c ≡ gridRows s → w ≡ tileRows s → r ≡ tilesAlong c w → r ≡ tilesDown s
+unfolding tilesDown
+down-is s c w r p q e = e ∙ rw (p, q)
+
+pub count-is : (s : List ℕ) (a b : ℕ) → a ≡ tilesDown s → b ≡ tilesAcross s → a * b ≡ tileCount s
+unfolding tileCount tilesIn tilesDown tilesAcross
+count-is s a b p q = rw (p, q)
+
+pub cell-tile-is :
+    (s : List ℕ) (h w a r c x : ℕ) → h ≡ tileRows s → w ≡ tileColumns s → a ≡ tilesAcross s → x ≡ tileOf h w a r c →
+    x ≡ cellTile s r c
+unfolding cellTile tileIn tilesAcross
+cell-tile-is s h w a r c x p q t e = e ∙ rw (p, q, t)
+
+pub cell-inside-is :
+    (s : List ℕ) (h w r c x : ℕ) → h ≡ tileRows s → w ≡ tileColumns s → x ≡ insideOf h w r c → x ≡ cellInside s r c
+unfolding cellInside
+cell-inside-is s h w r c x p q e = e ∙ rw (p, q)

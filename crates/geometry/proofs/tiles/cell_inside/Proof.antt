@@ -1,0 +1,13 @@
+use Rattle.geometry.proofs.TileLaws.{cell-inside-is}
+use borrow.Author.Needs.{needs}
+use Rattle.geometry.proofs.tiles.cell_inside.Statement.{statement}
+use Rattle.geometry.proofs.tiles.cell_inside.Tie as tie
+
+pub cell-inside-spec : {M : Type 1} → statement M
+cell-inside-spec =
+    tie.close
+    (tie.spec
+    (λ c κs. search needs)
+    (λ c κs. search needs)
+    (λ c κs. search needs)
+    (λ c. search (needs, cell-inside-is)))

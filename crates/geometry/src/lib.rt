@@ -1,0 +1,10 @@
+// Where a cell lies, and how many bytes things take.
+pub mod sizes;
+pub mod tiles;
+
+// What a length L is, held against the uncompressed size U.
+pub enum Judged {
+    Uncompressed,
+    Compressed,
+    Fault,
+}

@@ -1,0 +1,105 @@
+// U, L, the bytes of a tile and the least record length.
+use crate::Judged;
+use header::entries;
+use header::fields;
+ghost use mathlib.Core.Path.{_≡_};
+ghost use Prim.Native.Nat.{_+_, _≤_};
+ghost use Rattle.wire.specs.Pick.{least};
+ghost use Rattle.geometry.specs.Sizes.{uncompressed, judge, cellOffset, storedSize, leastLength, elementBytes, judgeElement, tileBytes};
+
+// U, or 4294967296 where U is more: no four-byte length tells the difference.
+pub fn uncompressed(h: u32, w: u32, kind: u32) -> u64
+    ensures { λ r. ⌜ r ≡ least (uncompressed h w kind) 4294967296 ⌝ }
+{
+    let cells = h as u64 * (w as u64);
+    let size = entries::cell_size(kind) as u64;
+    if 4294967296 < cells {
+        return 4294967296;
+    }
+    let u = cells * size;
+    if u <= 4294967296 {
+        return u;
+    }
+    4294967296
+}
+
+// A length L against U.
+pub fn judge(l: u32, u: u64) -> Judged
+    ensures { λ r. ⌜ r ≡ judge l u ⌝ }
+{
+    if l == 0 {
+        return Judged::Fault;
+    }
+    let n = l as u64;
+    if n == u {
+        return Judged::Uncompressed;
+    }
+    if n <= u {
+        return Judged::Compressed;
+    }
+    Judged::Fault
+}
+
+// Where a cell starts in its element's uncompressed content.
+pub fn cell_offset(kind: u32, inside: u32) -> u64
+    ensures { λ r. ⌜ r ≡ cellOffset kind inside ⌝ }
+{
+    inside as u64 * (entries::cell_size(kind) as u64)
+}
+
+// A length field of four bytes, L bytes, and 0 to 3 more.
+pub fn stored_size(l: u32) -> u64
+    ensures { λ r. ⌜ r ≡ storedSize l ⌝ }
+{
+    4 + (l as u64 + 3) / 4 * 4
+}
+
+// The least multiple of 8 that holds so many bytes of a record and its checksum.
+pub fn least_length(n: u32) -> u64
+    ensures { λ r. ⌜ r ≡ leastLength n ⌝ }
+{
+    (n as u64 + 4 + 7) / 8 * 8
+}
+
+// U of a file's element, or 4294967296 where U is more.
+pub fn element_bytes(s: &[u8], e: usize) -> u64
+    ensures { λ r. ⌜ r ≡ least (elementBytes (now (s .entry)) e) 4294967296 ⌝ }
+{
+    let x = entries::element(s, e);
+    let h = fields::tile_rows(s);
+    let w = fields::tile_columns(s);
+    let kind = x.kind;
+    uncompressed(h, w, kind)
+}
+
+// A length L against U of a file's element.
+pub fn judge_element(s: &[u8], e: usize, l: u32) -> Judged
+    ensures { λ r. ⌜ r ≡ judgeElement (now (s .entry)) e l ⌝ }
+{
+    judge(l, element_bytes(s, e))
+}
+
+// The uncompressed bytes of one tile, or 4294967296 where there are more.
+pub fn tile_bytes(s: &[u8]) -> u64
+    ensures { λ r. ⌜ r ≡ least (tileBytes (now (s .entry))) 4294967296 ⌝ }
+{
+    let n = entries::entries_read(s);
+    let mut sum: u64 = 0;
+    let mut e = 0;
+    while e < n {
+        sum = capped(sum, element_bytes(s, e));
+        e += 1;
+    }
+    sum
+}
+
+// A sum, or 4294967296 where it is more.
+fn capped(a: u64, b: u64) -> u64
+    requires { ⌜ (a ≤ 4294967296) × (b ≤ 4294967296) ⌝ }
+    ensures { λ r. ⌜ r ≡ least (a + b) 4294967296 ⌝ }
+{
+    if a + b <= 4294967296 {
+        return a + b;
+    }
+    4294967296
+}

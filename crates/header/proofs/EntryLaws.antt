@@ -1,0 +1,127 @@
+-- Strings and element entries. Assumes nothing.
+use Prim.Native.Nat.{ℕ, zero, suc, _+_, _*_, _/_, _-_, _≤_, _<_}
+use mathlib.Core.Path.{_≡_, refl, sym, ap, _∙_}
+use mathlib.Core.List.{List, [], _∷_}
+use mathlib.Core.Bool.{Bool, true, false}
+use native.Mathlib.Omega.{arith}
+use lib.ListN.{length}
+use lib.Dec.{eqb}
+use borrow.Author.Tests.{eq-eqb, ne-eqb}
+use Rattle.wire.specs.Pick.{pick, least, roundUp}
+use Rattle.wire.specs.Bytes.{byteAt, numberAt, u16At}
+use Rattle.wire.specs.Items.{advance}
+use Rattle.wire.proofs.TestLaws.{least-left, least-right, least-most}
+use Rattle.wire.proofs.ItemLaws.{advance-none, advance-step, advance-stop}
+use Rattle.header.specs.declared.Element.{Element}
+use Rattle.header.specs.Fields.{headerLength, headerEnd, headerLimit, elementCount}
+use Rattle.header.specs.Element.{stringEnd, blockSize, fillOffset, cellSize, entryKind, blockAt, labelAt, descriptionAt, unitAt, entryEnd, fillBits, entryAt, entryStart, entriesRead}
+use Rattle.header.specs.Tail.{methodsAt, methodCount, productLabelAt, fieldsEnd}
+
+-- the header's last four bytes
+
+pub limit-none : (s : List ℕ) → length s < 4 → 0 ≡ headerLimit s
+unfolding headerLimit
+limit-none s h = let k = least-most (headerEnd s) (length s) in omega arith
+
+pub limit-room : (s : List ℕ) (e : ℕ) → e ≡ headerEnd s → 4 ≤ e
+unfolding headerEnd
+limit-room s e p = omega arith
+
+pub limit-end : (s : List ℕ) (e : ℕ) → e ≡ headerEnd s → e ≤ length s → e - 4 ≡ headerLimit s
+unfolding headerLimit
+limit-end s e p h = let k : headerEnd s ≤ length s = omega arith in rw (least-left (headerEnd s) (length s) k, p)
+
+pub limit-short : (s : List ℕ) (e : ℕ) → e ≡ headerEnd s → length s < e → length s - 4 ≡ headerLimit s
+unfolding headerLimit
+limit-short s e p h = let k : length s ≤ headerEnd s = omega arith in rw (least-right (headerEnd s) (length s) k)
+
+-- an entry, from its parts
+
+pub string-is : (s : List ℕ) (at n : ℕ) → n ≡ u16At s at → at + 2 + n ≡ stringEnd s at
+unfolding stringEnd
+string-is s at n e = rw e
+
+pub label-is : (s : List ℕ) (at b n : ℕ) → b ≡ blockAt s at → n ≡ blockSize (byteAt s at) → (b + n + 3) / 4 * 4 ≡ labelAt s at
+unfolding labelAt
+label-is s at b n p q = rw (p, q)
+
+pub entry-is :
+    (s : List ℕ) (at l d u e : ℕ) → l ≡ labelAt s at → d ≡ stringEnd s l → u ≡ stringEnd s d → e ≡ stringEnd s u →
+    at + (e - at + 3) / 4 * 4 ≡ entryEnd s at
+unfolding entryEnd unitAt descriptionAt
+entry-is s at l d u e p q r t = rw (t, r, q, p)
+
+-- the fill, by the type code
+
+module _ (s : List ℕ) (at k b x : ℕ) (p : k ≡ byteAt s at) (q : b ≡ blockAt s at) where
+  pub fill-coded : k ≡ 1 → x ≡ numberAt 4 s (b + 28) → x ≡ fillBits s at
+  unfolding fillBits fillOffset cellSize
+  fill-coded h e = rw (← p, h, ← q) e
+
+  pub fill-short : k ≡ 3 → x ≡ numberAt 2 s (b + 8) → x ≡ fillBits s at
+  unfolding fillBits fillOffset cellSize
+  fill-short h e = rw (← p, h, ← q) e
+
+  pub fill-other : (k ≡ 1 → ⊥) → (k ≡ 3 → ⊥) → x ≡ numberAt 4 s (b + 8) → x ≡ fillBits s at
+  unfolding fillBits fillOffset cellSize
+  fill-other g h e = rw (← p, ← q, ne-eqb k 1 g, ne-eqb k 3 h) e
+
+pub size-short : (k : ℕ) → k ≡ 3 → 2 ≡ cellSize k
+unfolding cellSize
+size-short k e = rw e
+
+pub size-other : (k : ℕ) → (k ≡ 3 → ⊥) → 4 ≡ cellSize k
+unfolding cellSize
+size-other k n = rw (ne-eqb k 3 n)
+
+pub block-coded : (k : ℕ) → k ≡ 1 → 32 ≡ blockSize k
+unfolding blockSize
+block-coded k e = rw e
+
+pub block-other : (k : ℕ) → (k ≡ 1 → ⊥) → 12 ≡ blockSize k
+unfolding blockSize
+block-other k n = rw (ne-eqb k 1 n)
+
+pub entry-whole :
+    (s : List ℕ) (at k n f e : ℕ) → k ≡ byteAt s at → n ≡ u16At s (at + 8) → f ≡ fillBits s at → e ≡ entryEnd s at →
+    _≡_ {A = Element} (record { kind = k; name = at + 10; size = n; fill = f; end = e }) (entryAt s at)
+unfolding entryAt
+entry-whole s at k n f e p q r t = rw (p, q, r, t)
+
+-- the loop over entries or strings: so many are left
+
+module _ (next : ℕ → ℕ) (limit left at : ℕ) where
+  pub items-step : (b x : ℕ) → advance next limit left at ≡ x → 0 < left → at ≤ limit → b ≡ next at → advance next limit (left - 1) b ≡ x
+  items-step b x e h k p =
+      let m : left ≡ left - 1 + 1 = omega arith in
+      rw p (sym (advance-step next limit (left - 1) at k) ∙ ap (λ (n : ℕ). advance next limit n at) (sym m) ∙ e)
+
+  pub items-stop : (x : ℕ) → advance next limit left at ≡ x → limit < at → at ≡ x
+  items-stop x e h = sym (advance-stop next limit left at h) ∙ e
+
+  pub items-end : (x : ℕ) → advance next limit left at ≡ x → left ≤ 0 → at ≡ x
+  items-end x e h =
+      let z : left ≡ 0 = omega arith in
+      sym (advance-none next limit at) ∙ ap (λ (n : ℕ). advance next limit n at) (sym z) ∙ e
+
+pub entries-begin : (s : List ℕ) (e l : ℕ) → l ≡ headerLimit s → advance (entryEnd s) l e 284 ≡ entryStart s e
+unfolding entryStart
+entries-begin s e l p = rw p
+
+pub methods-begin :
+    (s : List ℕ) (l m n : ℕ) → l ≡ headerLimit s → m ≡ methodsAt s → n ≡ methodCount s →
+    advance (stringEnd s) l n (m + 4) ≡ productLabelAt s
+unfolding productLabelAt
+methods-begin s l m n p q r = rw (p, q, r)
+
+pub fields-is : (s : List ℕ) (p e : ℕ) → p ≡ productLabelAt s → e ≡ stringEnd s p → e + 8 ≡ fieldsEnd s
+unfolding fieldsEnd
+fields-is s p e f g = rw (g, f)
+
+pub read-all : (s : List ℕ) (n : ℕ) → n ≡ elementCount s → n ≤ 16 → n ≡ entriesRead s
+unfolding entriesRead
+read-all s n p h = p ∙ sym (least-left (elementCount s) 16 (omega arith))
+
+pub read-some : (s : List ℕ) (n : ℕ) → n ≡ elementCount s → 16 < n → 16 ≡ entriesRead s
+unfolding entriesRead
+read-some s n p h = sym (least-right (elementCount s) 16 (omega arith))

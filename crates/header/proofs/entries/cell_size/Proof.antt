@@ -1,0 +1,12 @@
+use borrow.Author.Needs.{needs}
+use native.Mathlib.Omega.{arith}
+use Rattle.header.proofs.EntryLaws.{size-short, size-other}
+use Rattle.header.proofs.entries.cell_size.Statement.{statement}
+use Rattle.header.proofs.entries.cell_size.Tie as tie
+
+pub cell-size-spec : {M : Type 1} → statement M
+cell-size-spec =
+    tie.close
+    (tie.spec
+    (λ c. search (needs, size-short, size-other))
+    (λ c. search (needs, size-short, size-other)))

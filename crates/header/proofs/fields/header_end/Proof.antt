@@ -1,0 +1,15 @@
+use native.Mathlib.Omega.{arith}
+use Rattle.header.specs.Fields.{headerEnd}
+use borrow.Author.Needs.{needs}
+use Rattle.header.proofs.fields.header_end.Statement.{statement}
+use Rattle.header.proofs.fields.header_end.Tie as tie
+
+pub header-end-spec : {M : Type 1} → statement M
+unfolding headerEnd
+header-end-spec =
+    tie.close
+    (tie.spec
+    (λ c κs. search needs)
+    (λ c. search needs)
+    (λ c. search needs)
+    (λ c. omega arith))

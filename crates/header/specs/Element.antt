@@ -1,0 +1,80 @@
+-- G Tables 5 and 8 to 12: strings and element specification entries, for any bytes.
+use Prim.Native.Nat.{ℕ, _+_, _-_}
+use mathlib.Core.List.{List}
+use lib.Dec.{eqb}
+use Rattle.wire.specs.Pick.{pick, least, roundUp}
+use Rattle.wire.specs.Bytes.{byteAt, numberAt, u16At, part}
+use Rattle.wire.specs.Items.{advance}
+use Rattle.header.specs.declared.Element.{Element}
+use Rattle.header.specs.Fields.{headerLimit, elementCount}
+
+-- G Table 5: a string is a length of two bytes, and as many bytes
+unfoldable pub stringEnd : List ℕ → ℕ → ℕ
+stringEnd s at = at + 2 + u16At s at
+
+-- the size of the range and fill block, by type code: 32 bytes integer-coded (Table 11), else 12 (Tables 9, 10; Table 12,
+-- whose three fields of two bytes stand at 0, 4 and 8)
+unfoldable pub blockSize : ℕ → ℕ
+blockSize kind = pick (eqb kind 1) 32 12
+
+-- where the fill value stands in the block: at 28 integer-coded, its integer fill (Table 11), else at 8
+unfoldable pub fillOffset : ℕ → ℕ
+fillOffset kind = pick (eqb kind 1) 28 8
+
+-- G Table 2: the bytes of a value, 2 of a Short, else 4
+unfoldable pub cellSize : ℕ → ℕ
+cellSize kind = pick (eqb kind 3) 2 4
+
+-- G Table 8, of the entry at `at`: the type code at 0, the name at 8, and behind it the range and fill block
+abbrev pub entryKind : List ℕ → ℕ → ℕ
+entryKind s at = byteAt s at
+
+unfoldable pub blockAt : List ℕ → ℕ → ℕ
+blockAt s at = stringEnd s (at + 8)
+
+-- then zero to three bytes that bring the file position to a multiple of 4, and the label
+unfoldable pub labelAt : List ℕ → ℕ → ℕ
+labelAt s at = roundUp 4 (blockAt s at + blockSize (entryKind s at))
+
+-- then the description and the unit of measure
+unfoldable pub descriptionAt : List ℕ → ℕ → ℕ
+descriptionAt s at = stringEnd s (labelAt s at)
+
+unfoldable pub unitAt : List ℕ → ℕ → ℕ
+unitAt s at = stringEnd s (descriptionAt s at)
+
+-- then zero to three bytes that bring the entry's size to a multiple of 4
+unfoldable pub entryEnd : List ℕ → ℕ → ℕ
+entryEnd s at = at + roundUp 4 (stringEnd s (unitAt s at) - at)
+
+-- the bit pattern of the fill value, not clamped to anything
+unfoldable pub fillBits : List ℕ → ℕ → ℕ
+fillBits s at = numberAt (cellSize (entryKind s at)) s (blockAt s at + fillOffset (entryKind s at))
+
+-- the specification of the entry at `at`: type code, place and length of the name, fill bits, end
+unfoldable pub entryAt : List ℕ → ℕ → Element
+entryAt s at =
+    record {
+      kind = entryKind s at;
+      name = at + 10;
+      size = u16At s (at + 8);
+      fill = fillBits s at;
+      end = entryEnd s at;
+    }
+
+-- G Table 7, offset 268: the entries stand one behind the other from 284 on. Where entry e starts; an entry that
+-- starts past `headerLimit` is not read
+unfoldable pub entryStart : List ℕ → ℕ → ℕ
+entryStart s e = advance (entryEnd s) (headerLimit s) e 284
+
+-- element number e, counted from 0; where the header has no such element, what stands behind the last one is read as one
+unfoldable pub element : List ℕ → ℕ → Element
+element s e = entryAt s (entryStart s e)
+
+-- its name
+unfoldable pub elementName : List ℕ → ℕ → List ℕ
+elementName s e = part s (element s e .name) (element s e .size)
+
+-- document 01, stage 3: at most the first 16 element entries are read
+unfoldable pub entriesRead : List ℕ → ℕ
+entriesRead s = least (elementCount s) 16

@@ -1,0 +1,141 @@
+// G Tables 5 and 8 to 12: strings and element entries.
+use crate::Element;
+use crate::fields;
+ghost use mathlib.Core.Path.{_≡_};
+ghost use Prim.Native.Nat.{_+_, _≤_, _<_};
+ghost use lib.ListN.{length};
+ghost use Rattle.header.specs.Element.{stringEnd, blockSize, cellSize, blockAt, labelAt, entryEnd, fillBits, entryAt, entryStart, element, entriesRead};
+
+// Where the string at a position ends.
+pub(crate) fn string_end(s: &[u8], at: usize) -> usize
+    requires { ⌜ at ≤ 9223372036856000000 ⌝ }
+    ensures is { λ r. ⌜ r ≡ stringEnd (now (s .entry)) at ⌝ }
+    ensures near { λ r. ⌜ (at + 2 ≤ r) × (r ≤ at + 65537) ⌝ }
+{
+    at + 2 + wire::u16_at(s, at) as usize
+}
+
+// The size of the range and fill block of a type code.
+fn block_size(kind: u32) -> usize
+    ensures is { λ r. ⌜ r ≡ blockSize kind ⌝ }
+    ensures near { λ r. ⌜ r ≤ 32 ⌝ }
+{
+    if kind == 1 {
+        return 32;
+    }
+    12
+}
+
+// The bytes of a value of a type code.
+pub fn cell_size(kind: u32) -> u32
+    ensures { λ r. ⌜ r ≡ cellSize kind ⌝ }
+{
+    if kind == 3 {
+        return 2;
+    }
+    4
+}
+
+// Where the range and fill block of the entry at a position stands.
+fn block_at(s: &[u8], at: usize) -> usize
+    requires { ⌜ at ≤ 9223372036855100000 ⌝ }
+    ensures is { λ r. ⌜ r ≡ blockAt (now (s .entry)) at ⌝ }
+    ensures near { λ r. ⌜ (at + 10 ≤ r) × (r ≤ at + 65545) ⌝ }
+{
+    string_end(s, at + 8)
+}
+
+// Where its label stands.
+fn label_at(s: &[u8], at: usize) -> usize
+    requires { ⌜ at ≤ 9223372036855100000 ⌝ }
+    ensures is { λ r. ⌜ r ≡ labelAt (now (s .entry)) at ⌝ }
+    ensures near { λ r. ⌜ (at + 10 ≤ r) × (r ≤ at + 65580) ⌝ }
+{
+    let block = block_at(s, at);
+    let size = block_size(wire::byte_at(s, at));
+    (block + size + 3) / 4 * 4
+}
+
+// Where it ends.
+fn entry_end(s: &[u8], at: usize) -> usize
+    requires { ⌜ at ≤ 9223372036855100000 ⌝ }
+    ensures is { λ r. ⌜ r ≡ entryEnd (now (s .entry)) at ⌝ }
+    ensures near { λ r. ⌜ (at + 10 ≤ r) × (r ≤ at + 262200) ⌝ }
+{
+    let label = label_at(s, at);
+    let description = string_end(s, label);
+    let unit = string_end(s, description);
+    let end = string_end(s, unit);
+    at + (end - at + 3) / 4 * 4
+}
+
+// The bit pattern of its fill value.
+fn fill_bits(s: &[u8], at: usize) -> u32
+    requires { ⌜ at ≤ 9223372036855100000 ⌝ }
+    ensures { λ r. ⌜ r ≡ fillBits (now (s .entry)) at ⌝ }
+{
+    let kind = wire::byte_at(s, at);
+    let block = block_at(s, at);
+    if kind == 1 {
+        return wire::u32_off(s, block, 28);
+    }
+    if kind == 3 {
+        return wire::u16_off(s, block, 8);
+    }
+    wire::u32_off(s, block, 8)
+}
+
+// Its specification.
+fn entry_at(s: &[u8], at: usize) -> Element
+    requires { ⌜ at ≤ 9223372036855100000 ⌝ }
+    ensures { λ r. ⌜ r ≡ entryAt (now (s .entry)) at ⌝ }
+{
+    let kind = wire::byte_at(s, at);
+    let size = wire::u16_off(s, at, 8) as usize;
+    let fill = fill_bits(s, at);
+    let end = entry_end(s, at);
+    Element {
+        kind,
+        name: at + 10,
+        size,
+        fill,
+        end,
+    }
+}
+
+// Where entry e starts; an entry that starts past the header's last four bytes is not read.
+pub fn entry_start(s: &[u8], e: usize) -> usize
+    ensures is { λ r. ⌜ r ≡ entryStart (now (s .entry)) e ⌝ }
+    ensures near { λ r. ⌜ r ≤ length (now (s .entry)) + 262200 ⌝ }
+{
+    let limit = fields::header_limit(s);
+    let mut at = 284;
+    let mut left = e;
+    while 0 < left {
+        if limit < at {
+            return at;
+        }
+        at = entry_end(s, at);
+        left -= 1;
+    }
+    at
+}
+
+// Element number e.
+pub fn element(s: &[u8], e: usize) -> Element
+    ensures { λ r. ⌜ r ≡ element (now (s .entry)) e ⌝ }
+{
+    entry_at(s, entry_start(s, e))
+}
+
+// The number of entries that are read: at most 16.
+pub fn entries_read(s: &[u8]) -> usize
+    ensures is { λ r. ⌜ r ≡ entriesRead (now (s .entry)) ⌝ }
+    ensures few { λ r. ⌜ r ≤ 16 ⌝ }
+{
+    let n = fields::element_count(s);
+    if n <= 16 {
+        return n as usize;
+    }
+    16
+}

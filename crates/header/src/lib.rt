@@ -1,0 +1,15 @@
+// Identifiers, the fixed fields of the header record, its element entries, and what follows them.
+pub mod entries;
+pub mod fields;
+pub mod names;
+pub mod tail;
+
+// What a header says of an element: its type code, the place and the length of its name, the bit pattern of its fill
+// value, and where its entry ends.
+pub struct Element {
+    pub kind: u32,
+    pub name: usize,
+    pub size: usize,
+    pub fill: u32,
+    pub end: usize,
+}

@@ -1,0 +1,85 @@
+// G 3.6.1: identifiers, and comparison of names.
+ghost use mathlib.Core.Path.{_≡_};
+ghost use Rattle.wire.specs.Bytes.{part, sameBytes};
+ghost use Rattle.header.specs.Names.{letter, nameByte, nameBytes, identifier};
+
+fn is_letter(b: u8) -> bool
+    ensures { λ r. ⌜ r ≡ letter b ⌝ }
+{
+    if b < 65 {
+        return false;
+    }
+    if b <= 90 {
+        return true;
+    }
+    if b < 97 {
+        return false;
+    }
+    if b <= 122 {
+        return true;
+    }
+    false
+}
+
+fn is_name_byte(b: u8) -> bool
+    ensures { λ r. ⌜ r ≡ nameByte b ⌝ }
+{
+    if is_letter(b) {
+        return true;
+    }
+    if b == 95 {
+        return true;
+    }
+    if b < 48 {
+        return false;
+    }
+    if b <= 57 {
+        return true;
+    }
+    false
+}
+
+// Whether a slice holds letters, numbers and underscores only.
+fn are_name_bytes(name: &[u8]) -> bool
+    ensures { λ r. ⌜ r ≡ nameBytes (now (name .entry)) ⌝ }
+{
+    let mut i = 0;
+    while i < name.len() {
+        if is_name_byte(name[i]) {
+            i += 1;
+        } else {
+            return false;
+        }
+    }
+    true
+}
+
+// Whether a slice holds an identifier of at most so many characters.
+pub fn is_identifier(name: &[u8], most: usize) -> bool
+    ensures { λ r. ⌜ r ≡ identifier most (now (name .entry)) ⌝ }
+{
+    if name.len() < 1 {
+        return false;
+    }
+    if most < name.len() {
+        return false;
+    }
+    if is_letter(name[0]) {
+        return are_name_bytes(&name[1..]);
+    }
+    false
+}
+
+// The same of the n bytes of a slice from a position on; bytes that are not all there are no identifier.
+pub fn identifier_at(s: &[u8], at: usize, n: usize, most: usize) -> bool
+    ensures { λ r. ⌜ r ≡ identifier most (part (now (s .entry)) at n) ⌝ }
+{
+    is_identifier(wire::part_of(s, at, n), most)
+}
+
+// Whether two names are equal, each a slice with start and length.
+pub fn same_name(s: &[u8], at: usize, n: usize, t: &[u8], place: usize, m: usize) -> bool
+    ensures { λ r. ⌜ r ≡ sameBytes (part (now (s .entry)) at n) (part (now (t .entry)) place m) ⌝ }
+{
+    wire::same_bytes(wire::part_of(s, at, n), wire::part_of(t, place, m))
+}

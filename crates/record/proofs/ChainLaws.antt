@@ -1,0 +1,311 @@
+-- Records, what a cursor's step tells, and the chain as a list. Assumes nothing.
+use Prim.Native.Nat.{ℕ, zero, suc, _+_, _*_, _%_, _-_, _^_, _≤_, _<_}
+use mathlib.Core.Path.{_≡_, refl, sym, ap, _∙_}
+use mathlib.Core.List.{List, [], _∷_, _++_, append-assoc, append-nil, List·Memᴰ, List·Memᴰ·not-nil, List·Memᴰ·cases-cons}
+use mathlib.Core.Logic.{_⊎_, inl, inr, ⊎-elim}
+use mathlib.Core.Bool.{Bool, true, false}
+use native.Mathlib.Omega.{arith}
+use lib.ListN.{length, length-append}
+use lib.Dec.{leb}
+use borrow.Author.Tests.{leb-true, leb-false, le-leb, lt-leb, not-false}
+use Rattle.wire.specs.Pick.{pick}
+use Rattle.wire.specs.Tests.{passes}
+use Rattle.wire.specs.Bytes.{largestInteger}
+use Rattle.wire.proofs.ByteLaws.{number-behind, number-before, byte-behind, byte-before}
+use Rattle.wire.proofs.TestLaws.{means, yes, no, not-both}
+use Rattle.record.specs.declared.Cursor.{Cursor}
+use Rattle.record.specs.declared.Step.{Step}
+use Rattle.record.specs.declared.Step.the-variants.{Record, Bad, End}
+use Rattle.record.specs.declared.Found.{Found}
+use Rattle.record.specs.declared.Found.the-variants.{At, Nothing}
+use Rattle.record.specs.Record.{lengthAt, typeAt, recordOk, stepAt}
+use Rattle.record.specs.Chain.{startsGo, starts, find, firstRecord, badRecord, Whole, joined, startsOf, WellFormed}
+
+-- a record
+
+pub record IsRecord (s : List ℕ) (at : ℕ) : Type 0 where
+  pub long : 16 ≤ lengthAt s at
+  pub plain : lengthAt s at ≤ largestInteger
+  pub eights : lengthAt s at % 8 ≡ 0
+  pub inside : at + lengthAt s at ≤ length s
+  pub known : typeAt s at ≤ 5
+
+pub ok-means : (s : List ℕ) (at : ℕ) → recordOk s at ≡ true → IsRecord s at
+unfolding recordOk
+ok-means s at e =
+    let h = means _ e in
+    record { long = h .0; plain = h .1 .0; eights = h .1 .1 .0; inside = h .1 .1 .1 .0; known = h .1 .1 .1 .1 .0 }
+
+pub means-ok : (s : List ℕ) (at : ℕ) → IsRecord s at → recordOk s at ≡ true
+unfolding recordOk
+means-ok s at r = sym (yes _ (r .long, (r .plain, (r .eights, (r .inside, (r .known, tt))))))
+
+-- what stands at a cursor
+
+pub step-end : (s : List ℕ) (at : ℕ) → length s ≤ at → End ≡ stepAt s at
+unfolding stepAt
+step-end s at h = rw (le-leb (length s) at h)
+
+pub step-bad : (s : List ℕ) (at : ℕ) → at < length s → recordOk s at ≡ false → Bad ≡ stepAt s at
+unfolding stepAt
+step-bad s at h e = rw (lt-leb (length s) at h, e)
+
+pub step-record :
+    (s : List ℕ) (at k n : ℕ) → at < length s → recordOk s at ≡ true → k ≡ typeAt s at → n ≡ lengthAt s at →
+    Record k at n (record { at = at + n }) ≡ stepAt s at
+unfolding stepAt
+step-record s at k n h e p q = rw (lt-leb (length s) at h, e, p, q)
+
+-- what a step tells, by what it handed back
+
+pub record Stepped (s : List ℕ) (at k st n : ℕ) (nx : Cursor) : Type 0 where
+  pub before-end : at < length s
+  pub ok : recordOk s at ≡ true
+  pub is : IsRecord s at
+  pub kind : k ≡ typeAt s st
+  pub start : st ≡ at
+  pub long : n ≡ lengthAt s at
+  pub next : nx .at ≡ at + lengthAt s at
+
+pub record AtBad (s : List ℕ) (at : ℕ) : Type 0 where
+  pub before-end : at < length s
+  pub bad : recordOk s at ≡ false
+
+pub record AtEnd (s : List ℕ) (at : ℕ) : Type 0 where
+  pub ended : length s ≤ at
+
+-- the three cases of a step
+step-cases :
+    (s : List ℕ) (at : ℕ) {C : Type 0} → (length s ≤ at → End ≡ stepAt s at → C) →
+    (at < length s → recordOk s at ≡ true → Record (typeAt s at) at (lengthAt s at) (record { at = at + lengthAt s at }) ≡ stepAt s at → C) →
+    (at < length s → recordOk s at ≡ false → Bad ≡ stepAt s at → C) → C
+step-cases s at {C} f g h = go (leb (length s) at) refl (recordOk s at) refl
+  where
+    go : (a : Bool) → leb (length s) at ≡ a → (b : Bool) → recordOk s at ≡ b → C
+    go true ea b eb = let l = leb-true _ _ ea in f l (step-end s at l)
+    go false ea true eb = let l = leb-false _ _ ea in g l eb (step-record s at _ _ l eb refl refl)
+    go false ea false eb = let l = leb-false _ _ ea in h l eb (step-bad s at l eb)
+
+other : {C : Type 0} → _≡_ {A = ℕ} 0 1 → C
+other e = absurd (omega arith)
+
+pub stepped :
+    {s : List ℕ} {at k st n : ℕ} {nx : Cursor} {r : Step} → r ≡ Record k st n nx → r ≡ stepAt s at → Stepped s at k st n nx
+stepped {s} {at} {k} {st} {n} {nx} p q =
+    step-cases s at (λ l z. other (cc))
+    (λ l o z.
+    let w : st ≡ at = cc in
+    let x : nx ≡ record { at = at + lengthAt s at } = cc in
+    record {
+      before-end = l;
+      ok = o;
+      is = ok-means s at o;
+      kind = rw w (cc);
+      start = w;
+      long = cc;
+      next = ap (λ (y : Cursor). y .at) x;
+    })
+    (λ l o z. other (cc))
+
+pub stepped-bad : {s : List ℕ} {at : ℕ} {r : Step} → r ≡ Bad → r ≡ stepAt s at → AtBad s at
+stepped-bad {s} {at} p q =
+    step-cases s at (λ l z. other (cc)) (λ l o z. other (cc)) (λ l o z. record { before-end = l; bad = o })
+
+pub stepped-end : {s : List ℕ} {at : ℕ} {r : Step} → r ≡ End → r ≡ stepAt s at → AtEnd s at
+stepped-end {s} {at} p q =
+    step-cases s at (λ l z. record { ended = l }) (λ l o z. other (cc)) (λ l o z. other (cc))
+
+-- a loop over the cursor ends: its measure falls
+pub less :
+    (s : List ℕ) (at k st n : ℕ) (nx : Cursor) (r : Step) → r ≡ Record k st n nx → r ≡ stepAt s at →
+    length s - nx .at < length s - at
+less s at k st n nx r p q = let h = stepped p q in omega arith
+
+-- the list: enough fuel is as good as more, so that it unfolds without its fuel
+
+go-end : (k : ℕ) (s : List ℕ) (at : ℕ) → length s ≤ at → startsGo k s at ≡ []
+unfolding startsGo
+go-end zero s at h = refl
+go-end (suc k) s at h = rw (startsGo, le-leb (length s) at h)
+
+go-bad : (k : ℕ) (s : List ℕ) (at : ℕ) → at < length s → recordOk s at ≡ false → startsGo (suc k) s at ≡ at ∷ []
+unfolding startsGo
+go-bad k s at h e = rw (startsGo, lt-leb (length s) at h, e)
+
+go-record :
+    (k : ℕ) (s : List ℕ) (at : ℕ) → at < length s → recordOk s at ≡ true → startsGo (suc k) s at ≡ at ∷ startsGo k s (at + lengthAt s at)
+unfolding startsGo
+go-record k s at h e = rw (startsGo, lt-leb (length s) at h, e)
+
+go-enough : (j k : ℕ) (s : List ℕ) (at : ℕ) → length s ≤ at + j → length s ≤ at + k → startsGo j s at ≡ startsGo k s at
+go-enough zero k s at p q = go-end zero s at (omega arith) ∙ sym (go-end k s at (omega arith))
+go-enough (suc j) zero s at p q = go-end (suc j) s at (omega arith) ∙ sym (go-end zero s at (omega arith))
+go-enough (suc j) (suc k) s at p q = go (leb (length s) at) refl (recordOk s at) refl (go-enough j k s (at + lengthAt s at))
+  where
+    go :
+        (a : Bool) → leb (length s) at ≡ a → (b : Bool) → recordOk s at ≡ b →
+        (length s ≤ at + lengthAt s at + j → length s ≤ at + lengthAt s at + k → startsGo j s (at + lengthAt s at) ≡ startsGo k s (at + lengthAt s at)) →
+        startsGo (suc j) s at ≡ startsGo (suc k) s at
+    go true ea b eb r = let l = leb-true _ _ ea in go-end (suc j) s at l ∙ sym (go-end (suc k) s at l)
+    go false ea true eb r =
+        let l = leb-false _ _ ea in
+        let o = ok-means s at eb in
+        go-record j s at l eb ∙ ap (λ (x : List ℕ). at ∷ x) (r (omega arith) (omega arith)) ∙ sym (go-record k s at l eb)
+    go false ea false eb r = let l = leb-false _ _ ea in go-bad j s at l eb ∙ sym (go-bad k s at l eb)
+
+starts-more : (s : List ℕ) (at : ℕ) → starts s at ≡ startsGo (suc (length s)) s at
+unfolding starts
+starts-more s at = go-enough (length s) (suc (length s)) s at (omega arith) (omega arith)
+
+pub starts-end : (s : List ℕ) (at : ℕ) → length s ≤ at → starts s at ≡ []
+unfolding starts
+starts-end s at h = go-end (length s) s at h
+
+pub starts-bad : (s : List ℕ) (at : ℕ) → at < length s → recordOk s at ≡ false → starts s at ≡ at ∷ []
+starts-bad s at h e = starts-more s at ∙ go-bad (length s) s at h e
+
+pub starts-record :
+    (s : List ℕ) (at : ℕ) → at < length s → recordOk s at ≡ true → starts s at ≡ at ∷ starts s (at + lengthAt s at)
+unfolding starts
+starts-record s at h e = starts-more s at ∙ go-record (length s) s at h e
+
+-- the first record of which p holds
+
+module _ (p : ℕ → Bool) (s : List ℕ) (at : ℕ) where
+  pub first-end : length s ≤ at → Nothing ≡ firstRecord s at p
+  unfolding firstRecord find
+  first-end h = rw (starts-end s at h)
+
+  pub first-here : at < length s → p at ≡ true → At at ≡ firstRecord s at p
+  unfolding firstRecord find
+  first-here h e = go (recordOk s at) refl
+    where
+      go : (b : Bool) → recordOk s at ≡ b → At at ≡ find p (starts s at)
+      go true f = rw (starts-record s at h f, e)
+      go false f = rw (starts-bad s at h f, e)
+
+  pub first-next : at < length s → recordOk s at ≡ true → p at ≡ false → firstRecord s at p ≡ firstRecord s (at + lengthAt s at) p
+  unfolding firstRecord find
+  first-next h f e = rw (starts-record s at h f, e)
+
+  pub first-stop : at < length s → recordOk s at ≡ false → p at ≡ false → Nothing ≡ firstRecord s at p
+  unfolding firstRecord find
+  first-stop h f e = rw (starts-bad s at h f, e)
+
+-- a chain with no bad record is whole, and a whole chain is the list and has no bad record
+
+bad-not : (s : List ℕ) (at : ℕ) → recordOk s at ≡ true → badRecord s at ≡ false
+unfolding badRecord
+bad-not s at e = rw e
+
+bad-is : (s : List ℕ) (at : ℕ) → recordOk s at ≡ false → badRecord s at ≡ true
+unfolding badRecord
+bad-is s at e = rw e
+
+none : {C : Type 0} {x : ℕ} {f : Found} → At x ≡ f → f ≡ Nothing → C
+none p q = other (cc)
+
+whole-go : (k : ℕ) (s : List ℕ) (at : ℕ) → at ≤ length s → firstRecord s at (badRecord s) ≡ Nothing → length s ≤ at + k → Whole s at (starts s at)
+whole-go zero s at h e f = rw (starts-end s at (omega arith)) (omega arith)
+whole-go (suc k) s at h e f = go (leb (length s) at) refl (recordOk s at) refl (whole-go k s (at + lengthAt s at))
+  where
+    go :
+        (a : Bool) → leb (length s) at ≡ a → (b : Bool) → recordOk s at ≡ b →
+        (at + lengthAt s at ≤ length s → firstRecord s (at + lengthAt s at) (badRecord s) ≡ Nothing → length s ≤ at + lengthAt s at + k →
+        Whole s (at + lengthAt s at) (starts s (at + lengthAt s at))) →
+        Whole s at (starts s at)
+    go true ea b eb r = let l = leb-true _ _ ea in rw (starts-end s at l) (omega arith)
+    go false ea true eb r =
+        let l = leb-false _ _ ea in
+        let o = ok-means s at eb in
+        rw (starts-record s at l eb)
+        (refl, (eb, r (omega arith) (sym (first-next (badRecord s) s at l eb (bad-not s at eb)) ∙ e) (omega arith)))
+    go false ea false eb r = none (first-here (badRecord s) s at (leb-false _ _ ea) (bad-is s at eb)) e
+
+pub whole-if : (s : List ℕ) (at : ℕ) → at ≤ length s → firstRecord s at (badRecord s) ≡ Nothing → Whole s at (starts s at)
+whole-if s at h e = whole-go (length s) s at h e (omega arith)
+
+pub whole-starts : (s : List ℕ) (at : ℕ) (xs : List ℕ) → Whole s at xs → starts s at ≡ xs
+whole-starts s at [] w = starts-end s at (omega arith)
+whole-starts s at (x ∷ xs) w =
+    let o = ok-means s x (w .1 .0) in
+    ap (starts s) (sym (w .0)) ∙ starts-record s x (omega arith) (w .1 .0)
+    ∙ ap (λ (l : List ℕ). x ∷ l) (whole-starts s (x + lengthAt s x) xs (w .1 .1))
+
+pub whole-none : (s : List ℕ) (at : ℕ) (xs : List ℕ) → Whole s at xs → firstRecord s at (badRecord s) ≡ Nothing
+whole-none s at [] w = sym (first-end (badRecord s) s at (omega arith))
+whole-none s at (x ∷ xs) w =
+    let o = ok-means s x (w .1 .0) in
+    ap (λ (y : ℕ). firstRecord s y (badRecord s)) (sym (w .0))
+    ∙ first-next (badRecord s) s x (omega arith) (w .1 .0) (bad-not s x (w .1 .0))
+    ∙ whole-none s (x + lengthAt s x) xs (w .1 .1)
+
+-- the extents of a whole chain: within the file, increasing and disjoint
+
+pub record Extent (s : List ℕ) (at x : ℕ) : Type 0 where
+  pub behind : at ≤ x
+  pub ok : recordOk s x ≡ true
+  pub inside : x + lengthAt s x ≤ length s
+
+pub whole-extent : (s : List ℕ) (at : ℕ) (xs : List ℕ) → Whole s at xs → {x : ℕ} → List·Memᴰ x xs → Extent s at x
+whole-extent s at [] w m = absurd (List·Memᴰ·not-nil m)
+whole-extent s at (y ∷ ys) w {x} m = ⊎-elim here (λ n. there (whole-extent s (y + lengthAt s y) ys (w .1 .1) n)) (List·Memᴰ·cases-cons m)
+  where
+    here : x ≡ y → Extent s at x
+    here e =
+        let o = ok-means s y (w .1 .0) in
+        rw e (record { behind = omega (arith, w .0); ok = w .1 .0; inside = o .inside })
+
+    there : Extent s (y + lengthAt s y) x → Extent s at x
+    there r = record { behind = omega (arith, w .0, r .behind); ok = r .ok; inside = r .inside }
+
+-- two records of a whole chain are one, or one ends before the other starts
+pub whole-apart :
+    (s : List ℕ) (at : ℕ) (xs : List ℕ) → Whole s at xs → {x y : ℕ} → List·Memᴰ x xs → List·Memᴰ y xs →
+    (x ≡ y) ⊎ ((x + lengthAt s x ≤ y) ⊎ (y + lengthAt s y ≤ x))
+whole-apart s at [] w m n = absurd (List·Memᴰ·not-nil m)
+whole-apart s at (z ∷ zs) w {x} {y} m n =
+    ⊎-elim
+    (λ e. ⊎-elim (λ f. inl (e ∙ sym f)) (λ k. inr (inl (rw e (whole-extent s _ zs (w .1 .1) k .behind)))) (List·Memᴰ·cases-cons n))
+    (λ j.
+    ⊎-elim (λ f. inr (inr (rw f (whole-extent s _ zs (w .1 .1) j .behind)))) (λ k. whole-apart s _ zs (w .1 .1) j k)
+    (List·Memᴰ·cases-cons n))
+    (List·Memᴰ·cases-cons m)
+
+-- a chain that is put together from well-formed records is whole
+
+module _ (a r b : List ℕ) (ok : recordOk r 0 ≡ true) (all : lengthAt r 0 ≡ length r) where
+  pub placed-length : lengthAt (a ++ (r ++ b)) (length a) ≡ length r
+  placed-length =
+      let o = ok-means r 0 ok in
+      let z : length a ≡ length a + 0 = omega arith in
+      ap (λ (x : ℕ). lengthAt (a ++ (r ++ b)) x) z ∙ number-behind 4 a (r ++ b) 0 ∙ number-before 4 r b 0 (omega arith) ∙ all
+
+  pub placed-type : typeAt (a ++ (r ++ b)) (length a) ≡ typeAt r 0
+  placed-type =
+      let o = ok-means r 0 ok in
+      byte-behind a (r ++ b) 4 ∙ byte-before r b 4 (omega arith)
+
+  pub placed-ok : recordOk (a ++ (r ++ b)) (length a) ≡ true
+  placed-ok =
+      let o = ok-means r 0 ok in
+      let n = placed-length in
+      let k = placed-type in
+      means-ok _ _
+      (record {
+        long = omega (arith, o .long);
+        plain = omega (arith, o .plain);
+        eights = rw (n, ← all) (o .eights);
+        inside = rw n (simp length-append (omega arith));
+        known = omega (arith, o .known);
+      })
+
+pub joined-whole : (a : List ℕ) (rs : List (List ℕ)) → WellFormed rs → Whole (a ++ joined rs) (length a) (startsOf (length a) rs)
+joined-whole a [] w = simp append-nil
+joined-whole a (r ∷ rs) w =
+    let n : length a + lengthAt (a ++ (r ++ joined rs)) (length a) ≡ length (a ++ r) =
+    rw (placed-length a r (joined rs) (w .0 .0) (w .0 .1)) (sym (length-append a r)) in
+    let m : length a + length r ≡ length (a ++ r) = sym (length-append a r) in
+    let t : Whole (a ++ (r ++ joined rs)) (length (a ++ r)) (startsOf (length (a ++ r)) rs) =
+    rw append-assoc at (joined-whole (a ++ r) rs (w .1)) in
+    (refl, (placed-ok a r (joined rs) (w .0 .0) (w .0 .1), rw (n, m) t))

@@ -1,0 +1,242 @@
+-- Parts of a list and the numbers that stand in it. Assumes nothing.
+use Prim.Native.Nat.{ℕ, zero, suc, _+_, _*_, _/_, _%_, _^_, _-_, _≤_, _<_}
+use mathlib.Core.Path.{_≡_, refl, sym, ap, _∙_}
+use mathlib.Core.List.{List, [], _∷_, _++_}
+use mathlib.Core.Bool.{Bool, true, false}
+use native.Mathlib.Omega.{arith}
+use native.Mathlib.Numerals.{add-one}
+use native.Mathlib.Nat.{pow-suc, mul-assoc, mul-comm, add-assoc, mul-add, mod-eq-of-lt, zero-add}
+use mathlib.Core.Logic.{by-cases}
+use native.Mathlib.Decide.{decLe}
+use lib.ListN.{length, getD, take, drop, length-append, length-take, length-drop, List·getD-eq-default, drop-of-length-le}
+use lib.Seq.{drop-append-add, drop-append-le, take-append-le, getD-take, getD-drop, ext-getD, take-add, drop-drop, length-take-le, drop-cons, take-all}
+use lib.Dec.{leb, eqb}
+use borrow.Author.Tests.{le-leb, lt-leb, eqb-true, eq-eqb, ne-eqb}
+use Rattle.wire.specs.Pick.{pick}
+use Rattle.wire.specs.Tests.{both}
+use Rattle.wire.specs.Bytes.{byteAt, part, number, numberAt, placeOf, bytesOf, sameBytes, Same}
+use Rattle.wire.proofs.TestLaws.{not-both, no-true, least-left, least-right}
+
+-- bytes
+
+pub byte-in : (s : List ℕ) (at : ℕ) → getD s at 0 ≡ byteAt s at
+unfolding byteAt
+byte-in s at = refl
+
+pub byte-out : (s : List ℕ) (at : ℕ) → length s ≤ at → 0 ≡ byteAt s at
+unfolding byteAt
+byte-out s at h = sym (List·getD-eq-default s 0 h)
+
+-- parts
+
+module _ (s : List ℕ) (at n : ℕ) where
+  pub part-in : at + n ≤ length s → part s at n ≡ take n (drop at s)
+  unfolding part
+  part-in h = rw (le-leb (at + n) (length s) h)
+
+  pub part-out : length s < at + n → part s at n ≡ []
+  unfolding part
+  part-out h = rw (lt-leb (at + n) (length s) h)
+
+  pub part-length : at + n ≤ length s → length (part s at n) ≡ n
+  part-length h = rw (part-in h) (simp (length-take, length-drop) (omega arith))
+
+  pub part-at : at + n ≤ length s → (i : ℕ) → i < n → getD (part s at n) i 0 ≡ byteAt s (at + i)
+  unfolding byteAt
+  part-at h i k = rw (part-in h, getD-take, getD-drop)
+
+-- as a slice is lent by its start and its end
+pub part-lent : (s : List ℕ) (at n : ℕ) → at + n ≤ length s → take (at + n - at) (drop at s) ≡ part s at n
+part-lent s at n h = let e : at + n - at ≡ n = omega arith in rw e (sym (part-in s at n h))
+
+-- two parts in a row are one
+pub part-split : (s : List ℕ) (at a b : ℕ) → at + (a + b) ≤ length s → part s at (a + b) ≡ part s at a ++ part s (at + a) b
+part-split s at a b h =
+    part-in s at (a + b) h
+    ∙ take-add a b (drop at s)
+    ∙ rw (drop-drop a at s, part-in s at a (omega arith), part-in s (at + a) b (omega arith))
+
+-- parts of two lists in a row: behind the first, and in the first
+
+pub part-behind : (a s : List ℕ) (at n : ℕ) → part (a ++ s) (length a + at) n ≡ part s at n
+part-behind a s at n =
+    by-cases (decLe (at + n) (length s))
+    (λ h.
+    let k : length a + at + n ≤ length (a ++ s) = simp length-append (omega arith) in
+    part-in (a ++ s) (length a + at) n k ∙ rw (drop-append-add a s at) (sym (part-in s at n h)))
+    (λ f.
+    let h : length s < at + n = omega arith in
+    let k : length (a ++ s) < length a + at + n = simp length-append (omega arith) in
+    part-out (a ++ s) (length a + at) n k ∙ sym (part-out s at n h))
+
+pub part-before : (s b : List ℕ) (at n : ℕ) → at + n ≤ length s → part (s ++ b) at n ≡ part s at n
+part-before s b at n h =
+    let k : at + n ≤ length (s ++ b) = simp length-append (omega arith) in
+    let i : n ≤ length (drop at s) = simp length-drop (omega arith) in
+    part-in (s ++ b) at n k ∙ rw (drop-append-le at s b (omega arith), take-append-le n (drop at s) b i) (sym (part-in s at n h))
+
+-- a part depends only on its bytes
+pub part-same : {s t : List ℕ} {a b : ℕ} → Same s t a b → (at n : ℕ) → a ≤ at → at + n ≤ b → part s at n ≡ part t at n
+part-same {s} {t} {a} {b} e at n h k =
+    let p : at + n ≤ length s = omega (arith, e .in-first) in
+    let q : at + n ≤ length t = omega (arith, e .in-second) in
+    ext-getD 0 (part s at n) (part t at n) (part-length s at n p ∙ sym (part-length t at n q))
+    (λ i l.
+    let m : i < n = omega (arith, part-length s at n p) in
+    part-at s at n p i m ∙ e .each (at + i) (omega arith) (omega arith) ∙ sym (part-at t at n q i m))
+
+pub byte-same : {s t : List ℕ} {a b : ℕ} → Same s t a b → (at : ℕ) → a ≤ at → at < b → byteAt s at ≡ byteAt t at
+byte-same e at h k = e .each at h k
+
+-- the number of two lists in a row
+pub number-append : (x y : List ℕ) → number (x ++ y) ≡ number x + 256 ^ length x * number y
+unfolding number
+number-append [] y = omega arith
+number-append (b ∷ x) y =
+    let e : 256 ^ suc (length x) ≡ 256 ^ length x * 256 = pow-suc 256 (length x) in
+    let f : 256 ^ length x * 256 * number y ≡ 256 * (256 ^ length x * number y) = rw (mul-comm (256 ^ length x) 256) (mul-assoc 256 (256 ^ length x) (number y)) in
+    rw (number-append x y, e, f) (omega arith)
+
+-- numbers at a place: one law over the width
+
+module _ (w : ℕ) (s : List ℕ) (at : ℕ) where
+  pub number-out : length s < at + w → 0 ≡ numberAt w s at
+  unfolding numberAt number
+  number-out h = rw (part-out s at w h)
+
+pub number-split :
+    (a b : ℕ) (s : List ℕ) (at x y : ℕ) → at + (a + b) ≤ length s → x ≡ numberAt a s at → y ≡ numberAt b s (at + a) →
+    x + 256 ^ a * y ≡ numberAt (a + b) s at
+unfolding numberAt
+number-split a b s at x y h p q =
+    rw (p, q, part-split s at a b h, number-append, part-length s at a (omega arith))
+
+one-in : (s : List ℕ) (at : ℕ) → at + 1 ≤ length s → byteAt s at ≡ numberAt 1 s at
+unfolding byteAt numberAt number
+one-in s at h = rw (part-in s at 1 h, drop-cons s at 0 (omega arith)) (omega arith)
+
+pub number-one : (s : List ℕ) (at : ℕ) → byteAt s at ≡ numberAt 1 s at
+number-one s at =
+    by-cases (decLe (at + 1) (length s)) (one-in s at)
+    (λ n. let h : length s < at + 1 = omega arith in sym (byte-out s at (omega arith)) ∙ number-out 1 s at h)
+
+pub byte-number : (s : List ℕ) (at x : ℕ) → x ≡ byteAt s at → x ≡ numberAt 1 s at
+byte-number s at x e = e ∙ number-one s at
+
+-- a number depends only on its bytes
+pub number-same : {s t : List ℕ} {a b : ℕ} → Same s t a b → (w at : ℕ) → a ≤ at → at + w ≤ b → numberAt w s at ≡ numberAt w t at
+unfolding numberAt
+number-same e w at h k = ap number (part-same e at w h k)
+
+-- numbers and bytes of two lists in a row
+
+pub number-behind : (w : ℕ) (a s : List ℕ) (at : ℕ) → numberAt w (a ++ s) (length a + at) ≡ numberAt w s at
+unfolding numberAt
+number-behind w a s at = ap number (part-behind a s at w)
+
+pub number-before : (w : ℕ) (s b : List ℕ) (at : ℕ) → at + w ≤ length s → numberAt w (s ++ b) at ≡ numberAt w s at
+unfolding numberAt
+number-before w s b at h = ap number (part-before s b at w h)
+
+pub byte-behind : (a s : List ℕ) (at : ℕ) → byteAt (a ++ s) (length a + at) ≡ byteAt s at
+byte-behind a s at = number-one _ _ ∙ number-behind 1 a s at ∙ sym (number-one s at)
+
+pub byte-before : (s b : List ℕ) (at : ℕ) → at < length s → byteAt (s ++ b) at ≡ byteAt s at
+byte-before s b at h = number-one _ _ ∙ number-before 1 s b at (omega arith) ∙ sym (number-one s at)
+
+-- the bytes of a number, and the number of bytes
+
+pub bytes-length : (w v : ℕ) → length (bytesOf w v) ≡ w
+unfolding bytesOf
+bytes-length zero v = refl
+bytes-length (suc w) v = ap suc (bytes-length w (v / 256))
+
+pub number-bytes : (w v : ℕ) → v < 256 ^ w → number (bytesOf w v) ≡ v
+unfolding bytesOf number
+number-bytes zero v h = omega arith
+number-bytes (suc w) v h =
+    let e : 256 ^ suc w ≡ 256 ^ w * 256 = pow-suc 256 w in
+    let l : v / 256 < 256 ^ w = omega arith in
+    rw (number-bytes w (v / 256) l) (omega arith)
+
+-- each element is a byte
+pub record Bytes (s : List ℕ) : Type 0 where
+  pub small : (i : ℕ) → getD s i 0 < 256
+
+pub bytes-tail : (b : ℕ) (bs : List ℕ) → Bytes (b ∷ bs) → Bytes bs
+bytes-tail b bs h = record { small = λ i. h .small (suc i) }
+
+pub bytes-number : (s : List ℕ) → Bytes s → bytesOf (length s) (number s) ≡ s
+unfolding bytesOf number
+bytes-number [] h = refl
+bytes-number (b ∷ bs) h =
+    let k : b < 256 = h .small 0 in
+    let p : (b + 256 * number bs) % 256 ≡ b = omega arith in
+    let q : (b + 256 * number bs) / 256 ≡ number bs = omega arith in
+    rw (p, q, bytes-number bs (bytes-tail b bs h))
+
+-- comparison
+
+pub same-is : (x y : List ℕ) → sameBytes x y ≡ true → x ≡ y
+unfolding sameBytes
+same-is [] [] e = refl
+same-is [] (y ∷ ys) e = not-both e refl
+same-is (x ∷ xs) [] e = not-both e refl
+same-is (x ∷ xs) (y ∷ ys) e = go (eqb x y) refl e (same-is xs ys)
+  where
+    go : (b : Bool) → eqb x y ≡ b → both b (sameBytes xs ys) ≡ true → (sameBytes xs ys ≡ true → xs ≡ ys) → x ∷ xs ≡ y ∷ ys
+    go true f g r = let p : x ≡ y = eqb-true x y f in rw (p, r g)
+    go false f g r = not-both g refl
+
+same-self : (l : List ℕ) → sameBytes l l ≡ true
+unfolding sameBytes
+same-self [] = refl
+same-self (z ∷ zs) = rw (eq-eqb z z refl) (same-self zs)
+
+pub is-same : (x y : List ℕ) → x ≡ y → sameBytes x y ≡ true
+is-same x y e = rw e (same-self y)
+
+-- a position that is kept within the list reads as the position itself
+
+pub place-in : (s : List ℕ) (at : ℕ) → at ≤ length s → at ≡ placeOf s at
+unfolding placeOf
+place-in s at h = sym (least-left at (length s) h)
+
+pub place-past : (s : List ℕ) (at : ℕ) → length s ≤ at → length s ≡ placeOf s at
+unfolding placeOf
+place-past s at h = sym (least-right at (length s) h)
+
+pub place-number : (w : ℕ) (s : List ℕ) (at p : ℕ) → 0 < w → p ≡ placeOf s at → numberAt w s p ≡ numberAt w s at
+place-number w s at p h e =
+    by-cases (decLe at (length s)) (λ k. rw (e, ← place-in s at k))
+    (λ n.
+    let k : length s ≤ at = omega arith in
+    rw (e, ← place-past s at k) (sym (number-out w s (length s) (omega arith)) ∙ number-out w s at (omega arith)))
+
+pub place-byte : (s : List ℕ) (at p : ℕ) → p ≡ placeOf s at → byteAt s p ≡ byteAt s at
+place-byte s at p e = number-one s p ∙ place-number 1 s at p (omega arith) e ∙ sym (number-one s at)
+
+-- the loop of a comparison: what is still to compare
+
+unfoldable pub sameFrom : List ℕ → List ℕ → ℕ → Bool
+sameFrom a b i = sameBytes (drop i a) (drop i b)
+
+module _ (a b : List ℕ) where
+  pub from-start : sameFrom a b 0 ≡ sameBytes a b
+  unfolding sameFrom
+  from-start = refl
+
+  pub from-other : (i : ℕ) → i < length a → i < length b → (getD a i 0 ≡ getD b i 0 → ⊥) → false ≡ sameFrom a b i
+  unfolding sameFrom sameBytes
+  from-other i h k n = rw (drop-cons a i 0 h, drop-cons b i 0 k, ne-eqb (getD a i 0) (getD b i 0) n)
+
+  pub from-more : (i : ℕ) → i < length a → i < length b → getD a i 0 ≡ getD b i 0 → sameFrom a b (i + 1) ≡ sameFrom a b i
+  unfolding sameFrom sameBytes
+  from-more i h k e = rw (add-one, drop-cons a i 0 h, drop-cons b i 0 k, eq-eqb (getD a i 0) (getD b i 0) e)
+
+  pub from-end : (i : ℕ) → length a ≤ i → length b ≤ i → true ≡ sameFrom a b i
+  unfolding sameFrom sameBytes
+  from-end i h k = rw (drop-of-length-le a h, drop-of-length-le b k)
+
+  pub other-length : (length a ≡ length b → ⊥) → false ≡ sameBytes a b
+  other-length n = no-true _ (λ e. n (ap length (same-is a b e)))

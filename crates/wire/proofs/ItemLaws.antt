@@ -1,0 +1,56 @@
+-- Items one behind the other. Assumes nothing.
+use Prim.Native.Nat.{ℕ, zero, suc, _+_, _≤_, _<_}
+use mathlib.Core.Path.{_≡_, refl, sym, ap, _∙_}
+use mathlib.Core.Bool.{Bool, true, false}
+use native.Mathlib.Omega.{arith}
+use native.Mathlib.Numerals.{add-one}
+use lib.Dec.{leb}
+use borrow.Author.Tests.{leb-true, leb-false, le-leb, lt-leb}
+use Rattle.wire.specs.Pick.{pick}
+use Rattle.wire.specs.Items.{advance}
+
+module _ (next : ℕ → ℕ) (limit : ℕ) where
+  pub advance-none : (at : ℕ) → advance next limit 0 at ≡ at
+  unfolding advance
+  advance-none at = refl
+
+  pub advance-step : (k at : ℕ) → at ≤ limit → advance next limit (k + 1) at ≡ advance next limit k (next at)
+  unfolding advance
+  advance-step k at h = rw (add-one, advance, le-leb at limit h)
+
+  pub advance-stop : (k at : ℕ) → limit < at → advance next limit k at ≡ at
+  unfolding advance
+  advance-stop zero at h = refl
+  advance-stop (suc k) at h = rw (advance, lt-leb at limit h)
+
+  -- the last item instead of the first
+  pub advance-more : (k at : ℕ) → advance next limit (k + 1) at ≡ pick (leb (advance next limit k at) limit) (next (advance next limit k at)) (advance next limit k at)
+  advance-more zero at = go (leb at limit) refl
+    where
+      go : (b : Bool) → leb at limit ≡ b → advance next limit (0 + 1) at ≡ pick (leb (advance next limit 0 at) limit) (next (advance next limit 0 at)) (advance next limit 0 at)
+      go true e = rw (advance-step 0 at (leb-true _ _ e), advance-none at, e, advance-none (next at))
+      go false e = rw (advance-stop (0 + 1) at (leb-false _ _ e), advance-none at, e)
+  advance-more (suc k) at = go (leb at limit) refl (advance-more k (next at))
+    where
+      go :
+          (b : Bool) → leb at limit ≡ b →
+          advance next limit (k + 1) (next at) ≡ pick (leb (advance next limit k (next at)) limit) (next (advance next limit k (next at))) (advance next limit k (next at)) →
+          advance next limit (suc k + 1) at ≡ pick (leb (advance next limit (suc k) at) limit) (next (advance next limit (suc k) at)) (advance next limit (suc k) at)
+      go true e r =
+          let h : at ≤ limit = leb-true _ _ e in
+          let p : advance next limit (suc k) at ≡ advance next limit k (next at) = rw (← add-one k) (advance-step k at h) in
+          rw (advance-step (suc k) at h, p, ← add-one k) r
+      go false e r =
+          let h : limit < at = leb-false _ _ e in
+          rw (advance-stop (suc k + 1) at h, advance-stop (suc k) at h, e)
+
+  -- items that only move forward
+
+  module _ (grows : (at : ℕ) → at ≤ next at) where
+    pub advance-grows : (k at : ℕ) → at ≤ advance next limit k at
+    advance-grows zero at = rw (advance-none at) (omega arith)
+    advance-grows (suc k) at = go (leb at limit) refl (advance-grows k (next at))
+      where
+        go : (b : Bool) → leb at limit ≡ b → next at ≤ advance next limit k (next at) → at ≤ advance next limit (suc k) at
+        go true e r = rw (← add-one k) (rw (advance-step k at (leb-true _ _ e)) (omega (arith, grows at)))
+        go false e r = rw (advance-stop (suc k) at (leb-false _ _ e)) (omega arith)

@@ -1,0 +1,3 @@
+pub mod TestLaws
+pub mod ByteLaws
+pub mod ItemLaws

@@ -1,0 +1,22 @@
+use Rattle.wire.proofs.ByteLaws.{byte-number}
+use Rattle.wire.proofs.ByteLaws.{number-out, number-split, number-one}
+use mathlib.Core.Path.{_∙_}
+use native.Mathlib.Omega.{arith}
+use Rattle.wire.proofs.ByteLaws.{number-out, number-split}
+use borrow.Author.Needs.{needs}
+use Rattle.wire.proofs.u16_at.Statement.{statement}
+use Rattle.wire.proofs.u16_at.Tie as tie
+
+pub u16-at-spec : {M : Type 1} → statement M
+u16-at-spec =
+    tie.close
+    (tie.spec
+    (λ c. (number-out 2 _ _ (omega arith), omega arith))
+    (λ c. search needs)
+    (λ c. (number-out 2 _ _ (omega arith), omega arith))
+    (λ c κs. search needs)
+    (λ c. search needs)
+    (λ c κs. search needs)
+    (λ c. search needs)
+    (λ c. search needs)
+    (λ c. (number-split 1 1 _ _ _ _ (omega arith) (byte-number _ _ _ (omega arith)) (byte-number _ _ _ (omega arith)), omega arith)))
