@@ -135,3 +135,7 @@ bytes-within a u e h =
 
 pub bytes-past : (a u : ℕ) → u ≡ least a 4294967296 → 1048576 < u → 1048576 < a
 bytes-past a u e h = omega (arith, least-most a 4294967296 .0)
+
+-- what a function's answer tells of its definition
+pub told : {r b v : Bool} → r ≡ b → r ≡ v → b ≡ v
+told p q = sym p ∙ q

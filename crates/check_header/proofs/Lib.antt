@@ -1,2 +1,4 @@
 pub mod HeaderLaws
 pub mod StageLaws
+pub mod Judged
+pub mod Depends

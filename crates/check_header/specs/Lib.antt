@@ -2,3 +2,4 @@ pub mod Identification
 pub mod HeaderRecord
 pub mod Ceilings
 pub mod Stages
+pub mod Depends

@@ -14,7 +14,7 @@ use Rattle.wire.proofs.TestLaws.{least-left, least-right, least-most}
 use Rattle.wire.proofs.ItemLaws.{advance-none, advance-step, advance-stop}
 use Rattle.header.specs.declared.Element.{Element}
 use Rattle.header.specs.Fields.{headerLength, headerEnd, headerLimit, elementCount}
-use Rattle.header.specs.Element.{stringEnd, blockSize, fillOffset, cellSize, entryKind, blockAt, labelAt, descriptionAt, unitAt, entryEnd, fillBits, entryAt, entryStart, entriesRead}
+use Rattle.header.specs.Element.{stringSize, stringEnd, blockSize, fillOffset, cellSize, entryKind, blockAt, labelAt, descriptionAt, unitAt, entryEnd, fillBits, entryAt, entryStart, entriesRead}
 use Rattle.header.specs.Tail.{methodsAt, methodCount, productLabelAt, fieldsEnd}
 
 -- the header's last four bytes
@@ -37,7 +37,11 @@ limit-short s e p h = let k : length s ≤ headerEnd s = omega arith in rw (leas
 
 -- an entry, from its parts
 
-pub string-is : (s : List ℕ) (at n : ℕ) → n ≡ u16At s at → at + 2 + n ≡ stringEnd s at
+pub size-is : (s : List ℕ) (at n : ℕ) → n ≡ u16At s at → 2 + n ≡ stringSize s at
+unfolding stringSize
+size-is s at n e = rw e
+
+pub string-is : (s : List ℕ) (at n : ℕ) → n ≡ stringSize s at → at + n ≡ stringEnd s at
 unfolding stringEnd
 string-is s at n e = rw e
 
@@ -108,15 +112,21 @@ pub entries-begin : (s : List ℕ) (e l : ℕ) → l ≡ headerLimit s → advan
 unfolding entryStart
 entries-begin s e l p = rw p
 
+-- a string more
+pub strings-step :
+    (s : List ℕ) (limit left at n x : ℕ) → advance (stringEnd s) limit left at ≡ x → 0 < left → at ≤ limit → n ≡ stringSize s at →
+    advance (stringEnd s) limit (left - 1) (at + n) ≡ x
+strings-step s limit left at n x e h k p = items-step (stringEnd s) limit left at (at + n) x e h k (string-is s at n p)
+
 pub methods-begin :
     (s : List ℕ) (l m n : ℕ) → l ≡ headerLimit s → m ≡ methodsAt s → n ≡ methodCount s →
     advance (stringEnd s) l n (m + 4) ≡ productLabelAt s
 unfolding productLabelAt
 methods-begin s l m n p q r = rw (p, q, r)
 
-pub fields-is : (s : List ℕ) (p e : ℕ) → p ≡ productLabelAt s → e ≡ stringEnd s p → e + 8 ≡ fieldsEnd s
-unfolding fieldsEnd
-fields-is s p e f g = rw (g, f)
+pub fields-is : (s : List ℕ) (p n : ℕ) → p ≡ productLabelAt s → n ≡ stringSize s p → p + n + 8 ≡ fieldsEnd s
+unfolding fieldsEnd stringEnd
+fields-is s p n f g = rw (g, f)
 
 pub read-all : (s : List ℕ) (n : ℕ) → n ≡ elementCount s → n ≤ 16 → n ≡ entriesRead s
 unfolding entriesRead

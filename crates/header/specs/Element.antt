@@ -9,8 +9,11 @@ use Rattle.header.specs.declared.Element.{Element}
 use Rattle.header.specs.Fields.{headerLimit, elementCount}
 
 -- G Table 5: a string is a length of two bytes, and as many bytes
+unfoldable pub stringSize : List ℕ → ℕ → ℕ
+stringSize s at = 2 + u16At s at
+
 unfoldable pub stringEnd : List ℕ → ℕ → ℕ
-stringEnd s at = at + 2 + u16At s at
+stringEnd s at = at + stringSize s at
 
 -- the size of the range and fill block, by type code: 32 bytes integer-coded (Table 11), else 12 (Tables 9, 10; Table 12,
 -- whose three fields of two bytes stand at 0, 4 and 8)

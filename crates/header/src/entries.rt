@@ -4,15 +4,23 @@ use crate::fields;
 ghost use mathlib.Core.Path.{_≡_};
 ghost use Prim.Native.Nat.{_+_, _≤_, _<_};
 ghost use lib.ListN.{length};
-ghost use Rattle.header.specs.Element.{stringEnd, blockSize, cellSize, blockAt, labelAt, entryEnd, fillBits, entryAt, entryStart, element, entriesRead};
+ghost use Rattle.header.specs.Element.{stringSize, stringEnd, blockSize, cellSize, blockAt, labelAt, entryEnd, fillBits, entryAt, entryStart, element, entriesRead};
 
-// Where the string at a position ends.
-pub(crate) fn string_end(s: &[u8], at: usize) -> usize
+// The size of the string at a position.
+pub fn string_size(s: &[u8], at: usize) -> usize
+    ensures is { λ r. ⌜ r ≡ stringSize (now (s .entry)) at ⌝ }
+    ensures near { λ r. ⌜ (2 ≤ r) × (r ≤ 65537) ⌝ }
+{
+    2 + wire::u16_at(s, at) as usize
+}
+
+// Where it ends.
+fn string_end(s: &[u8], at: usize) -> usize
     requires { ⌜ at ≤ 9223372036856000000 ⌝ }
     ensures is { λ r. ⌜ r ≡ stringEnd (now (s .entry)) at ⌝ }
     ensures near { λ r. ⌜ (at + 2 ≤ r) × (r ≤ at + 65537) ⌝ }
 {
-    at + 2 + wire::u16_at(s, at) as usize
+    at + string_size(s, at)
 }
 
 // The size of the range and fill block of a type code.

@@ -33,7 +33,7 @@ pub fn product_label_at(s: &[u8]) -> usize
         if limit < at {
             return at;
         }
-        at = entries::string_end(s, at);
+        at += entries::string_size(s, at);
         left -= 1;
     }
     at
@@ -43,5 +43,6 @@ pub fn product_label_at(s: &[u8]) -> usize
 pub fn fields_end(s: &[u8]) -> usize
     ensures { λ r. ⌜ r ≡ fieldsEnd (now (s .entry)) ⌝ }
 {
-    entries::string_end(s, product_label_at(s)) + 8
+    let at = product_label_at(s);
+    at + entries::string_size(s, at) + 8
 }

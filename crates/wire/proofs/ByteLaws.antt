@@ -6,7 +6,7 @@ use mathlib.Core.Bool.{Bool, true, false}
 use native.Mathlib.Omega.{arith}
 use native.Mathlib.Numerals.{add-one}
 use native.Mathlib.Nat.{pow-suc, mul-assoc, mul-comm, add-assoc, mul-add, mod-eq-of-lt, zero-add}
-use mathlib.Core.Logic.{by-cases}
+use mathlib.Core.Logic.{_⊎_, inl, inr, by-cases}
 use native.Mathlib.Decide.{decLe}
 use lib.ListN.{length, getD, take, drop, length-append, length-take, length-drop, List·getD-eq-default, drop-of-length-le}
 use lib.Seq.{drop-append-add, drop-append-le, take-append-le, getD-take, getD-drop, ext-getD, take-add, drop-drop, length-take-le, drop-cons, take-all}
@@ -240,3 +240,28 @@ module _ (a b : List ℕ) where
 
   pub other-length : (length a ≡ length b → ⊥) → false ≡ sameBytes a b
   other-length n = no-true _ (λ e. n (ap length (same-is a b e)))
+
+-- lists that begin with the same bytes
+
+each-take : (k : ℕ) (s t : List ℕ) → take k s ≡ take k t → (i : ℕ) → i < k → byteAt s i ≡ byteAt t i
+unfolding byteAt
+each-take k s t e i h = sym (getD-take k s i 0 h) ∙ ap (λ (l : List ℕ). getD l i 0) e ∙ getD-take k t i 0 h
+
+pub same-from-take : (k : ℕ) (s t : List ℕ) → take k s ≡ take k t → (s ≡ t) ⊎ Same s t 0 k
+same-from-take k s t e =
+    by-cases (decLe k (length s))
+    (λ h.
+    let p : length (take k t) ≡ k = ap length (sym e) ∙ length-take-le k s h in
+    inr (record { in-first = h; in-second = omega (arith, length-take k t); each = λ i l m. each-take k s t e i m }))
+    (λ n.
+    let h : length s ≤ k = omega arith in
+    let p : take k s ≡ s = take-all k s h in
+    let q : length (take k t) ≡ length s = ap length (sym e ∙ p) in
+    inl (sym p ∙ e ∙ take-all k t (omega (arith, length-take k t))))
+
+pub same-part : {s t : List ℕ} {a b : ℕ} → Same s t a b → (c d : ℕ) → a ≤ c → d ≤ b → Same s t c d
+same-part e c d h k =
+    record { in-first = omega (arith, e .in-first); in-second = omega (arith, e .in-second); each = λ i l m. e .each i (omega arith) (omega arith) }
+
+pub same-sym : {s t : List ℕ} {a b : ℕ} → Same s t a b → Same t s a b
+same-sym e = record { in-first = e .in-second; in-second = e .in-first; each = λ i l m. sym (e .each i l m) }

@@ -54,3 +54,38 @@ module _ (next : ℕ → ℕ) (limit : ℕ) where
         go : (b : Bool) → leb at limit ≡ b → next at ≤ advance next limit k (next at) → at ≤ advance next limit (suc k) at
         go true e r = rw (← add-one k) (rw (advance-step k at (leb-true _ _ e)) (omega (arith, grows at)))
         go false e r = rw (advance-stop (suc k) at (leb-false _ _ e)) (omega arith)
+
+-- two ways to find the next item that agree on every item from a on that ends by the limit
+module _ (next other : ℕ → ℕ) (limit a : ℕ) (grows : (at : ℕ) → at ≤ next at) (same : (at : ℕ) → a ≤ at → next at ≤ limit → next at ≡ other at) where
+  pub advance-same : (k at : ℕ) → a ≤ at → advance next limit k at ≤ limit → advance next limit k at ≡ advance other limit k at
+  advance-same zero at l h = advance-none next limit at ∙ sym (advance-none other limit at)
+  advance-same (suc k) at l h = go (leb at limit) refl (advance-same k (next at))
+    where
+      go :
+          (b : Bool) → leb at limit ≡ b →
+          (a ≤ next at → advance next limit k (next at) ≤ limit → advance next limit k (next at) ≡ advance other limit k (next at)) →
+          advance next limit (suc k) at ≡ advance other limit (suc k) at
+      go true e r =
+          let i : at ≤ limit = leb-true _ _ e in
+          let p : advance next limit (suc k) at ≡ advance next limit k (next at) = rw (← add-one k) (advance-step next limit k at i) in
+          let q : advance other limit (suc k) at ≡ advance other limit k (other at) = rw (← add-one k) (advance-step other limit k at i) in
+          let m : advance next limit k (next at) ≤ limit = omega arith in
+          let g : next at ≤ advance next limit k (next at) = advance-grows next limit grows k (next at) in
+          let n : next at ≡ other at = same at l (omega arith) in
+          p ∙ r (omega (arith, grows at)) m ∙ ap (advance other limit k) n ∙ sym q
+      go false e r = let i : limit < at = leb-false _ _ e in advance-stop next limit (suc k) at i ∙ sym (advance-stop other limit (suc k) at i)
+
+-- more items end further on
+module _ (next : ℕ → ℕ) (limit : ℕ) (grows : (at : ℕ) → at ≤ next at) where
+  pub advance-further : (k at : ℕ) → advance next limit k at ≤ advance next limit (k + 1) at
+  advance-further k at = rw (advance-more next limit k at) (go (leb (advance next limit k at) limit))
+    where
+      go : (b : Bool) → advance next limit k at ≤ pick b (next (advance next limit k at)) (advance next limit k at)
+      go true = grows _
+      go false = omega arith
+
+  pub advance-mono : (j d at : ℕ) → advance next limit j at ≤ advance next limit (j + d) at
+  advance-mono j zero at = let e : j + 0 ≡ j = omega arith in rw e (omega arith)
+  advance-mono j (suc d) at =
+      let e : j + suc d ≡ j + d + 1 = omega arith in
+      rw e (omega (arith, advance-mono j d at, advance-further (j + d) at))

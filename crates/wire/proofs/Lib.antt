@@ -1,3 +1,4 @@
 pub mod TestLaws
 pub mod ByteLaws
 pub mod ItemLaws
+pub mod PutLaws

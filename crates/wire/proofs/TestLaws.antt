@@ -122,6 +122,11 @@ below-all n p f = go n (omega arith)
     go zero h = below-none p
     go (suc k) h = rw (← add-one k) (below-more k p (go k (omega arith)) (f k (omega arith)))
 
+pub below-same : (n : ℕ) (p q : ℕ → Bool) → ((i : ℕ) → i < n → p i ≡ q i) → allBelow n p ≡ allBelow n q
+unfolding allBelow
+below-same zero p q e = refl
+below-same (suc n) p q e = rw (below-same n p q (λ i h. e i (omega arith)), e n (omega arith))
+
 -- a sum over every number below n
 
 pub sum-none : (f : ℕ → ℕ) → sumBelow 0 f ≡ 0

@@ -1,4 +1,6 @@
 // Little-endian numbers in bytes. Reading is total: what does not lie whole in the slice reads as nothing, or as 0.
+pub mod writing;
+
 ghost use mathlib.Core.Path.{_≡_};
 ghost use Prim.Native.Nat.{_+_, _<_};
 ghost use Rattle.wire.specs.Bytes.{byteAt, part, numberAt, placeOf, sameBytes};

@@ -1,3 +1,4 @@
+use Rattle.check_header.proofs.HeaderLaws.{told}
 use Rattle.wire.proofs.TestLaws.{no, either-way, not-both}
 use Rattle.check_header.specs.HeaderRecord.{headerRight}
 use borrow.Author.Needs.{needs}
@@ -14,8 +15,8 @@ header-right-spec =
     (λ c κs. search needs)
     (λ c κs. search needs)
     (λ c κs. search needs)
-    (λ c. either-way _ _ (λ e. (cc, (cc, (cc, (cc, (cc, tt)))))) (λ e h. not-both (h .1 .1 .1 .1 .0) (cc)))
-    (λ c. no _ (λ h. not-both (h .1 .1 .1 .0) (cc)))
-    (λ c. no _ (λ h. not-both (h .1 .1 .0) (cc)))
-    (λ c. no _ (λ h. not-both (h .1 .0) (cc)))
-    (λ c. no _ (λ h. not-both (h .0) (cc))))
+    (λ c. either-way _ _ (λ e. (search (needs, told), (search (needs, told), (search (needs, told), (search (needs, told), (search (needs, told), tt)))))) (λ e h. not-both (h .1 .1 .1 .1 .0) (search (needs, told))))
+    (λ c. no _ (λ h. not-both (h .1 .1 .1 .0) (search (needs, told))))
+    (λ c. no _ (λ h. not-both (h .1 .1 .0) (search (needs, told))))
+    (λ c. no _ (λ h. not-both (h .1 .0) (search (needs, told))))
+    (λ c. no _ (λ h. not-both (h .0) (search (needs, told)))))

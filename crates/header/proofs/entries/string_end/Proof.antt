@@ -8,8 +8,6 @@ pub string-end-spec : {M : Type 1} → statement M
 string-end-spec =
     tie.close
     (tie.spec
-    (λ c. search needs)
     (λ c κs. search needs)
-    (λ c. search needs)
     (λ c. search needs)
     (λ c. (string-is _ _ _ (omega arith), omega arith)))

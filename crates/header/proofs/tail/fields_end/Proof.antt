@@ -10,4 +10,5 @@ fields-end-spec =
     (λ c κs. search needs)
     (λ c κs. search needs)
     (λ c. search needs)
-    (λ c. fields-is _ _ _ (c .before .product-label-at .ensures .0) (c .string-end .ensures .0)))
+    (λ c. search needs)
+    (λ c. fields-is _ _ _ (c .before .product-label-at .ensures .0) (c .string-size .ensures .0)))

@@ -6,7 +6,7 @@ use lib.ListN.{length}
 use Rattle.wire.specs.Items.{advance}
 use Rattle.header.specs.Element.{stringEnd}
 use Rattle.header.specs.Tail.{productLabelAt}
-use Rattle.header.proofs.EntryLaws.{items-step, items-stop, items-end, methods-begin}
+use Rattle.header.proofs.EntryLaws.{strings-step, items-stop, items-end, methods-begin}
 use Rattle.header.proofs.tail.product_label_at.Statement.{statement}
 use Rattle.header.proofs.tail.product_label_at.Tie as tie
 
@@ -31,5 +31,6 @@ product-label-at-spec =
     (λ c κs. search needs)
     (λ c. search needs)
     (λ c. search needs)
-    (λ c. (search (needs, items-step), omega arith))
+    (λ c. search needs)
+    (λ c. (search (needs, strings-step), omega arith))
     (λ c. (search (needs, items-end), omega arith)))

@@ -1,0 +1,130 @@
+-- Stages 1 to 5 depend only on the file's length and the bytes up to the header's end. Assumes nothing.
+use Prim.Native.Nat.{ℕ, _+_, _-_, _≤_, _<_}
+use mathlib.Core.Path.{_≡_, refl, sym, ap, _∙_}
+use mathlib.Core.List.{List, [], _∷_}
+use mathlib.Core.Bool.{Bool, true, false}
+use mathlib.Core.Logic.{⊎-elim}
+use native.Mathlib.Omega.{arith}
+use lib.ListN.{length, take}
+use lib.Dec.{leb}
+use borrow.Author.Tests.{leb-true, leb-false}
+use Rattle.wire.specs.Pick.{pick}
+use Rattle.wire.specs.Tests.{passes}
+use Rattle.wire.specs.Bytes.{Same}
+use Rattle.wire.proofs.TestLaws.{means, no-true, not-both, iff}
+use Rattle.wire.proofs.ByteLaws.{number-same, same-part, same-sym, same-from-take}
+use Rattle.answer.specs.Refusals.{gate}
+use Rattle.answer.specs.declared.Verdict.{Verdict}
+use Rattle.answer.specs.declared.Verdict.the-variants.{Accepted, Refused}
+use Rattle.answer.specs.declared.Refusal.the-variants.{Identification, Version, Header, Ceiling, Opened}
+use Rattle.header.specs.Fields.{headerEnd, timeOpened}
+use Rattle.check_header.specs.Identification.{identified, versionRight}
+use Rattle.check_header.specs.HeaderRecord.{lengthRight, headerRight}
+use Rattle.check_header.specs.Ceilings.{withinCeilings}
+use Rattle.check_header.specs.Stages.{closed, firstTwo, nextTwo, stages, checkHeader}
+use Rattle.check_header.specs.Depends.{reach, DependsOnHeader}
+use Rattle.check_header.proofs.Judged.{SameJudged, end-same, judged-sym, identified-same, version-same, length-right-same, header-long, header-lawful, header-to, ceilings-to}
+
+-- the bytes up to the header's end are the same
+
+judged : (s t : List ℕ) (k : ℕ) → Same s t 0 k → headerEnd s ≤ k → 288 ≤ headerEnd s → SameJudged s t
+judged s t k m h l =
+    record {
+      block = same-part m 0 14 (omega arith) (omega arith);
+      frame = same-part m 16 21 (omega arith) (omega arith);
+      sides = same-part m 104 120 (omega arith) (omega arith);
+      options = same-part m 128 131 (omega arith) (omega arith);
+      rest = same-part m 280 (headerEnd s - 4) (omega arith) (omega arith);
+      in-first = omega (arith, m .in-first);
+      in-second = omega (arith, m .in-second);
+    }
+
+ceiling-holds : (s : List ℕ) (n : ℕ) → withinCeilings s n ≡ true → n ≤ 16777216
+unfolding withinCeilings
+ceiling-holds s n e = means _ e .0
+
+ends-inside : (s : List ℕ) (n : ℕ) → lengthRight s n ≡ true → headerEnd s ≤ n
+unfolding lengthRight
+ends-inside s n e = means _ e .1 .1 .0
+
+pub header-same : (s t : List ℕ) (n : ℕ) → SameJudged s t → headerRight s n ≡ headerRight t n
+header-same s t n j =
+    iff (headerRight s n) (headerRight t n) (λ e. header-to s t j n n e (ends-inside s n (header-lawful s n e)))
+    (λ e. header-to t s (judged-sym j) n n e (ends-inside t n (header-lawful t n e)))
+
+pub ceilings-same :
+    (s t : List ℕ) (n : ℕ) → SameJudged s t → headerRight s n ≡ true → headerRight t n ≡ true → withinCeilings s n ≡ withinCeilings t n
+ceilings-same s t n j e f =
+    iff (withinCeilings s n) (withinCeilings t n) (λ g. ceilings-to s t j n n e g (ceiling-holds s n g))
+    (λ g. ceilings-to t s (judged-sym j) n n f g (ceiling-holds t n g))
+
+-- the answer, from what the stages say of each
+
+both-fail :
+    (s t : List ℕ) (n : ℕ) → identified s n ≡ identified t n → versionRight s ≡ versionRight t → headerRight s n ≡ false →
+    headerRight t n ≡ false → checkHeader s n ≡ checkHeader t n
+unfolding checkHeader stages firstTwo nextTwo gate
+both-fail s t n p q e f = rw (p, q, e, f)
+
+both-pass :
+    (s t : List ℕ) (n : ℕ) → identified s n ≡ identified t n → versionRight s ≡ versionRight t → headerRight s n ≡ headerRight t n →
+    withinCeilings s n ≡ withinCeilings t n → closed s ≡ closed t → checkHeader s n ≡ checkHeader t n
+unfolding checkHeader stages firstTwo nextTwo gate
+both-pass s t n p q e f g = rw (p, q, e, f, g)
+
+closed-same : {s t : List ℕ} → Same s t 48 56 → closed s ≡ closed t
+unfolding closed
+closed-same e = rw (number-same e 8 48 (omega arith) (omega arith))
+
+unlawful : (s : List ℕ) (n : ℕ) → lengthRight s n ≡ false → headerRight s n ≡ false
+unlawful s n e = sym (no-true _ (λ f. not-both (header-lawful s n f) e))
+
+short : (s : List ℕ) (n : ℕ) → headerEnd s < 288 → headerRight s n ≡ false
+short s n h = sym (no-true _ (λ f. absurd (omega (arith, header-long s n f))))
+
+agree : (s t : List ℕ) (n : ℕ) → Same s t 0 (reach s n) → checkHeader s n ≡ checkHeader t n
+unfolding reach
+agree s t n m = go (lengthRight s n) refl (leb 288 (headerEnd s)) refl (headerRight s n) refl
+  where
+    far : 24 ≤ pick (lengthRight s n) (24 + (headerEnd s - 24)) 24
+    far = far-by (lengthRight s n)
+      where
+        far-by : (b : Bool) → 24 ≤ pick b (24 + (headerEnd s - 24)) 24
+        far-by true = omega arith
+        far-by false = omega arith
+
+    front : Same s t 0 14
+    front = same-part m 0 14 (omega arith) (omega (arith, far))
+
+    frame : Same s t 16 21
+    frame = same-part m 16 21 (omega arith) (omega (arith, far))
+
+    fail : headerRight s n ≡ false → headerRight t n ≡ false → checkHeader s n ≡ checkHeader t n
+    fail = both-fail s t n (identified-same front n) (version-same front)
+
+    go :
+        (a : Bool) → lengthRight s n ≡ a → (b : Bool) → leb 288 (headerEnd s) ≡ b → (c : Bool) → headerRight s n ≡ c →
+        checkHeader s n ≡ checkHeader t n
+    go false ea b eb c ec = fail (unlawful s n ea) (unlawful t n (sym (length-right-same frame n) ∙ ea))
+    go true ea false eb c ec =
+        let h : headerEnd s < 288 = leb-false _ _ eb in
+        let e = end-same frame in
+        fail (short s n h) (short t n (omega arith))
+    go true ea true eb c ec =
+        let l : 288 ≤ headerEnd s = leb-true _ _ eb in
+        let k : pick (lengthRight s n) (24 + (headerEnd s - 24)) 24 ≡ headerEnd s = rw ea (omega arith) in
+        let w : Same s t 0 (headerEnd s) = rw k at m in
+        let j = judged s t (headerEnd s) w (omega arith) l in
+        let x = header-same s t n j in
+        last c ec j w l x
+      where
+        last :
+            (c : Bool) → headerRight s n ≡ c → SameJudged s t → Same s t 0 (headerEnd s) → 288 ≤ headerEnd s → headerRight s n ≡ headerRight t n →
+            checkHeader s n ≡ checkHeader t n
+        last false ec j w l x = fail ec (sym x ∙ ec)
+        last true ec j w l x =
+            both-pass s t n (identified-same front n) (version-same front) x (ceilings-same s t n j ec (sym x ∙ ec))
+            (closed-same (same-part w 48 56 (omega arith) (omega arith)))
+
+pub depends : DependsOnHeader
+depends s t n e = ⊎-elim (λ p. ap (λ (l : List ℕ). checkHeader l n) p) (agree s t n) (same-from-take (reach s n) s t e)

@@ -1,0 +1,13 @@
+// Runs outside vectors and header files that are built here, and writes what each gives, a line for each.
+mod build;
+mod crc;
+mod headers;
+mod show;
+mod tables;
+mod values;
+
+fn main() {
+    crc::run();
+    values::run();
+    headers::run();
+}

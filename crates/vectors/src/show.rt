@@ -1,0 +1,44 @@
+// Pieces of the output's lines.
+
+pub fn text(s: &[u8]) {
+    io::write_all(1, s);
+}
+
+pub fn number(n: u64) {
+    io::print_decimal(1, n);
+}
+
+// A number in hexadecimal, and the end of the line.
+pub fn hex(n: u32) {
+    io::print_hex(1, n as u64, 8);
+    text(b"\n");
+}
+
+// What stages 1 to 5 say of the first n bytes, of a file that is `length` bytes long: number and place.
+pub fn check(s: &[u8], n: usize, length: usize) {
+    verdict(check_header::stages::check_header(wire::part_of(s, 0, n), length));
+}
+
+// What stages 1 to 4 say of the first n bytes as a front.
+pub fn front(s: &[u8], n: usize) {
+    verdict(check_header::stages::check_front(wire::part_of(s, 0, n)));
+}
+
+fn verdict(v: answer::Verdict) {
+    text(b"gives ");
+    number(answer::verdict_number(v) as u64);
+    text(b" at ");
+    number(answer::verdict_place(v) as u64);
+    text(b"\n");
+}
+
+// An element's type code, fill and end.
+pub fn element(x: header::Element) {
+    text(b"  type ");
+    number(x.kind as u64);
+    text(b" fill ");
+    number(x.fill as u64);
+    text(b" end ");
+    number(x.end as u64);
+    text(b"\n");
+}

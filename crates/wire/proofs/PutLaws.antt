@@ -1,0 +1,118 @@
+-- Bytes put into a list. Assumes nothing.
+use Prim.Native.Nat.{ℕ, zero, suc, _+_, _*_, _/_, _%_, _^_, _-_, _≤_, _<_}
+use mathlib.Core.Logic.{by-cases}
+use native.Mathlib.Decide.{decLe}
+use native.Mathlib.Omega.{arith}
+use native.Mathlib.Numerals.{add-one}
+use native.Mathlib.Nat.{pow-suc, mod-add-div, mul-assoc, div-div-eq-div-mul, mul-comm, add-zero}
+use mathlib.Core.Path.{_≡_, refl, sym, ap, ap₂, _∙_}
+use mathlib.Core.List.{List, [], _∷_, _++_, append-assoc}
+use lib.ListN.{length, take, drop, set, getD, length-append, length-take, length-drop}
+use lib.Seq.{sets, sets-eq, take-at, drop-at, drop-append-add, drop-drop, paste, paste-zero, paste-suc, take-length, set-split, set-out}
+use borrow.Author.Tests.{le-leb, lt-leb}
+use Rattle.wire.specs.Bytes.{put, bytesOf}
+use Rattle.wire.proofs.ByteLaws.{bytes-length}
+
+module _ (d : List ℕ) (at : ℕ) (v : List ℕ) where
+  pub put-fits : at + length v ≤ length d → put d at v ≡ take at d ++ v ++ drop (at + length v) d
+  unfolding put
+  put-fits h = rw le-leb
+
+  pub put-not : length d < at + length v → put d at v ≡ d
+  unfolding put
+  put-not h = rw lt-leb
+
+  pub length-put : length (put d at v) ≡ length d
+  length-put =
+      by-cases (decLe (at + length v) (length d))
+      (λ h. rw put-fits (simp (length-append, length-take, length-drop) (omega arith)))
+      (λ n. let h : length d < at + length v = omega arith in rw put-not)
+
+-- one byte
+pub put-one : (d : List ℕ) (at v : ℕ) → at < length d → set d at v ≡ put d at (v ∷ [])
+put-one d at v h =
+    let k : at + length (v ∷ []) ≤ length d = omega arith in
+    let e : at + 1 ≡ suc at = add-one at in
+    set-split d at v h ∙ sym (put-fits d at (v ∷ []) k ∙ rw e (append-assoc (take at d) (v ∷ []) (drop (suc at) d)))
+
+pub put-one-out : (d : List ℕ) (at v : ℕ) → length d ≤ at → d ≡ put d at (v ∷ [])
+put-one-out d at v h = sym (put-not d at (v ∷ []) (omega arith))
+
+-- two puts, one behind the other, are one
+pub put-put : (d : List ℕ) (at : ℕ) (v w : List ℕ) → at + length v + length w ≤ length d → put (put d at v) (at + length v) w ≡ put d at (v ++ w)
+put-put d at v w h =
+    let p : List ℕ = take at d ++ v in
+    let r : List ℕ = drop (at + length v) d in
+    let fits : at + length v ≤ length d = omega arith in
+    let lp : length p ≡ at + length v = simp (length-append, length-take) (omega arith) in
+    let lw : at + length v + length w ≤ length (p ++ r) = simp (length-append, length-take, length-drop) (omega arith) in
+    let lvw : at + length (v ++ w) ≤ length d = simp length-append (omega arith) in
+    let e : at + length v + length w ≡ at + length (v ++ w) = simp length-append (omega arith) in
+    ap (λ (x : List ℕ). put x (at + length v) w) (put-fits d at v fits)
+    ∙ put-fits (p ++ r) (at + length v) w lw
+    ∙ ap₂ (λ (a b : List ℕ). a ++ w ++ b) (take-at p r (at + length v) lp)
+    (ap (λ (n : ℕ). drop (n + length w) (p ++ r)) (sym lp) ∙ drop-append-add p r (length w) ∙ drop-drop (length w) (at + length v) d ∙ ap (λ (n : ℕ). drop n d) e)
+    ∙ ap (λ (x : List ℕ). x ++ drop (at + length (v ++ w)) d) (append-assoc (take at d) v w)
+    ∙ sym (put-fits d at (v ++ w) lvw)
+
+-- numbers: the bytes of a wider one are those of two narrower ones
+
+pub bytes-split : (a b v : ℕ) → bytesOf (a + b) v ≡ bytesOf a v ++ bytesOf b (v / 256 ^ a)
+unfolding bytesOf
+bytes-split zero b v =
+    let e : 0 + b ≡ b = omega arith in
+    let f : v / 256 ^ 0 ≡ v = omega arith in
+    rw (e, f)
+bytes-split (suc a) b v =
+    let e : suc a + b ≡ suc (a + b) = omega arith in
+    let p : v / 256 / 256 ^ a ≡ v / 256 ^ suc a = div-div-eq-div-mul v 256 (256 ^ a) ∙ ap (λ (n : ℕ). v / n) (mul-comm 256 (256 ^ a) ∙ sym (pow-suc 256 a)) in
+    rw (e, ← p) (ap (λ (l : List ℕ). v % 256 ∷ l) (bytes-split a b (v / 256)))
+
+-- only the lower bytes count
+pub bytes-low : (w v q : ℕ) → bytesOf w (v + 256 ^ w * q) ≡ bytesOf w v
+unfolding bytesOf
+bytes-low zero v q = refl
+bytes-low (suc w) v q =
+    let e : 256 ^ suc w ≡ 256 ^ w * 256 = pow-suc 256 w in
+    let m : 256 ^ w * 256 * q ≡ 256 * (256 ^ w * q) = rw (mul-comm (256 ^ w) 256) (mul-assoc 256 (256 ^ w) q) in
+    let f : (v + 256 ^ suc w * q) % 256 ≡ v % 256 = rw (e, m) (omega arith) in
+    let g : (v + 256 ^ suc w * q) / 256 ≡ v / 256 + 256 ^ w * q = rw (e, m) (omega arith) in
+    rw (f, g, bytes-low w (v / 256) q)
+
+pub bytes-mod : (w v : ℕ) → bytesOf w (v % 256 ^ w) ≡ bytesOf w v
+bytes-mod w v =
+    let e : v % 256 ^ w + 256 ^ w * (v / 256 ^ w) ≡ v = mod-add-div v (256 ^ w) in
+    sym (bytes-low w (v % 256 ^ w) (v / 256 ^ w)) ∙ ap (bytesOf w) e
+
+-- the law over the width: a number put in two halves
+pub put-halves :
+    (a b : ℕ) (d l l′ : List ℕ) (at v x y : ℕ) → l ≡ put d at (bytesOf a x) → l′ ≡ put l (at + a) (bytesOf b y) → at + (a + b) ≤ length d →
+    bytesOf a x ≡ bytesOf a v → y ≡ v / 256 ^ a → l′ ≡ put d at (bytesOf (a + b) v)
+put-halves a b d l l′ at v x y p q h e f =
+    let i = bytes-length a v in
+    let j = bytes-length b y in
+    let k : at + length (bytesOf a v) + length (bytesOf b y) ≤ length d = omega arith in
+    let c : at + a ≡ at + length (bytesOf a v) = omega arith in
+    let m : put l (at + a) (bytesOf b y) ≡ put d at (bytesOf a v ++ bytesOf b y) = rw (p, e, c) (put-put d at (bytesOf a v) (bytesOf b y) k) in
+    let n : bytesOf a v ++ bytesOf b y ≡ bytesOf (a + b) v = rw (bytes-split a b v, f) in
+    q ∙ m ∙ ap (put d at) n
+
+pub put-number-out : (w v : ℕ) (d : List ℕ) (at : ℕ) → length d < at + w → d ≡ put d at (bytesOf w v)
+put-number-out w v d at h = sym (put-not d at (bytesOf w v) (omega (arith, bytes-length w v)))
+
+-- a copy under way: i elements of s have been stored in d from `at` on
+unfoldable pub pasted : List ℕ → ℕ → List ℕ → ℕ → List ℕ
+pasted d at s i = paste d at s i
+
+module _ (d : List ℕ) (at : ℕ) (s : List ℕ) where
+  pub pasted-none : d ≡ pasted d at s 0
+  unfolding pasted
+  pasted-none = paste-zero d at s
+
+  pub pasted-more : (i : ℕ) → at + i < length d → i < length s → set (pasted d at s i) (at + i) (getD s i 0) ≡ pasted d at s (i + 1)
+  unfolding pasted
+  pasted-more i h k = rw add-one (paste-suc d at s i 0 h k)
+
+  pub pasted-all : (i : ℕ) → i ≡ length s → at + length s ≤ length d → pasted d at s i ≡ put d at s
+  unfolding pasted
+  pasted-all i e h = rw (e, take-length) (sym (put-fits d at s h))

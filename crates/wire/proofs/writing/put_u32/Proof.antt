@@ -1,0 +1,18 @@
+use mathlib.Core.Path.{refl}
+use native.Mathlib.Omega.{arith}
+use Rattle.wire.proofs.PutLaws.{put-halves, put-number-out, bytes-low}
+use borrow.Author.Needs.{needs}
+use Rattle.wire.proofs.writing.put_u32.Statement.{statement}
+use Rattle.wire.proofs.writing.put_u32.Tie as tie
+
+pub put-u32-spec : {M : Type 1} → statement M
+put-u32-spec =
+    tie.close
+    (tie.spec
+    (λ c. put-number-out 4 _ _ _ (omega arith))
+    (λ c. put-number-out 4 _ _ _ (omega arith))
+    (λ c κs. search needs)
+    (λ c. search needs)
+    (λ c κs. search needs)
+    (λ c. search needs)
+    (λ c. put-halves 2 2 _ _ _ _ _ _ _ (c .before .before .before .before .before .before .put-u16 .ensures) (c .before .before .put-u162 .ensures) (omega arith) refl refl))
