@@ -1,8 +1,8 @@
 -- Two's complement by differences, once over the width. Assumes nothing.
-use Prim.Native.Nat.{ℕ, zero, suc, _+_, _*_, _-_, _^_, _≤_, _<_}
+use Prim.Native.Nat.{ℕ, zero, suc, _*_, _-_, _^_, _≤_, _<_}
 use native.Mathlib.Nat.{zero-add}
 use native.Mathlib.Omega.{arith}
-use mathlib.Core.Path.{_≡_, refl, sym, ap, _∙_}
+use mathlib.Core.Path.{_≡_, refl, ap}
 use lib.IntN.{ℤ, pos, negsuc, natAbs, _-ℤ_}
 use lib.Signed.{leZ, nonNeg}
 use lib.Dec.{T}
@@ -45,7 +45,7 @@ plain w z twice f e = rw (toZ-ofZ f) (plain-is w z twice f (rw (toZ-ofZ f) at e)
 minus-negative : (k : ℕ) → negsuc 0 -ℤ negsuc k ≡ pos k
 minus-negative k = rw (le-ltb (suc k) 1 (omega arith)) (ap pos (omega arith))
 
--- y is what the machine keeps of -1 - z
+-- of a negative z: -1 - z fits, is not negative, and gives the bits of z
 pub record Turned (w : Width) (z : ℤ) : Type 0 where
   pub fits : SFits w (negsuc 0 -ℤ toZ w (ofZ w z))
   pub cast : T (nonNeg (toZ w (ofZ w (negsuc 0 -ℤ toZ w (ofZ w z))))) × Fits w (natAbs (toZ w (ofZ w (negsuc 0 -ℤ toZ w (ofZ w z)))))

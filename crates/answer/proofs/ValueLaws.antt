@@ -1,5 +1,5 @@
 -- A value by its type code, and its bits: a bit pattern in, the same bit pattern out. Assumes nothing.
-use Prim.Native.Nat.{ℕ, _+_, _%_, _^_, _≤_, _<_}
+use Prim.Native.Nat.{ℕ, _%_, _^_, _≤_, _<_}
 use mathlib.Core.Path.{_≡_, refl, sym, ap, _∙_}
 use mathlib.Core.Bool.{Bool, true, false}
 use native.Mathlib.Omega.{arith}
@@ -8,14 +8,12 @@ use lib.IntN.{ℤ}
 use lib.Ieee.{Float, ofBits, binary32}
 use lib.Dec.{eqb}
 use mir.Syntax.{Width, w16, w32}
-use mir.Val.{toZ, ofZ, Fits, SFits, bits, hbits}
+use mir.Val.{toZ, ofZ, Fits, SFits, hbits}
 use mir.Facts.{ofZ-toZ, toZ-ofZ}
 use lib.Signed.{mag}
 use borrow.Author.Tests.{eq-eqb, ne-eqb, eqb-true, eqb-false}
-use Rattle.wire.specs.Pick.{pick}
-use Rattle.answer.specs.declared.Value.{Value}
 use Rattle.answer.specs.declared.Value.the-variants as value
-use Rattle.answer.specs.Values.{valueOf, valueKind, valueBits}
+use Rattle.answer.specs.Values.{valueOf, valueType, valueBits}
 use Rattle.answer.proofs.SignedLaws.{kept}
 
 -- by the tests on the code
@@ -56,11 +54,11 @@ unfolding valueOf
 short-bits-kept k n e h = rw e (ap (λ (m : ℕ). ofZ w16 (toZ w16 m)) (mod-eq-of-lt h) ∙ ofZ-toZ {w = w16} (record { fits = h }))
 
 -- and the type code stays
-pub kind-kept : (k n : ℕ) → k ≤ 3 → valueKind (valueOf k n) ≡ k
+pub type-kept : (k n : ℕ) → k ≤ 3 → valueType (valueOf k n) ≡ k
 unfolding valueOf
-kind-kept k n h = go (eqb k 1) refl (eqb k 2) refl (eqb k 3) refl
+type-kept k n h = go (eqb k 1) refl (eqb k 2) refl (eqb k 3) refl
   where
-    go : (a : Bool) → eqb k 1 ≡ a → (b : Bool) → eqb k 2 ≡ b → (c : Bool) → eqb k 3 ≡ c → valueKind (valueOf k n) ≡ k
+    go : (a : Bool) → eqb k 1 ≡ a → (b : Bool) → eqb k 2 ≡ b → (c : Bool) → eqb k 3 ≡ c → valueType (valueOf k n) ≡ k
     go true p b q c r = rw p (sym (eqb-true k 1 p))
     go false p true q c r = rw (p, q) (sym (eqb-true k 2 q))
     go false p false q true r = rw (p, q, r) (sym (eqb-true k 3 r))

@@ -8,7 +8,7 @@ use Rattle.answer.specs.declared.Content.the-variants as content
 use Rattle.answer.specs.declared.Laid.{Laid}
 use Rattle.answer.specs.declared.Laid.the-variants as laid
 use Rattle.answer.specs.Refusals.{refusalNumber, refusalPlace}
-use Rattle.answer.specs.Values.{valueKind, valueBits}
+use Rattle.answer.specs.Values.{valueType, valueBits}
 
 abbrev pub cellKind : Cell → ℕ
 cellKind (cell.Stored v at) = 32
@@ -17,8 +17,8 @@ cellKind (cell.Refused r) = refusalNumber r
 
 -- the value's type code and bits, 0 and 0 of a refusal
 abbrev pub cellType : Cell → ℕ
-cellType (cell.Stored v at) = valueKind v
-cellType (cell.Fill v) = valueKind v
+cellType (cell.Stored v at) = valueType v
+cellType (cell.Fill v) = valueType v
 cellType (cell.Refused r) = 0
 
 abbrev pub cellBits : Cell → ℕ

@@ -45,7 +45,7 @@ abbrev pub verdictPlace : Verdict → ℕ
 verdictPlace Accepted = 0
 verdictPlace (Refused r) = refusalPlace r
 
--- the answer v where the test holds, and else the refusal r: stages in order are gates, one in the other
+-- the answer v where the test holds, and else the refusal r; stages in their order are such choices, one within the other
 unfoldable pub gate : Bool → Refusal → Verdict → Verdict
 gate true r v = v
 gate false r v = Refused r

@@ -1,6 +1,6 @@
 -- A value of an element's type: Integer, integer-coded (its raw integer), Float (bit pattern kept) or Short
 -- (document 01, 'Finding a cell'). The type codes are those of G Table 8.
-use Prim.Native.Nat.{ℕ, _%_, _^_}
+use Prim.Native.Nat.{ℕ, _%_}
 use lib.Dec.{eqb}
 use lib.Ieee.{ofBits, binary32}
 use mir.Syntax.{w16, w32}
@@ -19,11 +19,11 @@ valueOf kind bits =
     (Integer (toZ w32 bits))))
 
 -- a value's type code
-abbrev pub valueKind : Value → ℕ
-valueKind (Integer z) = 0
-valueKind (IntegerCoded z) = 1
-valueKind (Float x bits) = 2
-valueKind (Short z) = 3
+abbrev pub valueType : Value → ℕ
+valueType (Integer z) = 0
+valueType (IntegerCoded z) = 1
+valueType (Float x bits) = 2
+valueType (Short z) = 3
 
 -- a value's bit pattern
 abbrev pub valueBits : Value → ℕ

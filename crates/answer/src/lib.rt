@@ -5,7 +5,7 @@ ghost use lib.Ieee.{ofBits, binary32};
 ghost use mir.Syntax.{w16, w32};
 ghost use mir.Val.{toZ, ofZ};
 ghost use Rattle.answer.specs.Refusals.{refusalNumber, refusalPlace, verdictNumber, verdictPlace};
-ghost use Rattle.answer.specs.Values.{valueOf, valueKind, valueBits};
+ghost use Rattle.answer.specs.Values.{valueOf, valueType, valueBits};
 ghost use Rattle.answer.specs.Answers.{cellKind, cellType, cellBits, cellPlace, contentKind, contentPlace, contentLength, laidNumber, laidLength, laidPlace};
 
 // The thirteen refusals, in their order, with a place where document 01 gives one that varies.
@@ -188,8 +188,8 @@ pub fn value_of(kind: u32, bits: u32) -> Value
 }
 
 // A value's type code.
-pub fn value_kind(v: Value) -> u32
-    ensures { λ r. ⌜ r ≡ valueKind v ⌝ }
+pub fn value_type(v: Value) -> u32
+    ensures { λ r. ⌜ r ≡ valueType v ⌝ }
 {
     match v {
         Value::Integer(_) => 0,
@@ -226,8 +226,8 @@ pub fn cell_type(x: Cell) -> u32
     ensures { λ r. ⌜ r ≡ cellType x ⌝ }
 {
     match x {
-        Cell::Stored { value, place: _ } => value_kind(value),
-        Cell::Fill { value } => value_kind(value),
+        Cell::Stored { value, place: _ } => value_type(value),
+        Cell::Fill { value } => value_type(value),
         Cell::Refused(_) => 0,
     }
 }

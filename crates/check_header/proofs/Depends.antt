@@ -1,23 +1,18 @@
 -- Stages 1 to 5 depend only on the file's length and the bytes up to the header's end. Assumes nothing.
-use Prim.Native.Nat.{ℕ, _+_, _-_, _≤_, _<_}
+use Prim.Native.Nat.{ℕ, max, _-_, _≤_, _<_}
 use mathlib.Core.Path.{_≡_, refl, sym, ap, _∙_}
 use mathlib.Core.List.{List, [], _∷_}
 use mathlib.Core.Bool.{Bool, true, false}
 use mathlib.Core.Logic.{⊎-elim}
 use native.Mathlib.Omega.{arith}
-use lib.ListN.{length, take}
 use lib.Dec.{leb}
 use borrow.Author.Tests.{leb-true, leb-false}
 use Rattle.wire.specs.Pick.{pick}
-use Rattle.wire.specs.Tests.{passes}
-use Rattle.wire.specs.Bytes.{Same}
+use Rattle.wire.specs.Tests.{is, passes}
 use Rattle.wire.proofs.TestLaws.{means, no-true, not-both, iff}
-use Rattle.wire.proofs.ByteLaws.{number-same, same-part, same-sym, same-from-take}
+use Rattle.wire.proofs.ByteLaws.{Same, number-same, same-part, same-from-take}
 use Rattle.answer.specs.Refusals.{gate}
-use Rattle.answer.specs.declared.Verdict.{Verdict}
-use Rattle.answer.specs.declared.Verdict.the-variants.{Accepted, Refused}
-use Rattle.answer.specs.declared.Refusal.the-variants.{Identification, Version, Header, Ceiling, Opened}
-use Rattle.header.specs.Fields.{headerEnd, timeOpened}
+use Rattle.header.specs.Fields.{headerEnd}
 use Rattle.check_header.specs.Identification.{identified, versionRight}
 use Rattle.check_header.specs.HeaderRecord.{lengthRight, headerRight}
 use Rattle.check_header.specs.Ceilings.{withinCeilings}
@@ -82,22 +77,29 @@ unlawful s n e = sym (no-true _ (λ f. not-both (header-lawful s n f) e))
 short : (s : List ℕ) (n : ℕ) → headerEnd s < 288 → headerRight s n ≡ false
 short s n h = sym (no-true _ (λ f. absurd (omega (arith, header-long s n f))))
 
-agree : (s t : List ℕ) (n : ℕ) → Same s t 0 (reach s n) → checkHeader s n ≡ checkHeader t n
-unfolding reach
-agree s t n m = go (lengthRight s n) refl (leb 288 (headerEnd s)) refl (headerRight s n) refl
+-- stage 1 or 2 fails
+first-fail :
+    (s t : List ℕ) (n : ℕ) (a b : Bool) → identified s n ≡ a → versionRight s ≡ b → identified t n ≡ a → versionRight t ≡ b →
+    passes (is a ∷ is b ∷ []) ≡ false → checkHeader s n ≡ checkHeader t n
+unfolding checkHeader stages firstTwo gate passes
+first-fail s t n false b p q u v e = rw (p, u)
+first-fail s t n true false p q u v e = rw (p, q, u, v)
+first-fail s t n true true p q u v e = not-both refl e
+
+-- they pass, and the bytes agree as far as stage 3 asks for them
+behind :
+    (s t : List ℕ) (n : ℕ) → Same s t 0 (pick (lengthRight s n) (max 24 (headerEnd s)) 24) → checkHeader s n ≡ checkHeader t n
+behind s t n m = go (lengthRight s n) refl (leb 288 (headerEnd s)) refl (headerRight s n) refl
   where
-    far : 24 ≤ pick (lengthRight s n) (24 + (headerEnd s - 24)) 24
-    far = far-by (lengthRight s n)
-      where
-        far-by : (b : Bool) → 24 ≤ pick b (24 + (headerEnd s - 24)) 24
-        far-by true = omega arith
-        far-by false = omega arith
+    far : (b : Bool) → 24 ≤ pick b (max 24 (headerEnd s)) 24
+    far true = omega arith
+    far false = omega arith
 
     front : Same s t 0 14
-    front = same-part m 0 14 (omega arith) (omega (arith, far))
+    front = same-part m 0 14 (omega arith) (omega (arith, far (lengthRight s n)))
 
     frame : Same s t 16 21
-    frame = same-part m 16 21 (omega arith) (omega (arith, far))
+    frame = same-part m 16 21 (omega arith) (omega (arith, far (lengthRight s n)))
 
     fail : headerRight s n ≡ false → headerRight t n ≡ false → checkHeader s n ≡ checkHeader t n
     fail = both-fail s t n (identified-same front n) (version-same front)
@@ -112,7 +114,7 @@ agree s t n m = go (lengthRight s n) refl (leb 288 (headerEnd s)) refl (headerRi
         fail (short s n h) (short t n (omega arith))
     go true ea true eb c ec =
         let l : 288 ≤ headerEnd s = leb-true _ _ eb in
-        let k : pick (lengthRight s n) (24 + (headerEnd s - 24)) 24 ≡ headerEnd s = rw ea (omega arith) in
+        let k : pick (lengthRight s n) (max 24 (headerEnd s)) 24 ≡ headerEnd s = rw ea (omega arith) in
         let w : Same s t 0 (headerEnd s) = rw k at m in
         let j = judged s t (headerEnd s) w (omega arith) l in
         let x = header-same s t n j in
@@ -125,6 +127,17 @@ agree s t n m = go (lengthRight s n) refl (leb 288 (headerEnd s)) refl (headerRi
         last true ec j w l x =
             both-pass s t n (identified-same front n) (version-same front) x (ceilings-same s t n j ec (sym x ∙ ec))
             (closed-same (same-part w 48 56 (omega arith) (omega arith)))
+
+agree : (s t : List ℕ) (n : ℕ) → Same s t 0 (reach s n) → checkHeader s n ≡ checkHeader t n
+unfolding reach
+agree s t n m = go (passes (is (identified s n) ∷ is (versionRight s) ∷ [])) refl
+  where
+    go : (b : Bool) → passes (is (identified s n) ∷ is (versionRight s) ∷ []) ≡ b → checkHeader s n ≡ checkHeader t n
+    go true e = behind s t n (rw e at m)
+    go false e =
+        let w : Same s t 0 16 = rw e at m in
+        let f : Same s t 0 14 = same-part w 0 14 (omega arith) (omega arith) in
+        first-fail s t n _ _ refl refl (sym (identified-same f n)) (sym (version-same f)) e
 
 pub depends : DependsOnHeader
 depends s t n e = ⊎-elim (λ p. ap (λ (l : List ℕ). checkHeader l n) p) (agree s t n) (same-from-take (reach s n) s t e)

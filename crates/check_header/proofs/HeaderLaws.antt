@@ -1,27 +1,21 @@
 -- The rules of stages 1 to 4, from what the functions below them answer. Assumes nothing.
-use Prim.Native.Nat.{ℕ, zero, suc, _+_, _-_, _≤_, _<_}
-use mathlib.Core.Path.{_≡_, refl, sym, ap, _∙_}
-use mathlib.Core.List.{List, [], _∷_}
+use Prim.Native.Nat.{ℕ, min, _-_, _≤_, _<_}
+use mathlib.Core.Path.{_≡_, sym, ap, _∙_}
+use mathlib.Core.List.{List}
 use mathlib.Core.Bool.{Bool, true, false}
 use native.Mathlib.Omega.{arith}
-use native.Mathlib.Decide.{decLe}
-use mathlib.Core.Logic.{by-cases}
-use lib.ListN.{length}
 use borrow.Author.Tests.{le-leb, lt-leb}
-use Rattle.wire.specs.Pick.{pick, least}
-use Rattle.wire.specs.Tests.{passes, allBelow}
+use Rattle.wire.specs.Tests.{allBelow}
 use Rattle.wire.specs.Bytes.{part, sameBytes, largestInteger}
-use Rattle.wire.proofs.TestLaws.{yes, no, not-both, either-way, below-none, below-more, below-not, least-left, least-right, least-most}
+use Rattle.wire.proofs.TestLaws.{yes, no, not-both, either-way}
 use Rattle.header.specs.declared.Element.{Element}
 use Rattle.header.specs.Names.{identifier}
-use Rattle.header.specs.Fields.{gridRows, gridColumns, tileRows, tileColumns, elementCount, headerLimit}
+use Rattle.header.specs.Fields.{elementCount, headerLimit}
 use Rattle.header.specs.Element.{element, elementName, entryStart, entriesRead}
 use Rattle.header.specs.Tail.{methodCount, fieldsEnd}
-use Rattle.geometry.specs.Tiles.{tileCount}
-use Rattle.geometry.specs.Sizes.{tileBytes}
+use Rattle.geometry.specs.Sizes.{cap}
 use Rattle.check_header.specs.Identification.{mark, identified}
 use Rattle.check_header.specs.HeaderRecord.{positive, namesDiffer, elementRight, elementsRight, tailRight}
-use Rattle.check_header.specs.Ceilings.{sidesWithin, withinCeilings}
 
 -- stage 1
 
@@ -48,18 +42,6 @@ module _
     pub differ-yes : r ≡ false → true ≡ namesDiffer s e d
     unfolding namesDiffer
     differ-yes f = yes _ (sym same ∙ f, tt)
-
--- a loop over every number below n
-
-module _ (n i : ℕ) (p : ℕ → Bool) (r : Bool) (h : i < n) (q : r ≡ p i) where
-  pub each-more : allBelow i p ≡ true → r ≡ true → allBelow (i + 1) p ≡ true
-  each-more e f = below-more i p e (sym q ∙ f)
-
-  pub each-not : r ≡ false → false ≡ allBelow n p
-  each-not f = below-not n p i h (sym q ∙ f)
-
-pub each-all : (n i : ℕ) (p : ℕ → Bool) → allBelow i p ≡ true → i ≤ n → n ≤ i → true ≡ allBelow n p
-each-all n i p e h k = let m : n ≡ i = omega arith in rw m (sym e)
 
 -- an element
 
@@ -128,13 +110,11 @@ module _ (s : List ℕ) (c m : ℕ) (p : c ≡ elementCount s) (q : m ≡ method
 
 -- ceilings: U is held under a bound that lies above its ceiling
 
-pub bytes-within : (a u : ℕ) → u ≡ least a 4294967296 → u ≤ 1048576 → a ≤ 1048576
-bytes-within a u e h =
-    by-cases (decLe a 4294967296) (λ k. omega (arith, least-left a 4294967296 k))
-    (λ n. let k : 4294967296 ≤ a = omega arith in absurd (omega (arith, least-right a 4294967296 k)))
+pub bytes-within : (a u : ℕ) → u ≡ min a cap → u ≤ 1048576 → a ≤ 1048576
+bytes-within a u e h = omega arith
 
-pub bytes-past : (a u : ℕ) → u ≡ least a 4294967296 → 1048576 < u → 1048576 < a
-bytes-past a u e h = omega (arith, least-most a 4294967296 .0)
+pub bytes-past : (a u : ℕ) → u ≡ min a cap → 1048576 < u → 1048576 < a
+bytes-past a u e h = omega arith
 
 -- what a function's answer tells of its definition
 pub told : {r b v : Bool} → r ≡ b → r ≡ v → b ≡ v

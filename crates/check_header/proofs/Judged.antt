@@ -1,27 +1,23 @@
 -- Two lists of bytes that agree where stages 1 to 4 judge them: what holds of one holds of the other. Assumes nothing.
-use Prim.Native.Nat.{ℕ, zero, suc, _+_, _-_, _≤_, _<_}
-use mathlib.Core.Path.{_≡_, refl, sym, ap, _∙_}
-use mathlib.Core.List.{List, [], _∷_}
-use mathlib.Core.Bool.{Bool, true, false}
+use Prim.Native.Nat.{ℕ, min, _+_, _-_, _≤_, _<_}
+use mathlib.Core.Path.{_≡_, sym, ap, _∙_}
+use mathlib.Core.List.{List}
+use mathlib.Core.Bool.{true}
 use mathlib.Core.Logic.{by-cases}
 use native.Mathlib.Decide.{decLe}
 use native.Mathlib.Omega.{arith}
 use lib.ListN.{length}
-use lib.Dec.{leb}
 use borrow.Author.Tests.{le-leb, lt-leb}
-use Rattle.wire.specs.Pick.{pick, least}
-use Rattle.wire.specs.Tests.{passes, allBelow, sumBelow}
-use Rattle.wire.specs.Bytes.{byteAt, numberAt, part, sameBytes, Same}
-use Rattle.wire.proofs.TestLaws.{means, yes, not-both, below-same, sum-same}
-use Rattle.wire.proofs.ByteLaws.{number-same, part-same, byte-same, same-part, same-sym}
-use Rattle.header.specs.Names.{identifier}
-use Rattle.header.specs.Fields.{headerLength, gridRows, gridColumns, tileRows, tileColumns, elementCount, headerEnd, headerLimit}
-use Rattle.header.specs.Element.{entryStart, element, elementName, entriesRead}
-use Rattle.header.specs.Tail.{methodCount, fieldsEnd}
+use Rattle.wire.specs.Tests.{allBelow, sumBelow}
+use Rattle.wire.specs.Bytes.{byteAt, numberAt}
+use Rattle.wire.proofs.TestLaws.{means, yes, below-same, sum-same}
+use Rattle.wire.proofs.ByteLaws.{Same, number-same, part-same, byte-same, same-sym}
+use Rattle.header.specs.Fields.{gridRows, gridColumns, tileRows, tileColumns, elementCount, headerEnd, headerLimit}
+use Rattle.header.specs.Element.{entryStart, entriesRead}
 use Rattle.header.proofs.SameLaws.{SameRest, limit-same, start-same, start-least, limit-is, element-same, element-name-same, method-count-same, fields-end-same}
 use Rattle.geometry.specs.Tiles.{tileCount}
-use Rattle.geometry.specs.Sizes.{uncompressed, elementBytes, tileBytes}
-use Rattle.check_header.specs.Identification.{mark, identified, versionRight}
+use Rattle.geometry.specs.Sizes.{elementBytes, tileBytes}
+use Rattle.check_header.specs.Identification.{identified, versionRight}
 use Rattle.check_header.specs.HeaderRecord.{lengthRight, frameRight, positive, sidesRight, optionsRight, namesDiffer, elementRight, elementsRight, tailRight, headerRight}
 use Rattle.check_header.specs.Ceilings.{sidesWithin, withinCeilings}
 
@@ -139,7 +135,7 @@ module _ (s t : List ℕ) (j : SameJudged s t) where
   unfolding elementsRight entriesRead
   fit e =
       let a = means _ e in
-      let l = start-least s (least (elementCount s) 16) in
+      let l = start-least s (min (elementCount s) 16) in
       let m = limit-is s (j .in-first) in
       let c : elementCount s ≡ elementCount t = number-same (j .rest) 4 280 (omega arith) (omega arith) in
       record { count = c; read = rw c; last = a .1 .0 }

@@ -1,7 +1,7 @@
 -- Document 01, stage 3. `s` is the bytes, n the file's length.
 use Prim.Native.Nat.{ℕ, _+_, _%_}
 use mathlib.Core.List.{List, [], _∷_}
-use mathlib.Core.Bool.{Bool, true, false}
+use mathlib.Core.Bool.{Bool, true}
 use lib.ListN.{length}
 use lib.Dec.{leb}
 use Rattle.wire.specs.Pick.{pick}

@@ -7,7 +7,7 @@ ghost use mathlib.Core.Path.{_≡_};
 ghost use Rattle.wire.specs.Tests.{allBelow};
 ghost use Rattle.check_header.specs.HeaderRecord.{lengthRight, frameRight, positive, sidesRight, optionsRight, namesDiffer, elementRight, elementsRight, tailRight, headerRight};
 
-// The header's length is lawful.
+// The header's length is a multiple of 8, not negative, and ends inside the file.
 pub fn length_right(s: &[u8], length: usize) -> bool
     ensures { λ r. ⌜ r ≡ lengthRight (now (s .entry)) length ⌝ }
 {
@@ -24,7 +24,7 @@ pub fn length_right(s: &[u8], length: usize) -> bool
     true
 }
 
-// So is its frame: all of it is among the bytes, and its type is 6.
+// The header's length is lawful, all of it is among the bytes, and its type is 6.
 pub fn frame_right(s: &[u8], length: usize) -> bool
     ensures { λ r. ⌜ r ≡ frameRight (now (s .entry)) length ⌝ }
 {

@@ -1,15 +1,15 @@
 -- Steps of the CRC, and that they act on the low bits and the rest apart. Assumes nothing.
-use Prim.Native.Nat.{ℕ, zero, suc, _+_, _*_, _/_, _%_, _^_, _≤_, _<_}
-use native.Mathlib.Nat.{div-add-mod', mod-lt, mul-one, add-zero, pow-suc, div-lt-iff-lt-mul}
+use Prim.Native.Nat.{ℕ, zero, suc, _+_, _*_, _/_, _%_, _^_, _<_}
+use native.Mathlib.Nat.{div-add-mod', mod-lt, pow-suc}
 use native.Mathlib.Omega.{arith}
 use mathlib.Core.Bool.{Bool, true, false}
 use mathlib.Core.Path.{_≡_, refl, sym, ap, ap₂, _∙_}
 use lib.Arith.{bin-ind, lt-one}
 use lib.Pow.{pow-pos}
 use lib.Dec.{eqb}
-use lib.Bits.{bitXor, differ, xor-step, xor-shr, xor-block, xor-lt, xor-zero-l, xor-comm, xor-zero-r, block-half, block-odd}
+use lib.Bits.{bitXor, differ, xor-step, xor-shr, xor-block, xor-lt, xor-comm, xor-zero-r, block-half, block-odd}
 use Rattle.wire.specs.Pick.{pick}
-use Rattle.crc32c.specs.Crc.{crcBit}
+use Rattle.crc32c.specs.Crc.{polynomial, crcBit}
 
 -- ---- exclusive or is associative
 differ-assoc : (x y z : ℕ) → x < 2 → y < 2 → z < 2 → differ (differ x y) z ≡ differ x (differ y z)
@@ -45,9 +45,6 @@ abbrev pub steps : ℕ → ℕ → ℕ
 steps zero c = c
 steps (suc n) c = steps n (crcBit c)
 
-abbrev poly : ℕ
-poly = 0x82F6_3B78
-
 pub steps-block : (k h r : ℕ) → r < 2 ^ k → steps k (h * 2 ^ k + r) ≡ bitXor h (steps k r)
 unfolding crcBit
 steps-block zero h r l = let e : r ≡ 0 = lt-one l in let m : h * 2 ^ 0 + 0 ≡ h = omega arith in rw (e, m, xor-zero-r)
@@ -57,25 +54,25 @@ steps-block (suc k) h r l = rw (block-odd h k r, block-half h k r) (go (λ g s. 
     half = let e : 2 ^ suc k ≡ 2 ^ k * 2 = pow-suc 2 k in omega arith
 
     ph : ℕ
-    ph = poly / 2 ^ k
+    ph = polynomial / 2 ^ k
 
     pl : ℕ
-    pl = poly % 2 ^ k
+    pl = polynomial % 2 ^ k
 
     small : pl < 2 ^ k
-    small = mod-lt poly (pow-pos k)
+    small = mod-lt polynomial (pow-pos k)
 
-    apart : ph * 2 ^ k + pl ≡ poly
-    apart = div-add-mod' poly (2 ^ k)
+    apart : ph * 2 ^ k + pl ≡ polynomial
+    apart = div-add-mod' polynomial (2 ^ k)
 
-    mixed : (g : ℕ) → bitXor (g * 2 ^ k + r / 2) poly ≡ bitXor g ph * 2 ^ k + bitXor (r / 2) pl
+    mixed : (g : ℕ) → bitXor (g * 2 ^ k + r / 2) polynomial ≡ bitXor g ph * 2 ^ k + bitXor (r / 2) pl
     mixed g = ap (bitXor (g * 2 ^ k + r / 2)) (sym apart) ∙ xor-block k g ph (r / 2) pl half small
 
-    go : ((g s : ℕ) → s < 2 ^ k → steps k (g * 2 ^ k + s) ≡ bitXor g (steps k s)) → (b : Bool) → steps k (pick b (bitXor (h * 2 ^ k + r / 2) poly) (h * 2 ^ k + r / 2)) ≡ bitXor h (steps k (pick b (bitXor (r / 2) poly) (r / 2)))
+    go : ((g s : ℕ) → s < 2 ^ k → steps k (g * 2 ^ k + s) ≡ bitXor g (steps k s)) → (b : Bool) → steps k (pick b (bitXor (h * 2 ^ k + r / 2) polynomial) (h * 2 ^ k + r / 2)) ≡ bitXor h (steps k (pick b (bitXor (r / 2) polynomial) (r / 2)))
     go ih false = ih h (r / 2) half
     go ih true =
         let z : 0 * 2 ^ k + r / 2 ≡ r / 2 = omega arith in
-        let m : bitXor (r / 2) poly ≡ ph * 2 ^ k + bitXor (r / 2) pl = ap (λ (x : ℕ). bitXor x poly) (sym z) ∙ mixed 0 in
+        let m : bitXor (r / 2) polynomial ≡ ph * 2 ^ k + bitXor (r / 2) pl = ap (λ (x : ℕ). bitXor x polynomial) (sym z) ∙ mixed 0 in
         let s : bitXor (r / 2) pl < 2 ^ k = xor-lt k (r / 2) pl half small in
         ap (steps k) (mixed h) ∙ ih (bitXor h ph) (bitXor (r / 2) pl) s
         ∙ xor-assoc h ph (steps k (bitXor (r / 2) pl))

@@ -1,4 +1,4 @@
-// CRC32C by a table of 256 entries, the checksums' eight steps of each byte.
+// CRC32C by a table of 256 entries: entry k is k after eight steps of one bit.
 ghost use mathlib.Core.Path.{_≡_};
 ghost use Rattle.crc32c.specs.Crc.{crcOf, crcPart};
 

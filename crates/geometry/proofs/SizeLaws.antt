@@ -1,23 +1,23 @@
--- U held under a bound, judgements and sums. Assumes nothing.
-use Prim.Native.Nat.{ℕ, zero, suc, _+_, _*_, _/_, _-_, _≤_, _<_}
-use mathlib.Core.Path.{_≡_, refl, sym, ap, _∙_}
+-- U up to a bound, judgements and sums. Assumes nothing.
+use Prim.Native.Nat.{ℕ, min, _+_, _*_, _≤_, _<_}
+use mathlib.Core.Path.{_≡_, sym, ap, _∙_}
 use mathlib.Core.List.{List}
 use mathlib.Core.Logic.{by-cases}
 use native.Mathlib.Decide.{decLe}
 use native.Mathlib.Omega.{arith}
-use native.Mathlib.Nat.{mul-le-mul, mul-le-mul-left, mul-comm}
-use lib.Dec.{leb, eqb}
-use borrow.Author.Tests.{eq-eqb, ne-eqb, le-leb, lt-leb, eqb-true, eqb-false}
+use native.Mathlib.Nat.{mul-le-mul, mul-le-mul-left}
+use lib.Dec.{eqb}
+use borrow.Author.Tests.{eq-eqb, ne-eqb, le-leb, lt-leb}
 use mathlib.Core.Bool.{Bool, true, false}
-use Rattle.wire.specs.Pick.{pick, least}
+use Rattle.wire.specs.Pick.{pick}
 use Rattle.wire.specs.Tests.{sumBelow}
-use Rattle.wire.proofs.TestLaws.{least-left, least-right, least-most, sum-none, sum-more}
+use Rattle.wire.proofs.TestLaws.{sum-none, sum-more}
 use Rattle.header.specs.declared.Element.{Element}
 use Rattle.header.specs.Fields.{tileRows, tileColumns}
 use Rattle.header.specs.Element.{cellSize, element, entriesRead}
 use Rattle.geometry.specs.declared.Judged.{Judged}
 use Rattle.geometry.specs.declared.Judged.the-variants.{Uncompressed, Compressed, Fault}
-use Rattle.geometry.specs.Sizes.{uncompressed, judge, cellOffset, storedSize, leastLength, elementBytes, judgeElement, tileBytes}
+use Rattle.geometry.specs.Sizes.{uncompressed, judge, elementBytes, judgeElement, tileBytes, cap}
 
 -- a cell has 2 or 4 bytes
 pub size-range : (k : ℕ) → (2 ≤ cellSize k) × (cellSize k ≤ 4)
@@ -28,30 +28,26 @@ size-range k = go (eqb k 3)
     go true = (omega arith, omega arith)
     go false = (omega arith, omega arith)
 
--- the bound on U
-abbrev pub cap : ℕ
-cap = 4294967296
-
 module _ (h w k c z : ℕ) (p : c ≡ h * w) (q : z ≡ cellSize k) where
-  pub capped-cells : cap < c → cap ≡ least (uncompressed h w k) cap
+  pub capped-cells : cap < c → cap ≡ min (uncompressed h w k) cap
   unfolding uncompressed
   capped-cells l =
       let r = size-range k in
       let m : c * 1 ≤ c * z = mul-le-mul-left c (omega arith) in
       let u : cap ≤ h * w * cellSize k = rw (← p, ← q) (omega arith) in
-      sym (least-right (h * w * cellSize k) cap u)
+      omega arith
 
-  pub capped-in : c * z ≤ cap → c * z ≡ least (uncompressed h w k) cap
+  pub capped-in : c * z ≤ cap → c * z ≡ min (uncompressed h w k) cap
   unfolding uncompressed
   capped-in l =
       let u : h * w * cellSize k ≤ cap = rw (← p, ← q) l in
-      rw (p, q) (sym (least-left (h * w * cellSize k) cap u))
+      rw (p, q) (omega arith)
 
-  pub capped-past : cap < c * z → cap ≡ least (uncompressed h w k) cap
+  pub capped-past : cap < c * z → cap ≡ min (uncompressed h w k) cap
   unfolding uncompressed
   capped-past l =
       let u : cap ≤ h * w * cellSize k = rw (← p, ← q) (omega arith) in
-      sym (least-right (h * w * cellSize k) cap u)
+      omega arith
 
   pub cells-fit : c ≤ cap → c * z ≤ 4294967296 * 4
   cells-fit l = let r = size-range k in let y : z ≤ 4 = omega arith in mul-le-mul l y
@@ -74,51 +70,41 @@ pub judge-more : (l u : ℕ) → (l ≡ 0 → ⊥) → (l ≡ u → ⊥) → u <
 unfolding judge
 judge-more l u n m h = rw (ne-eqb l 0 n, ne-eqb l u m, lt-leb l u h)
 
--- a four-byte length can't tell U from U held under the bound
-pub judge-capped : (l u : ℕ) → l < cap → judge l (least u cap) ≡ judge l u
+-- a four-byte length can't tell U from the lesser of U and the bound
+pub judge-capped : (l u : ℕ) → l < cap → judge l (min u cap) ≡ judge l u
 judge-capped l u h =
-    by-cases (decLe u cap) (λ k. rw (least-left u cap k))
+    by-cases (decLe u cap) (λ k. let e : min u cap ≡ u = omega arith in rw e)
     (λ n.
-    let k : cap < u = omega arith in
-    rw (least-right u cap (omega arith))
-    (by-cases (decLe 1 l) (λ p. sym (judge-less l cap (λ e. omega arith) (λ e. omega arith) (omega arith)) ∙ judge-less l u (λ e. omega arith) (λ e. omega arith) (omega arith))
+    let e : min u cap ≡ cap = omega arith in
+    rw e
+    (by-cases (decLe 1 l)
+    (λ p. sym (judge-less l cap (λ e. omega arith) (λ e. omega arith) (omega arith)) ∙ judge-less l u (λ e. omega arith) (λ e. omega arith) (omega arith))
     (λ m. let z : l ≡ 0 = omega arith in sym (judge-zero l cap z) ∙ judge-zero l u z)))
 
 pub judge-element-is :
-    (s : List ℕ) (e l u : ℕ) (r : Judged) → u ≡ least (elementBytes s e) cap → r ≡ judge l u → l < cap → r ≡ judgeElement s e l
+    (s : List ℕ) (e l u : ℕ) (r : Judged) → u ≡ min (elementBytes s e) cap → r ≡ judge l u → l < cap → r ≡ judgeElement s e l
 unfolding judgeElement
 judge-element-is s e l u r p q h = q ∙ ap (judge l) p ∙ judge-capped l (elementBytes s e) h
 
 pub element-is :
     (s : List ℕ) (e h w u : ℕ) (x : Element) → x ≡ element s e → h ≡ tileRows s → w ≡ tileColumns s →
-    u ≡ least (uncompressed h w (x .kind)) cap → u ≡ least (elementBytes s e) cap
+    u ≡ min (uncompressed h w (x .kind)) cap → u ≡ min (elementBytes s e) cap
 unfolding elementBytes
 element-is s e h w u x p q r t = t ∙ rw (p, q, r)
 
--- a sum held under the bound, a part at a time
+-- the lesser of a sum and the bound, a part at a time
 
-pub least-sum : (a b k : ℕ) → least (least a k + least b k) k ≡ least (a + b) k
-least-sum a b k =
-    by-cases (decLe a k)
-    (λ p.
-    by-cases (decLe b k) (λ q. rw (least-left a k p, least-left b k q))
-    (λ n. let q : k ≤ b = omega arith in rw (least-left a k p, least-right b k q) (least-right (a + k) k (omega arith) ∙ sym (least-right (a + b) k (omega arith)))))
-    (λ m.
-    let p : k ≤ a = omega arith in
-    let j = least-most b k in
-    rw (least-right a k p) (least-right (k + least b k) k (omega arith) ∙ sym (least-right (a + b) k (omega arith))))
+pub sum-begin : (f : ℕ → ℕ) → 0 ≡ min (sumBelow 0 f) cap
+sum-begin f = rw (sum-none f) (omega arith)
 
-pub sum-begin : (f : ℕ → ℕ) → 0 ≡ least (sumBelow 0 f) cap
-sum-begin f = rw (sum-none f) (sym (least-left 0 cap (omega arith)))
-
-pub sum-step : (n a b r : ℕ) (f : ℕ → ℕ) → a ≡ least (sumBelow n f) cap → b ≡ least (f n) cap → r ≡ least (a + b) cap → r ≡ least (sumBelow (n + 1) f) cap
-sum-step n a b r f p q e = e ∙ rw (p, q, sum-more n f) (least-sum (sumBelow n f) (f n) cap)
+pub sum-step : (n a b r : ℕ) (f : ℕ → ℕ) → a ≡ min (sumBelow n f) cap → b ≡ min (f n) cap → r ≡ min (a + b) cap → r ≡ min (sumBelow (n + 1) f) cap
+sum-step n a b r f p q e = rw (sum-more n f) (omega arith)
 
 pub tile-bytes-is :
-    (s : List ℕ) (e n r : ℕ) → n ≡ entriesRead s → e ≤ n → n ≤ e → r ≡ least (sumBelow e (elementBytes s)) cap →
-    r ≡ least (tileBytes s) cap
+    (s : List ℕ) (e n r : ℕ) → n ≡ entriesRead s → e ≤ n → n ≤ e → r ≡ min (sumBelow e (elementBytes s)) cap →
+    r ≡ min (tileBytes s) cap
 unfolding tileBytes
 tile-bytes-is s e n r p h k q = let m : e ≡ entriesRead s = omega arith in q ∙ rw m
 
-pub under : (a k x : ℕ) → x ≡ least a k → x ≤ k
-under a k x e = omega (arith, least-most a k .1)
+pub under : (a k x : ℕ) → x ≡ min a k → x ≤ k
+under a k x e = omega arith

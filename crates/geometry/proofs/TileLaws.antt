@@ -1,13 +1,10 @@
 -- Bounds of quotients and products, and tiles from their parts. Assumes nothing.
-use Prim.Native.Nat.{ℕ, zero, suc, _+_, _*_, _/_, _%_, _-_, _^_, _≤_, _<_}
-use mathlib.Core.Path.{_≡_, refl, sym, ap, _∙_}
+use Prim.Native.Nat.{ℕ, _+_, _*_, _/_, _%_, _-_, _≤_, _<_}
+use mathlib.Core.Path.{_≡_, refl, sym}
 use mathlib.Core.List.{List}
 use native.Mathlib.Omega.{arith}
-use native.Mathlib.Nat.{div-zero, mod-zero, div-le-self, mod-le, mul-le-mul, mul-le-mul-left, div-lt-iff-lt-mul, le-of-lt, mul-comm, mul-one, le-trans}
-use mir.Val.{Fits}
-use mir.Syntax.{w32, w64}
-use Rattle.header.specs.Fields.{gridRows, gridColumns, tileRows, tileColumns}
-use Rattle.geometry.specs.Tiles.{tilesAlong, tileOf, insideOf, tilesIn, tileIn, tilesAcross, tilesDown, tileCount, cellTile, cellInside}
+use native.Mathlib.Nat.{div-zero, mod-zero, div-le-self, mod-le, mul-le-mul, mul-le-mul-left, div-lt-iff-lt-mul}
+use Rattle.geometry.specs.Tiles.{tilesAlong, tileOf, insideOf, tilesIn, tilesAcross, tilesDown, tileCount}
 
 pub quotient-zero : (a b : ℕ) → b ≡ 0 → 0 ≡ a / b
 quotient-zero a b e = rw e (sym (div-zero a))
@@ -55,25 +52,6 @@ pub inside-is : (h w r c a b : ℕ) → a ≡ r % h → b ≡ c % w → a * w + 
 unfolding insideOf
 inside-is h w r c a b p q = rw (p, q)
 
-pub across-is : (s : List ℕ) (c w r : ℕ) → c ≡ gridColumns s → w ≡ tileColumns s → r ≡ tilesAlong c w → r ≡ tilesAcross s
-unfolding tilesAcross
-across-is s c w r p q e = e ∙ rw (p, q)
-
-pub down-is : (s : List ℕ) (c w r : ℕ) → c ≡ gridRows s → w ≡ tileRows s → r ≡ tilesAlong c w → r ≡ tilesDown s
-unfolding tilesDown
-down-is s c w r p q e = e ∙ rw (p, q)
-
 pub count-is : (s : List ℕ) (a b : ℕ) → a ≡ tilesDown s → b ≡ tilesAcross s → a * b ≡ tileCount s
 unfolding tileCount tilesIn tilesDown tilesAcross
 count-is s a b p q = rw (p, q)
-
-pub cell-tile-is :
-    (s : List ℕ) (h w a r c x : ℕ) → h ≡ tileRows s → w ≡ tileColumns s → a ≡ tilesAcross s → x ≡ tileOf h w a r c →
-    x ≡ cellTile s r c
-unfolding cellTile tileIn tilesAcross
-cell-tile-is s h w a r c x p q t e = e ∙ rw (p, q, t)
-
-pub cell-inside-is :
-    (s : List ℕ) (h w r c x : ℕ) → h ≡ tileRows s → w ≡ tileColumns s → x ≡ insideOf h w r c → x ≡ cellInside s r c
-unfolding cellInside
-cell-inside-is s h w r c x p q e = e ∙ rw (p, q)

@@ -13,15 +13,10 @@ use Rattle.geometry.specs.declared.Judged.the-variants.{Uncompressed, Co
 unfoldable pub uncompressed : ℕ → ℕ → ℕ → ℕ
 uncompressed h w kind = h * w * cellSize kind
 
--- a length L against U: from 1 to U; equal to U means uncompressed, less means compressed; 0, or more than U, is a fault
+-- a length L against U: from 1 to U; equal to U means uncompressed, less means compressed; 0, or more than U, is a fault.
+-- A negative L is, as a number of its bits, more than any U that the ceilings allow
 unfoldable pub judge : ℕ → ℕ → Judged
 judge l u = pick (eqb l 0) Fault (pick (eqb l u) Uncompressed (pick (leb l u) Compressed Fault))
-
--- the same as a number
-abbrev pub judgedNumber : Judged → ℕ
-judgedNumber Uncompressed = 2
-judgedNumber Compressed = 1
-judgedNumber Fault = 0
 
 -- where a cell starts in its element's uncompressed content, by its number inside the tile
 unfoldable pub cellOffset : ℕ → ℕ → ℕ
@@ -39,6 +34,10 @@ leastLength n = roundUp 8 (n + 4)
 -- (G Table 15), each element's length and bytes, and the checksum
 unfoldable pub tileLength : ℕ → (ℕ → ℕ) → ℕ
 tileLength n l = leastLength (12 + sumBelow n (λ e. storedSize (l e)))
+
+-- a bound above every length of four bytes and above the ceiling: where a function answers U, it answers this if U is more
+abbrev pub cap : ℕ
+cap = 4294967296
 
 -- U of a file's element
 unfoldable pub elementBytes : List ℕ → ℕ → ℕ

@@ -2,7 +2,7 @@
 pub mod sizes;
 pub mod tiles;
 
-// What a length L is, held against the uncompressed size U.
+// What a length L is, compared with the uncompressed size U.
 pub enum Judged {
     Uncompressed,
     Compressed,

@@ -3,13 +3,12 @@ use crate::Judged;
 use header::entries;
 use header::fields;
 ghost use mathlib.Core.Path.{_≡_};
-ghost use Prim.Native.Nat.{_+_, _≤_};
-ghost use Rattle.wire.specs.Pick.{least};
-ghost use Rattle.geometry.specs.Sizes.{uncompressed, judge, cellOffset, storedSize, leastLength, elementBytes, judgeElement, tileBytes};
+ghost use Prim.Native.Nat.{_+_, _≤_, min};
+ghost use Rattle.geometry.specs.Sizes.{uncompressed, judge, cellOffset, storedSize, leastLength, elementBytes, judgeElement, tileBytes, cap};
 
 // U, or 4294967296 where U is more: no four-byte length tells the difference.
 pub fn uncompressed(h: u32, w: u32, kind: u32) -> u64
-    ensures { λ r. ⌜ r ≡ least (uncompressed h w kind) 4294967296 ⌝ }
+    ensures { λ r. ⌜ r ≡ min (uncompressed h w kind) cap ⌝ }
 {
     let cells = h as u64 * (w as u64);
     let size = entries::cell_size(kind) as u64;
@@ -63,7 +62,7 @@ pub fn least_length(n: u32) -> u64
 
 // U of a file's element, or 4294967296 where U is more.
 pub fn element_bytes(s: &[u8], e: usize) -> u64
-    ensures { λ r. ⌜ r ≡ least (elementBytes (now (s .entry)) e) 4294967296 ⌝ }
+    ensures { λ r. ⌜ r ≡ min (elementBytes (now (s .entry)) e) cap ⌝ }
 {
     let x = entries::element(s, e);
     let h = fields::tile_rows(s);
@@ -81,7 +80,7 @@ pub fn judge_element(s: &[u8], e: usize, l: u32) -> Judged
 
 // The uncompressed bytes of one tile, or 4294967296 where there are more.
 pub fn tile_bytes(s: &[u8]) -> u64
-    ensures { λ r. ⌜ r ≡ least (tileBytes (now (s .entry))) 4294967296 ⌝ }
+    ensures { λ r. ⌜ r ≡ min (tileBytes (now (s .entry))) cap ⌝ }
 {
     let n = entries::entries_read(s);
     let mut sum: u64 = 0;
@@ -95,8 +94,8 @@ pub fn tile_bytes(s: &[u8]) -> u64
 
 // A sum, or 4294967296 where it is more.
 fn capped(a: u64, b: u64) -> u64
-    requires { ⌜ (a ≤ 4294967296) × (b ≤ 4294967296) ⌝ }
-    ensures { λ r. ⌜ r ≡ least (a + b) 4294967296 ⌝ }
+    requires { ⌜ (a ≤ cap) × (b ≤ cap) ⌝ }
+    ensures { λ r. ⌜ r ≡ min (a + b) cap ⌝ }
 {
     if a + b <= 4294967296 {
         return a + b;

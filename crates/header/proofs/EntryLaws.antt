@@ -1,27 +1,23 @@
 -- Strings and element entries. Assumes nothing.
-use Prim.Native.Nat.{ℕ, zero, suc, _+_, _*_, _/_, _-_, _≤_, _<_}
-use mathlib.Core.Path.{_≡_, refl, sym, ap, _∙_}
-use mathlib.Core.List.{List, [], _∷_}
-use mathlib.Core.Bool.{Bool, true, false}
+use Prim.Native.Nat.{ℕ, _+_, _*_, _/_, _-_, _≤_, _<_}
+use mathlib.Core.Path.{_≡_}
+use mathlib.Core.List.{List}
 use native.Mathlib.Omega.{arith}
 use lib.ListN.{length}
-use lib.Dec.{eqb}
-use borrow.Author.Tests.{eq-eqb, ne-eqb}
-use Rattle.wire.specs.Pick.{pick, least, roundUp}
+use borrow.Author.Tests.{ne-eqb}
 use Rattle.wire.specs.Bytes.{byteAt, numberAt, u16At}
 use Rattle.wire.specs.Items.{advance}
-use Rattle.wire.proofs.TestLaws.{least-left, least-right, least-most}
-use Rattle.wire.proofs.ItemLaws.{advance-none, advance-step, advance-stop}
+use Rattle.wire.proofs.ItemLaws.{items-step}
 use Rattle.header.specs.declared.Element.{Element}
-use Rattle.header.specs.Fields.{headerLength, headerEnd, headerLimit, elementCount}
-use Rattle.header.specs.Element.{stringSize, stringEnd, blockSize, fillOffset, cellSize, entryKind, blockAt, labelAt, descriptionAt, unitAt, entryEnd, fillBits, entryAt, entryStart, entriesRead}
+use Rattle.header.specs.Fields.{headerEnd, headerLimit, elementCount}
+use Rattle.header.specs.Element.{stringSize, stringEnd, blockSize, fillOffset, cellSize, blockAt, labelAt, descriptionAt, unitAt, entryEnd, fillBits, entryAt, entryStart, entriesRead}
 use Rattle.header.specs.Tail.{methodsAt, methodCount, productLabelAt, fieldsEnd}
 
 -- the header's last four bytes
 
 pub limit-none : (s : List ℕ) → length s < 4 → 0 ≡ headerLimit s
 unfolding headerLimit
-limit-none s h = let k = least-most (headerEnd s) (length s) in omega arith
+limit-none s h = omega arith
 
 pub limit-room : (s : List ℕ) (e : ℕ) → e ≡ headerEnd s → 4 ≤ e
 unfolding headerEnd
@@ -29,11 +25,11 @@ limit-room s e p = omega arith
 
 pub limit-end : (s : List ℕ) (e : ℕ) → e ≡ headerEnd s → e ≤ length s → e - 4 ≡ headerLimit s
 unfolding headerLimit
-limit-end s e p h = let k : headerEnd s ≤ length s = omega arith in rw (least-left (headerEnd s) (length s) k, p)
+limit-end s e p h = omega arith
 
 pub limit-short : (s : List ℕ) (e : ℕ) → e ≡ headerEnd s → length s < e → length s - 4 ≡ headerLimit s
 unfolding headerLimit
-limit-short s e p h = let k : length s ≤ headerEnd s = omega arith in rw (least-right (headerEnd s) (length s) k)
+limit-short s e p h = omega arith
 
 -- an entry, from its parts
 
@@ -92,22 +88,6 @@ pub entry-whole :
 unfolding entryAt
 entry-whole s at k n f e p q r t = rw (p, q, r, t)
 
--- the loop over entries or strings: so many are left
-
-module _ (next : ℕ → ℕ) (limit left at : ℕ) where
-  pub items-step : (b x : ℕ) → advance next limit left at ≡ x → 0 < left → at ≤ limit → b ≡ next at → advance next limit (left - 1) b ≡ x
-  items-step b x e h k p =
-      let m : left ≡ left - 1 + 1 = omega arith in
-      rw p (sym (advance-step next limit (left - 1) at k) ∙ ap (λ (n : ℕ). advance next limit n at) (sym m) ∙ e)
-
-  pub items-stop : (x : ℕ) → advance next limit left at ≡ x → limit < at → at ≡ x
-  items-stop x e h = sym (advance-stop next limit left at h) ∙ e
-
-  pub items-end : (x : ℕ) → advance next limit left at ≡ x → left ≤ 0 → at ≡ x
-  items-end x e h =
-      let z : left ≡ 0 = omega arith in
-      sym (advance-none next limit at) ∙ ap (λ (n : ℕ). advance next limit n at) (sym z) ∙ e
-
 pub entries-begin : (s : List ℕ) (e l : ℕ) → l ≡ headerLimit s → advance (entryEnd s) l e 284 ≡ entryStart s e
 unfolding entryStart
 entries-begin s e l p = rw p
@@ -130,8 +110,8 @@ fields-is s p n f g = rw (g, f)
 
 pub read-all : (s : List ℕ) (n : ℕ) → n ≡ elementCount s → n ≤ 16 → n ≡ entriesRead s
 unfolding entriesRead
-read-all s n p h = p ∙ sym (least-left (elementCount s) 16 (omega arith))
+read-all s n p h = omega arith
 
 pub read-some : (s : List ℕ) (n : ℕ) → n ≡ elementCount s → 16 < n → 16 ≡ entriesRead s
 unfolding entriesRead
-read-some s n p h = sym (least-right (elementCount s) 16 (omega arith))
+read-some s n p h = omega arith

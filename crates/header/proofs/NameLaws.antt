@@ -1,15 +1,15 @@
 -- The bytes of a name, and the loop over them. Assumes nothing.
-use Prim.Native.Nat.{ℕ, zero, suc, _+_, _-_, _≤_, _<_}
-use mathlib.Core.Path.{_≡_, refl, sym, ap, _∙_}
+use Prim.Native.Nat.{ℕ, suc, _+_, _-_, _≤_, _<_}
+use mathlib.Core.Path.{_≡_, refl, sym, _∙_}
 use mathlib.Core.List.{List, [], _∷_}
-use mathlib.Core.Bool.{Bool, true, false, _||_, or-true}
+use mathlib.Core.Bool.{Bool, true, false, or-true}
 use native.Mathlib.Omega.{arith}
 use native.Mathlib.Numerals.{add-one}
 use lib.ListN.{length, getD, take, drop, drop-of-length-le}
 use lib.Seq.{drop-cons, take-all}
 use borrow.Author.Tests.{le-leb}
 use Rattle.wire.specs.Tests.{both, is, passes}
-use Rattle.wire.proofs.TestLaws.{means, yes, no, not-both}
+use Rattle.wire.proofs.TestLaws.{yes, no, not-both}
 use Rattle.header.specs.Names.{within, letter, nameByte, nameBytes, identifier}
 
 within-in : (a b x : ℕ) → a ≤ x → x ≤ b → within a b x ≡ true
@@ -71,8 +71,6 @@ name-below b p q n h = rw (← p, q, within-low 48 57 b h, one-not b n)
 pub name-above : (b : ℕ) {r : Bool} → r ≡ letter b → r ≡ false → (b ≡ 95 → ⊥) → 57 < b → false ≡ nameByte b
 unfolding nameByte
 name-above b p q n h = rw (← p, q, within-high 48 57 b h, one-not b n)
-
-pub ruleset letters = (letter-upper, letter-lower, letter-below, letter-between, letter-above)
 
 -- the loop: the bytes from i on are still to be judged
 

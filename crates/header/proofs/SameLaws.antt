@@ -1,21 +1,19 @@
 -- What a header says depends only on the bytes that it is read from. Assumes nothing.
-use Prim.Native.Nat.{ℕ, zero, suc, _+_, _*_, _/_, _-_, _≤_, _<_}
-use mathlib.Core.Path.{_≡_, refl, sym, ap, ap₂, _∙_}
-use mathlib.Core.List.{List, [], _∷_}
+use Prim.Native.Nat.{ℕ, _+_, _-_, _≤_, _<_}
+use mathlib.Core.Path.{_≡_, refl, ap, _∙_}
+use mathlib.Core.List.{List}
 use mathlib.Core.Bool.{Bool, true, false}
 use native.Mathlib.Omega.{arith}
 use lib.ListN.{length}
-use lib.Dec.{eqb, leb}
+use lib.Dec.{eqb}
 use borrow.Author.Tests.{le-leb}
-use Rattle.wire.specs.Pick.{pick, least, roundUp}
-use Rattle.wire.specs.Bytes.{byteAt, numberAt, u16At, u32At, part, Same}
+use Rattle.wire.specs.Pick.{pick, roundUp}
+use Rattle.wire.specs.Bytes.{byteAt, u16At, u32At, part}
 use Rattle.wire.specs.Items.{advance}
-use Rattle.wire.proofs.TestLaws.{least-left}
-use Rattle.wire.proofs.ByteLaws.{number-same, part-same, byte-same}
+use Rattle.wire.proofs.ByteLaws.{Same, number-same, part-same, byte-same}
 use Rattle.wire.proofs.ItemLaws.{advance-grows, advance-same, advance-mono, advance-more}
-use Rattle.header.specs.declared.Element.{Element}
-use Rattle.header.specs.Fields.{headerLength, headerEnd, headerLimit, elementCount}
-use Rattle.header.specs.Element.{stringSize, stringEnd, blockSize, fillOffset, cellSize, entryKind, blockAt, labelAt, descriptionAt, unitAt, entryEnd, fillBits, entryAt, entryStart, element, elementName}
+use Rattle.header.specs.Fields.{headerEnd, headerLimit, elementCount}
+use Rattle.header.specs.Element.{stringSize, stringEnd, blockSize, fillOffset, cellSize, blockAt, labelAt, descriptionAt, unitAt, entryEnd, fillBits, entryAt, entryStart, element, elementName}
 use Rattle.header.specs.Tail.{methodsAt, methodCount, productLabelAt, fieldsEnd}
 
 -- positions only grow
@@ -90,7 +88,7 @@ start-least s j = advance-grows (entryEnd s) (headerLimit s) (entry-grows s) j 2
 -- the header's checksum starts four bytes before its end, where the bytes hold it
 pub limit-is : (s : List ℕ) → headerEnd s ≤ length s → headerLimit s ≡ headerEnd s - 4
 unfolding headerLimit
-limit-is s h = rw (least-left (headerEnd s) (length s) h)
+limit-is s h = omega arith
 
 -- a string, and an entry that ends by b, are the same in s and t where the bytes from a up to b are
 
@@ -154,7 +152,7 @@ pub record SameRest (s t : List ℕ) : Type 0 where
 module _ (s t : List ℕ) (r : SameRest s t) where
   pub limit-same : headerLimit s ≡ headerLimit t
   unfolding headerLimit
-  limit-same = rw (least-left (headerEnd s) (length s) (r .in-first), least-left (headerEnd t) (length t) (r .in-second), r .length-same)
+  limit-same = omega (arith, r .in-first, r .in-second, r .length-same)
 
   pub start-same : (k : ℕ) → entryStart s k ≤ headerLimit s → entryStart s k ≡ entryStart t k
   unfolding entryStart

@@ -1,8 +1,8 @@
 -- G Tables 5 and 8 to 12: strings and element specification entries, for any bytes.
-use Prim.Native.Nat.{ℕ, _+_, _-_}
+use Prim.Native.Nat.{ℕ, _+_, _-_, min}
 use mathlib.Core.List.{List}
 use lib.Dec.{eqb}
-use Rattle.wire.specs.Pick.{pick, least, roundUp}
+use Rattle.wire.specs.Pick.{pick, roundUp}
 use Rattle.wire.specs.Bytes.{byteAt, numberAt, u16At, part}
 use Rattle.wire.specs.Items.{advance}
 use Rattle.header.specs.declared.Element.{Element}
@@ -80,4 +80,4 @@ elementName s e = part s (element s e .name) (element s e .size)
 
 -- document 01, stage 3: at most the first 16 element entries are read
 unfoldable pub entriesRead : List ℕ → ℕ
-entriesRead s = least (elementCount s) 16
+entriesRead s = min (elementCount s) 16

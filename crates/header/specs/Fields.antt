@@ -1,9 +1,8 @@
 -- G Table 7, the fields of the header record at fixed places; the record starts at 16. A position is an offset of the
 -- table plus 16.
-use Prim.Native.Nat.{ℕ, _+_, _-_}
+use Prim.Native.Nat.{ℕ, _+_, _-_, min}
 use mathlib.Core.List.{List}
 use lib.ListN.{length}
-use Rattle.wire.specs.Pick.{least}
 use Rattle.wire.specs.Bytes.{byteAt, u32At, u64At}
 
 -- offset 0
@@ -73,4 +72,4 @@ headerEnd s = 16 + headerLength s
 -- where the header's checksum starts, its last four bytes, if the bytes hold the whole header; otherwise four before the
 -- bytes' end, which only bounds the reading
 unfoldable pub headerLimit : List ℕ → ℕ
-headerLimit s = least (headerEnd s) (length s) - 4
+headerLimit s = min (headerEnd s) (length s) - 4

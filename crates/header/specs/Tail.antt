@@ -18,6 +18,6 @@ methodCount s = u32At s (methodsAt s)
 unfoldable pub productLabelAt : List ℕ → ℕ
 productLabelAt s = advance (stringEnd s) (headerLimit s) (methodCount s) (methodsAt s + 4)
 
--- behind the last field
+-- behind the last field, the eight reserved bytes
 unfoldable pub fieldsEnd : List ℕ → ℕ
 fieldsEnd s = stringEnd s (productLabelAt s) + 8

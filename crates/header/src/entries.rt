@@ -1,4 +1,5 @@
-// G Tables 5 and 8 to 12: strings and element entries.
+// G Tables 5 and 8 to 12: strings and element entries. A string has at most 2 + 65535 bytes, so an entry has at most 262200;
+// the bounds beside the equations say that positions stay far below 2^64.
 use crate::Element;
 use crate::fields;
 ghost use mathlib.Core.Path.{_≡_};
@@ -14,7 +15,7 @@ pub fn string_size(s: &[u8], at: usize) -> usize
     2 + wire::u16_at(s, at) as usize
 }
 
-// Where it ends.
+// Where the string at a position ends.
 fn string_end(s: &[u8], at: usize) -> usize
     requires { ⌜ at ≤ 9223372036856000000 ⌝ }
     ensures is { λ r. ⌜ r ≡ stringEnd (now (s .entry)) at ⌝ }
@@ -23,7 +24,7 @@ fn string_end(s: &[u8], at: usize) -> usize
     at + string_size(s, at)
 }
 
-// The size of the range and fill block of a type code.
+// The size of the range and fill block of an element of a type code.
 fn block_size(kind: u32) -> usize
     ensures is { λ r. ⌜ r ≡ blockSize kind ⌝ }
     ensures near { λ r. ⌜ r ≤ 32 ⌝ }
@@ -53,7 +54,7 @@ fn block_at(s: &[u8], at: usize) -> usize
     string_end(s, at + 8)
 }
 
-// Where its label stands.
+// Where the label of the entry at a position stands.
 fn label_at(s: &[u8], at: usize) -> usize
     requires { ⌜ at ≤ 9223372036855100000 ⌝ }
     ensures is { λ r. ⌜ r ≡ labelAt (now (s .entry)) at ⌝ }
@@ -64,7 +65,7 @@ fn label_at(s: &[u8], at: usize) -> usize
     (block + size + 3) / 4 * 4
 }
 
-// Where it ends.
+// Where the entry at a position ends.
 fn entry_end(s: &[u8], at: usize) -> usize
     requires { ⌜ at ≤ 9223372036855100000 ⌝ }
     ensures is { λ r. ⌜ r ≡ entryEnd (now (s .entry)) at ⌝ }
@@ -77,7 +78,7 @@ fn entry_end(s: &[u8], at: usize) -> usize
     at + (end - at + 3) / 4 * 4
 }
 
-// The bit pattern of its fill value.
+// The bit pattern of its fill value, of the entry at a position.
 fn fill_bits(s: &[u8], at: usize) -> u32
     requires { ⌜ at ≤ 9223372036855100000 ⌝ }
     ensures { λ r. ⌜ r ≡ fillBits (now (s .entry)) at ⌝ }
@@ -93,7 +94,7 @@ fn fill_bits(s: &[u8], at: usize) -> u32
     wire::u32_off(s, block, 8)
 }
 
-// Its specification.
+// The specification of the entry at a position.
 fn entry_at(s: &[u8], at: usize) -> Element
     requires { ⌜ at ≤ 9223372036855100000 ⌝ }
     ensures { λ r. ⌜ r ≡ entryAt (now (s .entry)) at ⌝ }

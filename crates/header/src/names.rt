@@ -77,7 +77,8 @@ pub fn identifier_at(s: &[u8], at: usize, n: usize, most: usize) -> bool
     is_identifier(wire::part_of(s, at, n), most)
 }
 
-// Whether two names are equal, each a slice with start and length.
+// Whether two names are equal, byte for byte, each a slice with start and length; a name that does not lie whole in its
+// slice is the empty one.
 pub fn same_name(s: &[u8], at: usize, n: usize, t: &[u8], place: usize, m: usize) -> bool
     ensures { λ r. ⌜ r ≡ sameBytes (part (now (s .entry)) at n) (part (now (t .entry)) place m) ⌝ }
 {

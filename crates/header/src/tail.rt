@@ -39,7 +39,7 @@ pub fn product_label_at(s: &[u8]) -> usize
     at
 }
 
-// Behind the last field.
+// Behind the last field, the eight reserved bytes.
 pub fn fields_end(s: &[u8]) -> usize
     ensures { λ r. ⌜ r ≡ fieldsEnd (now (s .entry)) ⌝ }
 {

@@ -1,12 +1,12 @@
 -- The chain of records as a list (document 01, stage 6: records follow the header without a gap up to the last byte).
-use Prim.Native.Nat.{ℕ, zero, suc, _+_, _≤_, _<_}
+use Prim.Native.Nat.{ℕ, zero, suc, _+_}
 use mathlib.Core.Path.{_≡_}
 use mathlib.Core.List.{List, [], _∷_, _++_}
 use mathlib.Core.Bool.{Bool, true, false, not}
 use lib.ListN.{length}
 use lib.Dec.{leb}
 use Rattle.wire.specs.Pick.{pick}
-use Rattle.record.specs.Record.{lengthAt, typeAt, recordOk}
+use Rattle.record.specs.Record.{lengthAt, recordOk}
 use Rattle.record.specs.declared.Found.{Found}
 use Rattle.record.specs.declared.Found.the-variants.{At, Nothing}
 

@@ -1,13 +1,12 @@
 -- Document 01, stage 6; G 3.3 and Table 1: what a record is, and what a cursor finds.
 use Prim.Native.Nat.{ℕ, _+_, _%_}
 use mathlib.Core.List.{List, [], _∷_}
-use mathlib.Core.Bool.{Bool, true, false}
+use mathlib.Core.Bool.{Bool}
 use lib.ListN.{length}
 use lib.Dec.{leb}
 use Rattle.wire.specs.Pick.{pick}
 use Rattle.wire.specs.Tests.{_≤?_, _≡?_, passes}
 use Rattle.wire.specs.Bytes.{byteAt, u32At, largestInteger}
-use Rattle.record.specs.declared.Cursor.{Cursor}
 use Rattle.record.specs.declared.Step.{Step}
 use Rattle.record.specs.declared.Step.the-variants.{Record, Bad, End}
 

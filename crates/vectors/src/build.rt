@@ -1,6 +1,5 @@
 // Builds header files in a buffer.
 use wire::writing;
-ghost use Prim.Native.Nat.{_<_};
 
 // A sum that cannot pass the buffers used here.
 pub fn plus(a: usize, b: usize) -> usize {
@@ -118,16 +117,9 @@ pub fn put_number(out: &mut [u8], at: usize, width: u64, v: u64) {
     }
 }
 
-// The place behind a row of a table.
-pub fn next(i: usize, width: usize) -> usize
-    requires { ⌜ i < 9223372036854775808 ⌝ }
-    ensures { λ r. ⌜ i < r ⌝ }
-{
-    if width < 1 {
-        return i + 1;
+// The same, but nothing where the place is 0.
+pub fn put_unless_zero(out: &mut [u8], at: usize, width: u64, v: u64) {
+    if at != 0 {
+        put_number(out, at, width, v);
     }
-    if 64 < width {
-        return i + 64;
-    }
-    i + width
 }

@@ -1,167 +1,178 @@
-// Header files, built and checked, a row of a table each: the row, a colon, the verdict's number and place.
+// Header files, built and checked: what is done to a good file, and the verdict's number and place.
 use crate::build;
 use crate::show;
 use crate::tables;
-use wire::writing;
 
-// The number d behind a place of a table, 0 past its end.
-fn get(rows: &[u64], i: usize, d: usize) -> u64 {
-    if i < rows.len() {
-        if d < rows.len() - i {
-            return rows[i + d];
-        }
-    }
-    0
-}
-
-// The same as a position or a size.
-fn size(rows: &[u64], i: usize, d: usize) -> usize {
-    (get(rows, i, d) % 65536) as usize
+// A number as a position or a size.
+fn size(n: u64) -> usize {
+    (n % 65536) as usize
 }
 
 // A good file with the two puts of a row.
-fn two_puts(rows: &[u64], i: usize) {
+fn two_puts(r: [u64; 6]) {
     let mut file = [0u8; 512];
     let n = build::header(&mut file, 1, 3, 5, 3);
-    build::put_number(
-        &mut file,
-        size(rows, i, 0),
-        get(rows, i, 1),
-        get(rows, i, 2),
-    );
-    build::put_number(
-        &mut file,
-        size(rows, i, 3),
-        get(rows, i, 4),
-        get(rows, i, 5),
-    );
+    build::put_number(&mut file, size(r[0]), r[1], r[2]);
+    build::put_number(&mut file, size(r[3]), r[4], r[5]);
     show::check(&file, n, n);
 }
 
-// The first bytes of a good file.
-fn cut(rows: &[u64], i: usize) {
+// A number of 8 bytes at 112, of 1 byte elsewhere.
+fn width_at(at: u64) -> u64 {
+    if at == 112 { 8 } else { 1 }
+}
+
+// A file of several elements, as a row says.
+fn several(r: [u64; 6]) {
+    let mut file = [0u8; 1024];
+    let n = build::header(&mut file, (r[0] % 64) as u32, 0, size(r[2]), 0);
+    build::put_number(&mut file, 280, 4, r[1]);
+    build::put_length(&mut file, build::minus(n, size(r[3])));
+    build::put_unless_zero(&mut file, size(r[4]), width_at(r[4]), r[5]);
+    show::check(&file, n, n);
+}
+
+// A row's numbers.
+fn row(r: [u64; 6]) {
+    show::three(r[0], r[1], r[2]);
+    show::three(r[3], r[4], r[5]);
+}
+
+fn one(are_puts: bool, r: [u64; 6]) {
+    if are_puts {
+        show::text(b"put ");
+        row(r);
+        two_puts(r);
+        return;
+    }
+    show::text(b"elements ");
+    row(r);
+    several(r);
+}
+
+// Each row of a table, of puts or of elements.
+fn each(are_puts: bool, rows: &[[u64; 6]]) {
+    let mut i = 0;
+    while i < rows.len() {
+        let r = rows[i];
+        one(are_puts, r);
+        i += 1;
+    }
+}
+
+// The first n bytes of a good file alone.
+fn cut(n: u64) {
     let mut file = [0u8; 512];
     build::header(&mut file, 1, 3, 5, 3);
-    let n = size(rows, i, 0);
-    show::check(&file, n, n);
+    show::text(b"first ");
+    show::spaced(n);
+    show::check(&file, size(n), size(n));
 }
 
-// A good file of some length that is stated.
-fn stated(rows: &[u64], i: usize) {
+fn cuts() {
+    cut(0);
+    cut(11);
+    cut(15);
+    cut(16);
+    cut(20);
+    cut(23);
+    cut(24);
+    cut(343);
+    cut(344);
+}
+
+// A good file's header, of a file that is said to be so long.
+fn stated(length: u32) {
     let mut file = [0u8; 512];
     let n = build::header(&mut file, 1, 3, 5, 3);
-    show::check(&file, n, (get(rows, i, 0) % 4294967296) as usize);
+    show::text(b"stated ");
+    show::spaced(length as u64);
+    show::check(&file, n, length as usize);
 }
 
-// A good file with a product label of some length, its header said to be longer or shorter, and eight bytes behind it.
-fn resized(rows: &[u64], i: usize) {
+fn stated_lengths() {
+    stated(15);
+    stated(343);
+    stated(344);
+    stated(16777216);
+    stated(16777217);
+}
+
+// A product label of some length, the header said to be longer or shorter, and eight bytes behind it.
+fn resized(label: u64, more: u64, less: u64) {
     let mut file = [0u8; 512];
-    let n = build::header(&mut file, 1, 3, 5, size(rows, i, 0));
-    let end = build::plus(n, size(rows, i, 1));
-    build::put_length(&mut file, build::minus(end, size(rows, i, 2)));
+    let n = build::header(&mut file, 1, 3, 5, size(label));
+    let end = build::plus(n, size(more));
+    build::put_length(&mut file, build::minus(end, size(less)));
     let m = build::plus(n, 8);
+    show::text(b"length ");
+    show::three(label, more, less);
     show::check(&file, m, m);
 }
 
-// A file of several elements.
-fn several(rows: &[u64], i: usize) {
-    let mut file = [0u8; 1024];
-    let n = build::header(
-        &mut file,
-        (get(rows, i, 0) % 64) as u32,
-        0,
-        size(rows, i, 2),
-        0,
-    );
-    build::put_number(&mut file, 280, 4, get(rows, i, 1));
-    build::put_length(&mut file, build::minus(n, size(rows, i, 3)));
-    build::put_number(
-        &mut file,
-        size(rows, i, 4),
-        get(rows, i, 5),
-        get(rows, i, 6),
-    );
-    build::put_number(&mut file, 112, 8, get(rows, i, 7));
-    show::check(&file, n, n);
+// Not a multiple of 8; padding of 0, 7, 8 and 15 bytes; no room for the last field.
+fn lengths() {
+    resized(3, 4, 0);
+    resized(6, 0, 0);
+    resized(7, 0, 0);
+    resized(6, 8, 0);
+    resized(7, 8, 0);
+    resized(6, 0, 8);
 }
 
-// Two elements of a type, with names of a size: the verdict, both fills, and where each entry ends.
-fn aligned(rows: &[u64], i: usize) {
+// Two elements of a type, with names of a size: the verdict, and what is read of each.
+fn aligned(kind: u32, name: u64) {
     let mut file = [0u8; 512];
-    let n = build::header(
-        &mut file,
-        2,
-        (get(rows, i, 0) % 4) as u32,
-        size(rows, i, 1),
-        0,
-    );
+    let n = build::header(&mut file, 2, kind, size(name), 0);
+    show::text(b"aligned ");
+    show::spaced(kind as u64);
+    show::spaced(name);
     show::check(&file, n, n);
     show::element(header::entries::element(&file, 0));
     show::element(header::entries::element(&file, 1));
 }
 
-// A front, with a number of eight bytes put at a place, and bytes more or fewer.
-fn front(rows: &[u64], i: usize) {
+// Names of each size modulo 4, and of the largest.
+fn alignments(kind: u32) {
+    aligned(kind, 1);
+    aligned(kind, 2);
+    aligned(kind, 3);
+    aligned(kind, 4);
+    aligned(kind, 32);
+}
+
+// A front of some elements, with a time opened, and bytes more or fewer.
+fn front(count: u32, opened: u64, more: u64, less: u64) {
     let mut file = [0u8; 1024];
-    let n = build::header(&mut file, (get(rows, i, 0) % 64) as u32, 0, 1, 0);
-    build::put_number(&mut file, 48, 8, get(rows, i, 1));
-    show::front(
-        &file,
-        build::minus(build::plus(n, size(rows, i, 2)), size(rows, i, 3)),
-    );
+    let n = build::header(&mut file, count, 0, 1, 0);
+    build::put_number(&mut file, 48, 8, opened);
+    show::text(b"front ");
+    show::spaced(count as u64);
+    show::three(opened, more, less);
+    show::front(&file, build::minus(build::plus(n, size(more)), size(less)));
 }
 
-// What a table's rows are.
-pub enum Rows {
-    TwoPuts,
-    Cuts,
-    Stated,
-    Lengths,
-    Several,
-    Aligned,
-    Fronts,
-}
-
-fn one(what: Rows, rows: &[u64], i: usize) {
-    match what {
-        Rows::TwoPuts => two_puts(rows, i),
-        Rows::Cuts => cut(rows, i),
-        Rows::Stated => stated(rows, i),
-        Rows::Lengths => resized(rows, i),
-        Rows::Several => several(rows, i),
-        Rows::Aligned => aligned(rows, i),
-        Rows::Fronts => front(rows, i),
-    }
-}
-
-// The numbers of a row.
-fn numbers(rows: &[u64], i: usize, width: usize) {
-    let mut k = 0;
-    while k < width {
-        show::number(get(rows, i, k));
-        show::text(b" ");
-        k += 1;
-    }
-}
-
-// Each row of a table, of so many numbers.
-fn each(title: &[u8], what: Rows, rows: &[u64], width: usize) {
-    let mut i = 0;
-    while i < rows.len() {
-        show::text(title);
-        numbers(rows, i, width);
-        one(what, rows, i);
-        i = build::next(i, width);
-    }
+// A front, and one that is opened: accepted; longer, shorter: 3; 17 elements: 4, longer too: 3.
+fn fronts() {
+    front(1, 0, 0, 0);
+    front(1, 1, 0, 0);
+    front(1, 0, 1, 0);
+    front(1, 0, 8, 0);
+    front(1, 0, 0, 1);
+    front(17, 0, 0, 0);
+    front(17, 0, 8, 0);
 }
 
 pub fn run() {
-    each(b"put ", Rows::TwoPuts, &tables::REFUSED, 6);
-    each(b"put ", Rows::TwoPuts, &tables::ALLOWED, 6);
-    each(b"first ", Rows::Cuts, &tables::CUTS, 1);
-    each(b"stated ", Rows::Stated, &tables::STATED, 1);
-    each(b"length ", Rows::Lengths, &tables::LENGTHS, 3);
-    each(b"elements ", Rows::Several, &tables::ELEMENTS, 8);
-    each(b"aligned ", Rows::Aligned, &tables::ALIGNED, 2);
-    each(b"front ", Rows::Fronts, &tables::FRONTS, 4);
+    each(true, &tables::REFUSED);
+    each(true, &tables::ALLOWED);
+    each(false, &tables::ELEMENTS);
+    cuts();
+    stated_lengths();
+    lengths();
+    alignments(0);
+    alignments(1);
+    alignments(2);
+    alignments(3);
+    fronts();
 }

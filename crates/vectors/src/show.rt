@@ -8,6 +8,18 @@ pub fn number(n: u64) {
     io::print_decimal(1, n);
 }
 
+// A number and a space.
+pub fn spaced(n: u64) {
+    number(n);
+    text(b" ");
+}
+
+pub fn three(a: u64, b: u64, c: u64) {
+    spaced(a);
+    spaced(b);
+    spaced(c);
+}
+
 // A number in hexadecimal, and the end of the line.
 pub fn hex(n: u32) {
     io::print_hex(1, n as u64, 8);

@@ -6,7 +6,7 @@ fn one(kind: u32, bits: u32) {
     show::text(b"value ");
     show::number(kind as u64);
     show::text(b" ");
-    show::number(answer::value_kind(v) as u64);
+    show::number(answer::value_type(v) as u64);
     show::text(b" ");
     show::hex(answer::value_bits(v));
 }

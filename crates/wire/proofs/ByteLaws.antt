@@ -1,21 +1,20 @@
 -- Parts of a list and the numbers that stand in it. Assumes nothing.
-use Prim.Native.Nat.{ℕ, zero, suc, _+_, _*_, _/_, _%_, _^_, _-_, _≤_, _<_}
+use Prim.Native.Nat.{ℕ, min, zero, suc, _+_, _*_, _/_, _%_, _^_, _-_, _≤_, _<_}
 use mathlib.Core.Path.{_≡_, refl, sym, ap, _∙_}
 use mathlib.Core.List.{List, [], _∷_, _++_}
 use mathlib.Core.Bool.{Bool, true, false}
 use native.Mathlib.Omega.{arith}
 use native.Mathlib.Numerals.{add-one}
-use native.Mathlib.Nat.{pow-suc, mul-assoc, mul-comm, add-assoc, mul-add, mod-eq-of-lt, zero-add}
+use native.Mathlib.Nat.{pow-suc, mul-assoc, mul-comm}
 use mathlib.Core.Logic.{_⊎_, inl, inr, by-cases}
 use native.Mathlib.Decide.{decLe}
 use lib.ListN.{length, getD, take, drop, length-append, length-take, length-drop, List·getD-eq-default, drop-of-length-le}
 use lib.Seq.{drop-append-add, drop-append-le, take-append-le, getD-take, getD-drop, ext-getD, take-add, drop-drop, length-take-le, drop-cons, take-all}
-use lib.Dec.{leb, eqb}
+use lib.Dec.{eqb}
 use borrow.Author.Tests.{le-leb, lt-leb, eqb-true, eq-eqb, ne-eqb}
-use Rattle.wire.specs.Pick.{pick}
 use Rattle.wire.specs.Tests.{both}
-use Rattle.wire.specs.Bytes.{byteAt, part, number, numberAt, placeOf, bytesOf, sameBytes, Same}
-use Rattle.wire.proofs.TestLaws.{not-both, no-true, least-left, least-right}
+use Rattle.wire.specs.Bytes.{byteAt, part, number, numberAt, partAt, bytesOf, sameBytes}
+use Rattle.wire.proofs.TestLaws.{not-both, no-true}
 
 -- bytes
 
@@ -44,6 +43,16 @@ module _ (s : List ℕ) (at n : ℕ) where
   pub part-at : at + n ≤ length s → (i : ℕ) → i < n → getD (part s at n) i 0 ≡ byteAt s (at + i)
   unfolding byteAt
   part-at h i k = rw (part-in h, getD-take, getD-drop)
+
+-- where it starts, in a slice that starts at p
+
+pub offset-in : (s : List ℕ) (at n p : ℕ) → at + n ≤ length s → at + p ≡ p + partAt s at n
+unfolding partAt
+offset-in s at n p h = rw (le-leb (at + n) (length s) h) (omega arith)
+
+pub offset-out : (s : List ℕ) (at n p : ℕ) → length s < at + n → p ≡ p + partAt s at n
+unfolding partAt
+offset-out s at n p h = rw (lt-leb (at + n) (length s) h) (omega arith)
 
 -- as a slice is lent by its start and its end
 pub part-lent : (s : List ℕ) (at n : ℕ) → at + n ≤ length s → take (at + n - at) (drop at s) ≡ part s at n
@@ -74,6 +83,12 @@ part-before s b at n h =
     let k : at + n ≤ length (s ++ b) = simp length-append (omega arith) in
     let i : n ≤ length (drop at s) = simp length-drop (omega arith) in
     part-in (s ++ b) at n k ∙ rw (drop-append-le at s b (omega arith), take-append-le n (drop at s) b i) (sym (part-in s at n h))
+
+-- the bytes of s and t from a up to b are there and are the same
+pub record Same (s t : List ℕ) (a b : ℕ) : Type 0 where
+  pub in-first : b ≤ length s
+  pub in-second : b ≤ length t
+  pub each : (i : ℕ) → a ≤ i → i < b → byteAt s i ≡ byteAt t i
 
 -- a part depends only on its bytes
 pub part-same : {s t : List ℕ} {a b : ℕ} → Same s t a b → (at n : ℕ) → a ≤ at → at + n ≤ b → part s at n ≡ part t at n
@@ -196,25 +211,15 @@ same-self (z ∷ zs) = rw (eq-eqb z z refl) (same-self zs)
 pub is-same : (x y : List ℕ) → x ≡ y → sameBytes x y ≡ true
 is-same x y e = rw e (same-self y)
 
--- a position that is kept within the list reads as the position itself
+-- a position that is clipped to the list's end reads as the position itself
 
-pub place-in : (s : List ℕ) (at : ℕ) → at ≤ length s → at ≡ placeOf s at
-unfolding placeOf
-place-in s at h = sym (least-left at (length s) h)
+pub clipped-number : (w : ℕ) (s : List ℕ) (at p : ℕ) → 0 < w → p ≡ min at (length s) → numberAt w s p ≡ numberAt w s at
+clipped-number w s at p h e =
+    by-cases (decLe at (length s)) (λ k. let f : p ≡ at = omega arith in rw f)
+    (λ n. let f : p ≡ length s = omega arith in rw f (sym (number-out w s (length s) (omega arith)) ∙ number-out w s at (omega arith)))
 
-pub place-past : (s : List ℕ) (at : ℕ) → length s ≤ at → length s ≡ placeOf s at
-unfolding placeOf
-place-past s at h = sym (least-right at (length s) h)
-
-pub place-number : (w : ℕ) (s : List ℕ) (at p : ℕ) → 0 < w → p ≡ placeOf s at → numberAt w s p ≡ numberAt w s at
-place-number w s at p h e =
-    by-cases (decLe at (length s)) (λ k. rw (e, ← place-in s at k))
-    (λ n.
-    let k : length s ≤ at = omega arith in
-    rw (e, ← place-past s at k) (sym (number-out w s (length s) (omega arith)) ∙ number-out w s at (omega arith)))
-
-pub place-byte : (s : List ℕ) (at p : ℕ) → p ≡ placeOf s at → byteAt s p ≡ byteAt s at
-place-byte s at p e = number-one s p ∙ place-number 1 s at p (omega arith) e ∙ sym (number-one s at)
+pub clipped-byte : (s : List ℕ) (at p : ℕ) → p ≡ min at (length s) → byteAt s p ≡ byteAt s at
+clipped-byte s at p e = number-one s p ∙ clipped-number 1 s at p (omega arith) e ∙ sym (number-one s at)
 
 -- the loop of a comparison: what is still to compare
 

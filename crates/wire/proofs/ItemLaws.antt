@@ -1,5 +1,5 @@
 -- Items one behind the other. Assumes nothing.
-use Prim.Native.Nat.{ℕ, zero, suc, _+_, _≤_, _<_}
+use Prim.Native.Nat.{ℕ, zero, suc, _+_, _-_, _≤_, _<_}
 use mathlib.Core.Path.{_≡_, refl, sym, ap, _∙_}
 use mathlib.Core.Bool.{Bool, true, false}
 use native.Mathlib.Omega.{arith}
@@ -89,3 +89,19 @@ module _ (next : ℕ → ℕ) (limit : ℕ) (grows : (at : ℕ) → at ≤ next 
   advance-mono j (suc d) at =
       let e : j + suc d ≡ j + d + 1 = omega arith in
       rw e (omega (arith, advance-mono j d at, advance-further (j + d) at))
+
+-- a loop over items of which so many are left
+
+module _ (next : ℕ → ℕ) (limit left at : ℕ) where
+  pub items-step : (b x : ℕ) → advance next limit left at ≡ x → 0 < left → at ≤ limit → b ≡ next at → advance next limit (left - 1) b ≡ x
+  items-step b x e h k p =
+      let m : left ≡ left - 1 + 1 = omega arith in
+      rw p (sym (advance-step next limit (left - 1) at k) ∙ ap (λ (n : ℕ). advance next limit n at) (sym m) ∙ e)
+
+  pub items-stop : (x : ℕ) → advance next limit left at ≡ x → limit < at → at ≡ x
+  items-stop x e h = sym (advance-stop next limit left at h) ∙ e
+
+  pub items-end : (x : ℕ) → advance next limit left at ≡ x → left ≤ 0 → at ≡ x
+  items-end x e h =
+      let z : left ≡ 0 = omega arith in
+      sym (advance-none next limit at) ∙ ap (λ (n : ℕ). advance next limit n at) (sym z) ∙ e

@@ -1,14 +1,14 @@
 -- Bytes put into a list. Assumes nothing.
-use Prim.Native.Nat.{ℕ, zero, suc, _+_, _*_, _/_, _%_, _^_, _-_, _≤_, _<_}
+use Prim.Native.Nat.{ℕ, zero, suc, _+_, _*_, _/_, _%_, _^_, _≤_, _<_}
 use mathlib.Core.Logic.{by-cases}
 use native.Mathlib.Decide.{decLe}
 use native.Mathlib.Omega.{arith}
 use native.Mathlib.Numerals.{add-one}
-use native.Mathlib.Nat.{pow-suc, mod-add-div, mul-assoc, div-div-eq-div-mul, mul-comm, add-zero}
+use native.Mathlib.Nat.{pow-suc, mod-add-div, mul-assoc, div-div-eq-div-mul, mul-comm}
 use mathlib.Core.Path.{_≡_, refl, sym, ap, ap₂, _∙_}
 use mathlib.Core.List.{List, [], _∷_, _++_, append-assoc}
 use lib.ListN.{length, take, drop, set, getD, length-append, length-take, length-drop}
-use lib.Seq.{sets, sets-eq, take-at, drop-at, drop-append-add, drop-drop, paste, paste-zero, paste-suc, take-length, set-split, set-out}
+use lib.Seq.{take-at, drop-append-add, drop-drop, paste, paste-zero, paste-suc, take-length, set-split}
 use borrow.Author.Tests.{le-leb, lt-leb}
 use Rattle.wire.specs.Bytes.{put, bytesOf}
 use Rattle.wire.proofs.ByteLaws.{bytes-length}

@@ -1,13 +1,12 @@
 -- A list of tests passes just where what it says holds; a rule below a number, a test at a time. Assumes nothing.
 use Prim.Native.Nat.{ℕ, zero, suc, _+_, _≤_, _<_}
-use mathlib.Core.Path.{_≡_, refl, sym, ap, _∙_}
+use mathlib.Core.Path.{_≡_, refl, sym, _∙_}
 use mathlib.Core.List.{List, [], _∷_}
-use mathlib.Core.Bool.{Bool, true, false, not}
+use mathlib.Core.Bool.{Bool, true, false}
 use native.Mathlib.Omega.{arith}
 use native.Mathlib.Numerals.{add-one}
-use lib.Dec.{leb, eqb}
-use borrow.Author.Tests.{leb-true, leb-false, eqb-true, eqb-false, le-leb, lt-leb, eq-eqb, ne-eqb, not-true}
-use Rattle.wire.specs.Pick.{pick, least}
+use lib.Dec.{eqb}
+use borrow.Author.Tests.{leb-true, eqb-true, eqb-false, le-leb, eq-eqb, ne-eqb, not-true}
 use Rattle.wire.specs.Tests.{Test, _≤?_, _≡?_, _≢?_, is, isNot, test, both, passes, Says, Holds, allBelow, sumBelow}
 
 pub not-both : {C : Type 0} {b : Bool} → b ≡ true → b ≡ false → C
@@ -63,33 +62,6 @@ pub iff : (a b : Bool) → (a ≡ true → b ≡ true) → (b ≡ true → a ≡
 iff true b f g = sym (f refl)
 iff false b f g = no-true b (λ e. not-both (g e) refl)
 
-pub pick-true : {A : Type 0} (b : Bool) (x y : A) → b ≡ true → x ≡ pick b x y
-pick-true b x y e = rw e
-
-pub pick-false : {A : Type 0} (b : Bool) (x y : A) → b ≡ false → y ≡ pick b x y
-pick-false b x y e = rw e
-
--- the lesser
-pub least-left : (a b : ℕ) → a ≤ b → least a b ≡ a
-unfolding least
-least-left a b h = rw (le-leb a b h)
-
-pub least-right : (a b : ℕ) → b ≤ a → least a b ≡ b
-unfolding least
-least-right a b h = go (leb a b) refl
-  where
-    go : (t : Bool) → leb a b ≡ t → pick (leb a b) a b ≡ b
-    go true e = rw e (let k : a ≤ b = leb-true a b e in omega arith)
-    go false e = rw e
-
-pub least-most : (a b : ℕ) → (least a b ≤ a) × (least a b ≤ b)
-unfolding least
-least-most a b = go (leb a b) refl
-  where
-    go : (t : Bool) → leb a b ≡ t → (pick (leb a b) a b ≤ a) × (pick (leb a b) a b ≤ b)
-    go true e = rw e (let k : a ≤ b = leb-true a b e in (omega arith, omega arith))
-    go false e = rw e (let k : b < a = leb-false a b e in (omega arith, omega arith))
-
 -- a rule of every number below n
 
 pub below-none : (p : ℕ → Bool) → allBelow 0 p ≡ true
@@ -141,3 +113,15 @@ pub sum-same : (n : ℕ) (f g : ℕ → ℕ) → ((i : ℕ) → i < n → f i �
 unfolding sumBelow
 sum-same zero f g e = refl
 sum-same (suc n) f g e = rw (sum-same n f g (λ i h. e i (omega arith)), e n (omega arith))
+
+-- a loop over every number below n
+
+module _ (n i : ℕ) (p : ℕ → Bool) (r : Bool) (h : i < n) (q : r ≡ p i) where
+  pub each-more : allBelow i p ≡ true → r ≡ true → allBelow (i + 1) p ≡ true
+  each-more e f = below-more i p e (sym q ∙ f)
+
+  pub each-not : r ≡ false → false ≡ allBelow n p
+  each-not f = below-not n p i h (sym q ∙ f)
+
+pub each-all : (n i : ℕ) (p : ℕ → Bool) → allBelow i p ≡ true → i ≤ n → n ≤ i → true ≡ allBelow n p
+each-all n i p e h k = let m : n ≡ i = omega arith in rw m (sym e)

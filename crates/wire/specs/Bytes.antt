@@ -1,12 +1,11 @@
 -- A file is a list of bytes, and a position counts from 0. Numbers are little-endian (G 4.1.1).
 -- Reading is total: what does not lie whole in the list reads as nothing, and as the number 0.
-use Prim.Native.Nat.{ℕ, zero, suc, _+_, _*_, _/_, _%_, _≤_, _<_}
-use mathlib.Core.Path.{_≡_}
+use Prim.Native.Nat.{ℕ, zero, suc, _+_, _*_, _/_, _%_}
 use mathlib.Core.List.{List, [], _∷_, _++_}
 use mathlib.Core.Bool.{Bool, true, false}
 use lib.ListN.{length, getD, take, drop}
 use lib.Dec.{leb, eqb}
-use Rattle.wire.specs.Pick.{pick, least}
+use Rattle.wire.specs.Pick.{pick}
 use Rattle.wire.specs.Tests.{both}
 
 -- the byte at a position, 0 past the end
@@ -45,10 +44,6 @@ unfoldable pub bytesOf : ℕ → ℕ → List ℕ
 bytesOf zero v = []
 bytesOf (suc w) v = v % 256 ∷ bytesOf w (v / 256)
 
--- a position, or the list's end where that comes first
-unfoldable pub placeOf : List ℕ → ℕ → ℕ
-placeOf s at = least at (length s)
-
 -- whether two lists of bytes are equal
 unfoldable pub sameBytes : List ℕ → List ℕ → Bool
 sameBytes [] [] = true
@@ -60,8 +55,6 @@ sameBytes (x ∷ xs) (y ∷ ys) = both (eqb x y) (sameBytes xs ys)
 unfoldable pub put : List ℕ → ℕ → List ℕ → List ℕ
 put d at v = pick (leb (at + length v) (length d)) (take at d ++ v ++ drop (at + length v) d) d
 
--- the bytes of s and t from a up to b are there and are the same
-pub record Same (s t : List ℕ) (a b : ℕ) : Type 0 where
-  pub in-first : b ≤ length s
-  pub in-second : b ≤ length t
-  pub each : (i : ℕ) → a ≤ i → i < b → byteAt s i ≡ byteAt t i
+-- where a part starts in s: at its position, and at 0 where it is empty because it does not lie whole in s
+unfoldable pub partAt : List ℕ → ℕ → ℕ → ℕ
+partAt s at n = pick (leb (at + n) (length s)) at 0

@@ -2,8 +2,9 @@
 pub mod writing;
 
 ghost use mathlib.Core.Path.{_≡_};
-ghost use Prim.Native.Nat.{_+_, _<_};
-ghost use Rattle.wire.specs.Bytes.{byteAt, part, numberAt, placeOf, sameBytes};
+ghost use Prim.Native.Nat.{_+_, _<_, min};
+ghost use lib.ListN.{length};
+ghost use Rattle.wire.specs.Bytes.{byteAt, part, numberAt, partAt, sameBytes};
 
 // The byte at a position, 0 past the end.
 pub fn byte_at(s: &[u8], at: usize) -> u32
@@ -54,8 +55,8 @@ pub fn u64_at(s: &[u8], at: usize) -> u64
 }
 
 // The position d behind another, or the slice's end where that comes first.
-fn place(s: &[u8], at: usize, d: usize) -> usize
-    ensures { λ r. ⌜ r ≡ placeOf (now (s .entry)) (at + d) ⌝ }
+fn clipped(s: &[u8], at: usize, d: usize) -> usize
+    ensures { λ r. ⌜ r ≡ min (at + d) (length (now (s .entry))) ⌝ }
 {
     if s.len() <= at {
         return s.len();
@@ -71,31 +72,33 @@ pub fn byte_off(s: &[u8], at: usize, d: usize) -> u32
     ensures is { λ r. ⌜ r ≡ byteAt (now (s .entry)) (at + d) ⌝ }
     ensures small { λ r. ⌜ r < 256 ⌝ }
 {
-    byte_at(s, place(s, at, d))
+    byte_at(s, clipped(s, at, d))
 }
 
 pub fn u16_off(s: &[u8], at: usize, d: usize) -> u32
     ensures is { λ r. ⌜ r ≡ numberAt 2 (now (s .entry)) (at + d) ⌝ }
     ensures small { λ r. ⌜ r < 65536 ⌝ }
 {
-    u16_at(s, place(s, at, d))
+    u16_at(s, clipped(s, at, d))
 }
 
 pub fn u32_off(s: &[u8], at: usize, d: usize) -> u32
     ensures { λ r. ⌜ r ≡ numberAt 4 (now (s .entry)) (at + d) ⌝ }
 {
-    u32_at(s, place(s, at, d))
+    u32_at(s, clipped(s, at, d))
 }
 
 pub fn u64_off(s: &[u8], at: usize, d: usize) -> u64
     ensures { λ r. ⌜ r ≡ numberAt 8 (now (s .entry)) (at + d) ⌝ }
 {
-    u64_at(s, place(s, at, d))
+    u64_at(s, clipped(s, at, d))
 }
 
-// The n bytes from a position on, as a part of the slice; the empty part where they do not lie whole in it.
+// The n bytes from a position on, as that part of the slice itself; the empty part where they do not lie whole in it.
 pub fn part_of(s: &[u8], at: usize, n: usize) -> &[u8]
-    ensures { λ r. ⌜ now r ≡ part (now (s .entry)) at n ⌝ }
+    ensures holds { λ r. ⌜ now r ≡ part (now (s .entry)) at n ⌝ }
+    ensures block { λ r. ⌜ r .ptr .0 ≡ s .entry .ptr .0 ⌝ }
+    ensures offset { λ r. ⌜ r .ptr .1 ≡ s .entry .ptr .1 + partAt (now (s .entry)) at n ⌝ }
 {
     if s.len() < n {
         return &s[..0];

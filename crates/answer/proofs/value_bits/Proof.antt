@@ -1,6 +1,6 @@
+-- `answer::value_bits` meets its contract. Assumes nothing.
 use mir.Syntax.{w16, w32}
 use Rattle.answer.proofs.ValueLaws.{held}
--- `answer::value_bits` meets its contract. Assumes nothing.
 use borrow.Author.Needs.{needs}
 use Rattle.answer.proofs.value_bits.Statement.{statement}
 use Rattle.answer.proofs.value_bits.Tie as tie

@@ -1,7 +1,8 @@
+-- `wire::same_bytes` meets its contract. Assumes nothing.
 use borrow.Author.Needs.{needs}
 use native.Mathlib.Omega.{arith}
 use Prim.Native.Nat.{_≤_, _-_}
-use mathlib.Core.Path.{_≡_, refl, sym, _∙_}
+use mathlib.Core.Path.{_≡_, _∙_}
 use lib.ListN.{length}
 use Rattle.wire.specs.Bytes.{sameBytes}
 use Rattle.wire.proofs.ByteLaws.{sameFrom, from-start, from-other, from-more, from-end, other-length}

@@ -1,6 +1,6 @@
+-- `wire::u16_at` meets its contract. Assumes nothing.
 use Rattle.wire.proofs.ByteLaws.{byte-number}
-use Rattle.wire.proofs.ByteLaws.{number-out, number-split, number-one}
-use mathlib.Core.Path.{_∙_}
+use Rattle.wire.proofs.ByteLaws.{number-out, number-split}
 use native.Mathlib.Omega.{arith}
 use Rattle.wire.proofs.ByteLaws.{number-out, number-split}
 use borrow.Author.Needs.{needs}

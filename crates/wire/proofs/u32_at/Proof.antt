@@ -1,3 +1,4 @@
+-- `wire::u32_at` meets its contract. Assumes nothing.
 use native.Mathlib.Omega.{arith}
 use Rattle.wire.proofs.ByteLaws.{number-out, number-split}
 use borrow.Author.Needs.{needs}

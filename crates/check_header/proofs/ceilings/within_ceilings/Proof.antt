@@ -1,3 +1,4 @@
+-- `check_header::ceilings::within_ceilings` meets its contract. Assumes nothing.
 use native.Mathlib.Omega.{arith}
 use Rattle.wire.proofs.TestLaws.{no, yes, not-both}
 use Rattle.check_header.specs.Ceilings.{withinCeilings}

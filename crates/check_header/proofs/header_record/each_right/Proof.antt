@@ -1,12 +1,12 @@
+-- `check_header::header_record::each_right` meets its contract. Assumes nothing.
 use borrow.Author.Needs.{needs}
 use native.Mathlib.Omega.{arith}
 use Prim.Native.Nat.{_≤_, _-_}
 use mathlib.Core.Path.{_≡_}
 use mathlib.Core.Bool.{true}
 use Rattle.wire.specs.Tests.{allBelow}
-use Rattle.wire.proofs.TestLaws.{below-none}
+use Rattle.wire.proofs.TestLaws.{below-none, each-more, each-not, each-all}
 use Rattle.check_header.specs.HeaderRecord.{elementRight}
-use Rattle.check_header.proofs.HeaderLaws.{each-more, each-not, each-all}
 use Rattle.check_header.proofs.header_record.each_right.Statement.{statement}
 use Rattle.check_header.proofs.header_record.each_right.Tie as tie
 

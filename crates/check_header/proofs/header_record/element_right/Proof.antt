@@ -1,3 +1,4 @@
+-- `check_header::header_record::element_right` meets its contract. Assumes nothing.
 use Rattle.check_header.proofs.HeaderLaws.{kind-not, name-not, element-last}
 use borrow.Author.Needs.{needs}
 use Rattle.check_header.proofs.header_record.element_right.Statement.{statement}

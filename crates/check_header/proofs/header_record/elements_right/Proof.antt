@@ -1,3 +1,4 @@
+-- `check_header::header_record::elements_right` meets its contract. Assumes nothing.
 use Rattle.check_header.proofs.HeaderLaws.{count-not, entries-past, elements-last}
 use borrow.Author.Needs.{needs}
 use Rattle.check_header.proofs.header_record.elements_right.Statement.{statement}

@@ -1,3 +1,4 @@
+-- `check_header::header_record::frame_right` meets its contract. Assumes nothing.
 use native.Mathlib.Omega.{arith}
 use Rattle.wire.proofs.TestLaws.{no, yes, not-both}
 use Rattle.check_header.specs.HeaderRecord.{frameRight}

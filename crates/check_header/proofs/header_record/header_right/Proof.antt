@@ -1,3 +1,4 @@
+-- `check_header::header_record::header_right` meets its contract. Assumes nothing.
 use Rattle.check_header.proofs.HeaderLaws.{told}
 use Rattle.wire.proofs.TestLaws.{no, either-way, not-both}
 use Rattle.check_header.specs.HeaderRecord.{headerRight}

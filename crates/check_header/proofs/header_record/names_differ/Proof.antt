@@ -1,3 +1,4 @@
+-- `check_header::header_record::names_differ` meets its contract. Assumes nothing.
 use Rattle.check_header.proofs.HeaderLaws.{differ-not, differ-yes}
 use borrow.Author.Needs.{needs}
 use Rattle.check_header.proofs.header_record.names_differ.Statement.{statement}

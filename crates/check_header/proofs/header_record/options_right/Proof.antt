@@ -1,3 +1,4 @@
+-- `check_header::header_record::options_right` meets its contract. Assumes nothing.
 use native.Mathlib.Omega.{arith}
 use Rattle.wire.proofs.TestLaws.{no, yes}
 use Rattle.check_header.specs.HeaderRecord.{optionsRight}

@@ -1,3 +1,4 @@
+-- `check_header::header_record::sides_right` meets its contract. Assumes nothing.
 use Rattle.wire.proofs.TestLaws.{no, either-way, not-both}
 use Rattle.check_header.specs.HeaderRecord.{sidesRight}
 use borrow.Author.Needs.{needs}

@@ -1,3 +1,4 @@
+-- `check_header::header_record::tail_right` meets its contract. Assumes nothing.
 use Rattle.check_header.proofs.HeaderLaws.{tail-many, tail-methods, tail-past, tail-loose, tail-fits}
 use borrow.Author.Needs.{needs}
 use Rattle.check_header.proofs.header_record.tail_right.Statement.{statement}

@@ -1,3 +1,4 @@
+-- `check_header::identification::is_identified` meets its contract. Assumes nothing.
 use native.Mathlib.Omega.{arith}
 use Rattle.wire.proofs.TestLaws.{no}
 use Rattle.check_header.specs.Identification.{identified, mark}
@@ -15,4 +16,4 @@ is-identified-spec =
     (λ c κs. search needs)
     (λ c. search needs)
     (λ c κs. search needs)
-    (λ c. marked _ _ _ _ (omega arith) (c .before .before .part-of .ensures) (c .same-bytes .ensures)))
+    (λ c. marked _ _ _ _ (omega arith) (c .before .before .part-of .ensures .0) (c .same-bytes .ensures)))

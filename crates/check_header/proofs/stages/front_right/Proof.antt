@@ -1,3 +1,4 @@
+-- `check_header::stages::front_right` meets its contract. Assumes nothing.
 use native.Mathlib.Omega.{arith}
 use Rattle.wire.proofs.TestLaws.{no, yes, not-both}
 use Rattle.check_header.specs.Stages.{frontRight}

@@ -1,3 +1,4 @@
+-- `geometry::sizes::cell_offset` meets its contract. Assumes nothing.
 use native.Mathlib.Omega.{arith}
 use Rattle.geometry.specs.Sizes.{cellOffset}
 use Rattle.geometry.proofs.SizeLaws.{size-range}

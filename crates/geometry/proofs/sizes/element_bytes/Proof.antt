@@ -1,3 +1,4 @@
+-- `geometry::sizes::element_bytes` meets its contract. Assumes nothing.
 use Rattle.geometry.proofs.SizeLaws.{element-is}
 use borrow.Author.Needs.{needs}
 use Rattle.geometry.proofs.sizes.element_bytes.Statement.{statement}

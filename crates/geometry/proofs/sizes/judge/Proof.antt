@@ -1,3 +1,4 @@
+-- `geometry::sizes::judge` meets its contract. Assumes nothing.
 use borrow.Author.Needs.{needs}
 use Rattle.geometry.proofs.SizeLaws.{judge-zero, judge-whole, judge-less, judge-more}
 use Rattle.geometry.proofs.sizes.judge.Statement.{statement}

@@ -1,3 +1,4 @@
+-- `geometry::sizes::judge_element` meets its contract. Assumes nothing.
 use native.Mathlib.Omega.{arith}
 use Rattle.geometry.proofs.SizeLaws.{judge-element-is}
 use borrow.Author.Needs.{needs}

@@ -1,3 +1,4 @@
+-- `geometry::sizes::least_length` meets its contract. Assumes nothing.
 use Rattle.geometry.specs.Sizes.{leastLength}
 use mathlib.Core.Path.{refl}
 use borrow.Author.Needs.{needs}

@@ -1,3 +1,4 @@
+-- `geometry::sizes::stored_size` meets its contract. Assumes nothing.
 use Rattle.geometry.specs.Sizes.{storedSize}
 use mathlib.Core.Path.{refl}
 use borrow.Author.Needs.{needs}

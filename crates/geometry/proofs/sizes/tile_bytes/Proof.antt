@@ -1,19 +1,18 @@
+-- `geometry::sizes::tile_bytes` meets its contract. Assumes nothing.
 use Rattle.geometry.proofs.SizeLaws.{under}
 use borrow.Author.Needs.{needs}
 use native.Mathlib.Omega.{arith}
-use Prim.Native.Nat.{_≤_, _-_}
-use mathlib.Core.Path.{_≡_, refl, sym, _∙_}
-use Rattle.wire.specs.Pick.{least}
+use Prim.Native.Nat.{_≤_, _-_, min}
+use mathlib.Core.Path.{_≡_}
 use Rattle.wire.specs.Tests.{sumBelow}
-use Rattle.wire.proofs.TestLaws.{least-most}
 use Rattle.header.specs.Element.{entriesRead}
-use Rattle.geometry.specs.Sizes.{elementBytes}
-use Rattle.geometry.proofs.SizeLaws.{cap, sum-begin, sum-step, tile-bytes-is}
+use Rattle.geometry.specs.Sizes.{elementBytes, cap}
+use Rattle.geometry.proofs.SizeLaws.{sum-begin, sum-step, tile-bytes-is}
 use Rattle.geometry.proofs.sizes.tile_bytes.Statement.{statement}
 use Rattle.geometry.proofs.sizes.tile_bytes.Tie as tie
 
 abbrev Inv-loop : tie.InvT-loop
-Inv-loop s n sum₀ e₀ sum e = (e ≤ n) × ((n ≡ entriesRead s) × (sum ≡ least (sumBelow e (elementBytes s)) cap))
+Inv-loop s n sum₀ e₀ sum e = (e ≤ n) × ((n ≡ entriesRead s) × (sum ≡ min (sumBelow e (elementBytes s)) cap))
 
 abbrev μ-loop : tie.MeasureT-loop
 μ-loop s n sum₀ e₀ sum e = n - e

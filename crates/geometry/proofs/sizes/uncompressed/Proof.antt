@@ -1,3 +1,4 @@
+-- `geometry::sizes::uncompressed` meets its contract. Assumes nothing.
 use native.Mathlib.Omega.{arith}
 use mathlib.Core.Path.{refl}
 use Rattle.geometry.proofs.SizeLaws.{capped-cells, capped-in, capped-past, cells-fit}

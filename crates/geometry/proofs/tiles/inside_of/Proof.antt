@@ -1,3 +1,4 @@
+-- `geometry::tiles::inside_of` meets its contract. Assumes nothing.
 use native.Mathlib.Omega.{arith}
 use Rattle.geometry.proofs.TileLaws.{product, inside-is}
 use borrow.Author.Needs.{needs}

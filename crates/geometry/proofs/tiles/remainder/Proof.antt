@@ -1,3 +1,4 @@
+-- `geometry::tiles::remainder` meets its contract. Assumes nothing.
 use native.Mathlib.Omega.{arith}
 use mathlib.Core.Path.{refl}
 use Rattle.geometry.proofs.TileLaws.{remainder-zero, remainder-small}

@@ -1,3 +1,4 @@
+-- `geometry::tiles::tile_of` meets its contract. Assumes nothing.
 use native.Mathlib.Omega.{arith}
 use Rattle.geometry.proofs.TileLaws.{product, tile-is}
 use borrow.Author.Needs.{needs}

@@ -1,3 +1,4 @@
+-- `geometry::tiles::tiles_along` meets its contract. Assumes nothing.
 use native.Mathlib.Omega.{arith}
 use Rattle.geometry.proofs.TileLaws.{along-zero, along-is, along-small}
 use borrow.Author.Needs.{needs}

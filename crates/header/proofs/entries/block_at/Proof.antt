@@ -1,3 +1,4 @@
+-- `header::entries::block_at` meets its contract. Assumes nothing.
 use native.Mathlib.Omega.{arith}
 use Rattle.header.specs.Element.{blockAt}
 use borrow.Author.Needs.{needs}

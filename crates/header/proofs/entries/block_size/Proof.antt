@@ -1,3 +1,4 @@
+-- `header::entries::block_size` meets its contract. Assumes nothing.
 use borrow.Author.Needs.{needs}
 use native.Mathlib.Omega.{arith}
 use Rattle.header.proofs.EntryLaws.{block-coded, block-other}
@@ -8,5 +9,5 @@ pub block-size-spec : {M : Type 1} → statement M
 block-size-spec =
     tie.close
     (tie.spec
-    (λ c. (search (needs, block-coded, block-other), omega arith))
-    (λ c. (search (needs, block-coded, block-other), omega arith)))
+    (λ c. (search (needs, block-coded), omega arith))
+    (λ c. (search (needs, block-other), omega arith)))

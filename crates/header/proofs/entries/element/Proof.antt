@@ -1,3 +1,4 @@
+-- `header::entries::element` meets its contract. Assumes nothing.
 use borrow.Author.Needs.{needs}
 use mathlib.Core.Path.{ap, _∙_}
 use Rattle.header.specs.Element.{entryAt, element}

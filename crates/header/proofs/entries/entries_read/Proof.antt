@@ -1,3 +1,4 @@
+-- `header::entries::entries_read` meets its contract. Assumes nothing.
 use native.Mathlib.Omega.{arith}
 use Rattle.header.proofs.EntryLaws.{read-all, read-some}
 use borrow.Author.Needs.{needs}

@@ -1,4 +1,4 @@
-use native.Mathlib.Omega.{arith}
+-- `header::entries::entry_at` meets its contract. Assumes nothing.
 use Rattle.header.proofs.EntryLaws.{entry-whole}
 use borrow.Author.Needs.{needs}
 use Rattle.header.proofs.entries.entry_at.Statement.{statement}

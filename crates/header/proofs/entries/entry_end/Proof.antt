@@ -1,3 +1,4 @@
+-- `header::entries::entry_end` meets its contract. Assumes nothing.
 use native.Mathlib.Omega.{arith}
 use Rattle.header.proofs.EntryLaws.{entry-is}
 use borrow.Author.Needs.{needs}

@@ -1,11 +1,12 @@
-use Rattle.header.proofs.EntryLaws.{items-step, items-stop, items-end, entries-begin}
+-- `header::entries::entry_start` meets its contract. Assumes nothing.
+use Rattle.wire.proofs.ItemLaws.{items-step, items-stop, items-end}
+use Rattle.header.proofs.EntryLaws.{entries-begin}
 use borrow.Author.Needs.{needs}
 use native.Mathlib.Omega.{arith}
-use Prim.Native.Nat.{_+_, _≤_, _-_}
-use mathlib.Core.Path.{_≡_, refl, sym, _∙_}
+use Prim.Native.Nat.{_+_, _≤_}
+use mathlib.Core.Path.{_≡_}
 use lib.ListN.{length}
 use Rattle.wire.specs.Items.{advance}
-use Rattle.header.specs.Fields.{headerLimit}
 use Rattle.header.specs.Element.{entryEnd, entryStart}
 use Rattle.header.proofs.entries.entry_start.Statement.{statement}
 use Rattle.header.proofs.entries.entry_start.Tie as tie

@@ -1,3 +1,4 @@
+-- `header::entries::fill_bits` meets its contract. Assumes nothing.
 use Rattle.header.proofs.EntryLaws.{fill-coded, fill-short, fill-other}
 use borrow.Author.Needs.{needs}
 use Rattle.header.proofs.entries.fill_bits.Statement.{statement}

@@ -1,3 +1,4 @@
+-- `header::entries::label_at` meets its contract. Assumes nothing.
 use native.Mathlib.Omega.{arith}
 use Rattle.header.proofs.EntryLaws.{label-is}
 use borrow.Author.Needs.{needs}

@@ -1,3 +1,4 @@
+-- `header::entries::string_end` meets its contract. Assumes nothing.
 use native.Mathlib.Omega.{arith}
 use Rattle.header.proofs.EntryLaws.{string-is}
 use borrow.Author.Needs.{needs}

@@ -1,3 +1,4 @@
+-- `header::entries::string_size` meets its contract. Assumes nothing.
 use native.Mathlib.Omega.{arith}
 use Rattle.header.proofs.EntryLaws.{size-is}
 use borrow.Author.Needs.{needs}

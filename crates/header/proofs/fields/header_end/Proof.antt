@@ -1,3 +1,4 @@
+-- `header::fields::header_end` meets its contract. Assumes nothing.
 use native.Mathlib.Omega.{arith}
 use Rattle.header.specs.Fields.{headerEnd}
 use borrow.Author.Needs.{needs}

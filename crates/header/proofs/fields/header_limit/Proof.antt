@@ -1,3 +1,4 @@
+-- `header::fields::header_limit` meets its contract. Assumes nothing.
 use native.Mathlib.Omega.{arith}
 use Rattle.header.proofs.EntryLaws.{limit-none, limit-end, limit-short, limit-room}
 use borrow.Author.Needs.{needs}

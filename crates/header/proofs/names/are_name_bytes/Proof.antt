@@ -1,7 +1,8 @@
+-- `header::names::are_name_bytes` meets its contract. Assumes nothing.
 use borrow.Author.Needs.{needs}
 use native.Mathlib.Omega.{arith}
 use Prim.Native.Nat.{_≤_, _-_}
-use mathlib.Core.Path.{_≡_, refl, sym, _∙_}
+use mathlib.Core.Path.{_≡_, _∙_}
 use lib.ListN.{length}
 use Rattle.header.specs.Names.{nameBytes}
 use Rattle.header.proofs.NameLaws.{nameFrom, from-start, from-more, from-not, from-end}

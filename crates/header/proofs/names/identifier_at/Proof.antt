@@ -1,3 +1,4 @@
+-- `header::names::identifier_at` meets its contract. Assumes nothing.
 use mathlib.Core.Path.{ap, _∙_}
 use Rattle.header.specs.Names.{identifier}
 use borrow.Author.Needs.{needs}
@@ -10,4 +11,4 @@ identifier-at-spec =
     (tie.spec
     (λ c κs. search needs)
     (λ c κs. search needs)
-    (λ c. c .is-identifier .ensures ∙ ap (identifier _) (c .before .part-of .ensures)))
+    (λ c. c .is-identifier .ensures ∙ ap (identifier _) (c .before .part-of .ensures .0)))

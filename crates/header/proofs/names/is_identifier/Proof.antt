@@ -1,3 +1,4 @@
+-- `header::names::is_identifier` meets its contract. Assumes nothing.
 use native.Mathlib.Omega.{arith}
 use Rattle.header.proofs.NameLaws.{identifier-empty, identifier-long, identifier-first, identifier-rest}
 use borrow.Author.Needs.{needs}

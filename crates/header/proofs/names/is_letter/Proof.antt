@@ -1,3 +1,4 @@
+-- `header::names::is_letter` meets its contract. Assumes nothing.
 use native.Mathlib.Omega.{arith}
 use Rattle.header.proofs.NameLaws.{letter-upper, letter-lower, letter-below, letter-between, letter-above}
 use Rattle.header.proofs.names.is_letter.Statement.{statement}

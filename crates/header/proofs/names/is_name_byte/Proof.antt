@@ -1,3 +1,4 @@
+-- `header::names::is_name_byte` meets its contract. Assumes nothing.
 use Rattle.header.proofs.NameLaws.{name-letter, name-underscore, name-digit, name-below, name-above}
 use borrow.Author.Needs.{needs}
 use Rattle.header.proofs.names.is_name_byte.Statement.{statement}

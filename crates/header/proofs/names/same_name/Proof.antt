@@ -1,3 +1,4 @@
+-- `header::names::same_name` meets its contract. Assumes nothing.
 use borrow.Author.Needs.{needs}
 use Rattle.header.proofs.names.same_name.Statement.{statement}
 use Rattle.header.proofs.names.same_name.Tie as tie

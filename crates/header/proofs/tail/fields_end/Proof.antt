@@ -1,3 +1,4 @@
+-- `header::tail::fields_end` meets its contract. Assumes nothing.
 use Rattle.header.proofs.EntryLaws.{fields-is}
 use borrow.Author.Needs.{needs}
 use Rattle.header.proofs.tail.fields_end.Statement.{statement}

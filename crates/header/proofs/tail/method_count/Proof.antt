@@ -1,3 +1,4 @@
+-- `header::tail::method_count` meets its contract. Assumes nothing.
 use borrow.Author.Needs.{needs}
 use mathlib.Core.Path.{ap, _∙_}
 use Rattle.wire.specs.Bytes.{u32At}

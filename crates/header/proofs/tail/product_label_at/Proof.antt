@@ -1,12 +1,14 @@
+-- `header::tail::product_label_at` meets its contract. Assumes nothing.
 use borrow.Author.Needs.{needs}
 use native.Mathlib.Omega.{arith}
-use Prim.Native.Nat.{_+_, _≤_, _-_}
-use mathlib.Core.Path.{_≡_, refl, sym, _∙_}
+use Prim.Native.Nat.{_+_, _≤_}
+use mathlib.Core.Path.{_≡_}
 use lib.ListN.{length}
 use Rattle.wire.specs.Items.{advance}
 use Rattle.header.specs.Element.{stringEnd}
 use Rattle.header.specs.Tail.{productLabelAt}
-use Rattle.header.proofs.EntryLaws.{strings-step, items-stop, items-end, methods-begin}
+use Rattle.wire.proofs.ItemLaws.{items-stop, items-end}
+use Rattle.header.proofs.EntryLaws.{strings-step, methods-begin}
 use Rattle.header.proofs.tail.product_label_at.Statement.{statement}
 use Rattle.header.proofs.tail.product_label_at.Tie as tie
 

@@ -1,3 +1,4 @@
+-- `wire::writing::put_byte` meets its contract. Assumes nothing.
 use native.Mathlib.Omega.{arith}
 use Rattle.wire.proofs.PutLaws.{put-one, put-one-out}
 use borrow.Author.Needs.{needs}

@@ -1,7 +1,8 @@
+-- `wire::writing::put_bytes` meets its contract. Assumes nothing.
 use borrow.Author.Needs.{needs}
 use native.Mathlib.Omega.{arith}
 use Prim.Native.Nat.{_≤_, _-_}
-use mathlib.Core.Path.{_≡_, refl, sym, _∙_}
+use mathlib.Core.Path.{_≡_, sym, _∙_}
 use lib.ListN.{length, length-set}
 use Rattle.wire.proofs.PutLaws.{put-not, pasted, pasted-none, pasted-more, pasted-all}
 use Rattle.wire.proofs.writing.put_bytes.Statement.{statement}

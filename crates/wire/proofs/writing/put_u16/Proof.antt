@@ -1,8 +1,9 @@
+-- `wire::writing::put_u16` meets its contract. Assumes nothing.
 use mathlib.Core.Path.{refl}
 use Prim.Native.Nat.{_/_}
 use Rattle.wire.specs.Bytes.{bytesOf}
 use native.Mathlib.Omega.{arith}
-use Rattle.wire.proofs.PutLaws.{put-halves, put-number-out, bytes-low}
+use Rattle.wire.proofs.PutLaws.{put-halves, put-number-out}
 use borrow.Author.Needs.{needs}
 use Rattle.wire.proofs.writing.put_u16.Statement.{statement}
 use Rattle.wire.proofs.writing.put_u16.Tie as tie

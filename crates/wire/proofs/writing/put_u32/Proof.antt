@@ -1,6 +1,7 @@
+-- `wire::writing::put_u32` meets its contract. Assumes nothing.
 use mathlib.Core.Path.{refl}
 use native.Mathlib.Omega.{arith}
-use Rattle.wire.proofs.PutLaws.{put-halves, put-number-out, bytes-low}
+use Rattle.wire.proofs.PutLaws.{put-halves, put-number-out}
 use borrow.Author.Needs.{needs}
 use Rattle.wire.proofs.writing.put_u32.Statement.{statement}
 use Rattle.wire.proofs.writing.put_u32.Tie as tie

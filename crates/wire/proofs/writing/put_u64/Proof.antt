@@ -1,7 +1,8 @@
+-- `wire::writing::put_u64` meets its contract. Assumes nothing.
 use mathlib.Core.Path.{refl}
 use Rattle.wire.proofs.PutLaws.{bytes-mod}
 use native.Mathlib.Omega.{arith}
-use Rattle.wire.proofs.PutLaws.{put-halves, put-number-out, bytes-low}
+use Rattle.wire.proofs.PutLaws.{put-halves, put-number-out}
 use borrow.Author.Needs.{needs}
 use Rattle.wire.proofs.writing.put_u64.Statement.{statement}
 use Rattle.wire.proofs.writing.put_u64.Tie as tie
