@@ -3,8 +3,8 @@
 // label at 312, the number of methods at 320, a product label of 3 bytes at 324, reserved bytes at 329, padding at 337,
 // the checksum at 340; it ends at 344.
 
-// Refused by stages 1 to 5, in their order: each row by one rule alone, the rows from `mark and version` on
-// by more than one, of which the earliest counts.
+// Refused by stages 1 to 5, in their order: each row by one rule alone, but for negative numbers, which later rules would
+// refuse too, and for the rows from `mark and version` on, where the earliest stage counts.
 pub const REFUSED: [[u64; 6]; 62] = [
     // 1: a byte of the mark
     [0, 1, 71, 0, 0, 0],
