@@ -1,0 +1,246 @@
+-- Checksums, sections, bodies and faults, from what the functions below them answer. Assumes nothing.
+use Prim.Native.Nat.{ℕ, _+_, _-_, _≤_, _<_}
+use mathlib.Core.Path.{_≡_, refl, sym, ap, _∙_}
+use mathlib.Core.List.{List, []}
+use mathlib.Core.Bool.{Bool, true, false}
+use native.Mathlib.Omega.{arith}
+use lib.ListN.{length}
+use borrow.Author.Tests.{eq-eqb, ne-eqb}
+use Rattle.wire.specs.Tests.{allBelow}
+use Rattle.wire.specs.Bytes.{byteAt, numberAt, u16At, u32At, part}
+use Rattle.wire.specs.Items.{advance}
+use Rattle.wire.proofs.TestLaws.{means, no, not-both}
+use Rattle.wire.proofs.ByteLaws.{number-out, part-out}
+use Rattle.wire.proofs.ItemLaws.{advance-grows}
+use Rattle.crc32c.specs.Crc.{crcPart}
+use Rattle.header.specs.Names.{identifier}
+use Rattle.header.specs.Fields.{checksumEnabled, elementCount, headerEnd}
+use Rattle.header.specs.Element.{stringSize, stringEnd}
+use Rattle.header.proofs.NameLaws.{identifier-empty}
+use Rattle.record.specs.declared.Cursor.{Cursor}
+use Rattle.record.specs.declared.Step.{Step}
+use Rattle.record.specs.declared.Step.the-variants.{Record, Bad, End}
+use Rattle.record.specs.declared.Found.{Found}
+use Rattle.record.specs.declared.Found.the-variants.{At, Nothing}
+use Rattle.record.specs.Record.{lengthAt, typeAt, recordOk, stepAt}
+use Rattle.record.specs.Chain.{find, firstRecord}
+use Rattle.record.proofs.ChainLaws.{stepped, stepped-bad, stepped-end, less, first-here, first-next, first-stop, first-end}
+use Rattle.geometry.specs.declared.Judged.{Judged}
+use Rattle.geometry.specs.declared.Judged.the-variants.{Uncompressed, Compressed, Fault}
+use Rattle.geometry.specs.Sizes.{judgeElement, storedSize}
+use Rattle.check_records.specs.declared.Rule.{Rule}
+use Rattle.check_records.specs.declared.Rule.the-variants.{Chain, Checksum, Body}
+use Rattle.check_records.specs.Chain.{records, recordLimit, endRight}
+use Rattle.check_records.specs.Checksum.{summedBytes, checksumOf, checksumAt, checksumRight}
+use Rattle.check_records.specs.TileBody.{sectionEnd, sectionAt, sectionLength, sectionJudged, sectionRight, tileEnd, tileRight}
+use Rattle.check_records.specs.MetadataBody.{metadataName, recordIdAt, dataType, contentLengthAt, metadataLength, metadataEnd, metadataRight}
+use Rattle.check_records.specs.Faults.{bodyRight, rightOf, wrongOf, chainFault, checksumFault, bodyFault}
+
+-- checksums
+
+pub summed-free : (s : List ℕ) (at k : ℕ) → k ≡ typeAt s at → k ≡ 0 → 8 ≡ summedBytes s at
+unfolding summedBytes
+summed-free s at k p h = rw (← p, h)
+
+pub summed-other : (s : List ℕ) (at k n r : ℕ) → k ≡ typeAt s at → (k ≡ 0 → ⊥) → n ≡ lengthAt s at → r ≡ n - 4 → r ≡ summedBytes s at
+unfolding summedBytes
+summed-other s at k n r p h q e = rw (← p, ne-eqb k 0 h, ← q) e
+
+pub checksum-on :
+    (s : List ℕ) (at f n r : ℕ) → f ≡ checksumEnabled s → f ≡ 1 → n ≡ summedBytes s at → r ≡ crcPart s at n → r ≡ checksumOf s at
+unfolding checksumOf
+checksum-on s at f n r p h q e = rw (← p, h, ← q) e
+
+pub checksum-off : (s : List ℕ) (at f : ℕ) → f ≡ checksumEnabled s → (f ≡ 1 → ⊥) → 0 ≡ checksumOf s at
+unfolding checksumOf
+checksum-off s at f p h = rw (← p, ne-eqb f 1 h)
+
+pub checksum-at-is : (s : List ℕ) (at n d r : ℕ) → n ≡ lengthAt s at → d ≡ n - 4 → r ≡ numberAt 4 s (at + d) → r ≡ checksumAt s at
+unfolding checksumAt
+checksum-at-is s at n d r p q e = e ∙ rw (q, p)
+
+-- sections
+
+pub section-is : (s : List ℕ) (p l n : ℕ) → l ≡ u32At s p → n ≡ storedSize l → p + n ≡ sectionEnd s p
+unfolding sectionEnd
+section-is s p l n e f = rw (f, e)
+
+stored-grows : (l : ℕ) → 4 ≤ storedSize l
+unfolding storedSize
+stored-grows l = omega arith
+
+pub stored-most : (l n : ℕ) → n ≡ storedSize l → l < 4294967296 → (4 ≤ n) × (n ≤ 4294967300)
+unfolding storedSize
+stored-most l n e h = (omega arith, omega arith)
+
+pub section-grows : (s : List ℕ) (p : ℕ) → p + 4 ≤ sectionEnd s p
+unfolding sectionEnd
+section-grows s p = omega (arith, stored-grows (u32At s p))
+
+pub sections-begin : (s : List ℕ) (at e l : ℕ) → l ≡ recordLimit s at → advance (sectionEnd s) l e (at + 12) ≡ sectionAt s at e
+unfolding sectionAt
+sections-begin s at e l p = rw p
+
+module _ (s : List ℕ) (at e p l : ℕ) (j : Judged) (a : p ≡ sectionAt s at e) (b : l ≡ u32At s p) (c : j ≡ judgeElement s e l) where
+  judged-is : j ≡ sectionJudged s at e
+  unfolding sectionJudged sectionLength
+  judged-is = c ∙ rw (b, a)
+
+  pub section-whole : j ≡ Uncompressed → true ≡ sectionRight s at e
+  unfolding sectionRight
+  section-whole f = rw (← judged-is, f)
+
+  pub section-packed : j ≡ Compressed → true ≡ sectionRight s at e
+  unfolding sectionRight
+  section-packed f = rw (← judged-is, f)
+
+  pub section-fault : j ≡ Fault → false ≡ sectionRight s at e
+  unfolding sectionRight
+  section-fault f = rw (← judged-is, f)
+
+pub tile-end-is :
+    (s : List ℕ) (at n p : ℕ) (r : Bool) → n ≡ elementCount s → p ≡ sectionAt s at n → r ≡ endRight s at p → r ≡ endRight s at (tileEnd s at)
+unfolding tileEnd
+tile-end-is s at n p r a b c = c ∙ rw (b, a)
+
+-- a record that starts past the file has no right body
+
+section-least : (s : List ℕ) (at e : ℕ) → at + 12 ≤ sectionAt s at e
+unfolding sectionAt
+section-least s at e = advance-grows (sectionEnd s) (recordLimit s at) (λ p. omega (arith, section-grows s p)) e (at + 12)
+
+pub tile-past : (s : List ℕ) (at : ℕ) → length s ≤ at → false ≡ tileRight s at
+unfolding tileRight endRight recordLimit tileEnd
+tile-past s at h = no _ (λ z. let y = means _ (z .1 .0) in omega (arith, y .0, section-least s at (elementCount s)))
+
+pub metadata-past : (s : List ℕ) (at : ℕ) → length s ≤ at → false ≡ metadataRight s at
+unfolding metadataRight metadataName
+metadata-past s at h =
+    let n : 0 ≡ u16At s (at + 8) = number-out 2 s (at + 8) (omega arith) in
+    let e : part s (at + 10) (u16At s (at + 8)) ≡ [] = part-out s (at + 10) (u16At s (at + 8)) (omega arith) in
+    no _ (λ z. not-both (z .1 .1 .0) (rw e (sym (identifier-empty 32 [] (omega arith)))))
+
+-- metadata
+
+pub id-is : (s : List ℕ) (at n : ℕ) → n ≡ stringSize s (at + 8) → at + 8 + n ≡ recordIdAt s at
+unfolding recordIdAt stringEnd
+id-is s at n e = rw e
+
+pub data-type-is : (s : List ℕ) (at p r : ℕ) → p ≡ recordIdAt s at → r ≡ byteAt s (p + 4) → r ≡ dataType s at
+unfolding dataType
+data-type-is s at p r a e = e ∙ rw a
+
+pub metadata-length-is : (s : List ℕ) (at p r : ℕ) → p ≡ recordIdAt s at → r ≡ numberAt 4 s (p + 5) → r ≡ metadataLength s at
+unfolding metadataLength contentLengthAt
+metadata-length-is s at p r a e = e ∙ rw a
+
+pub metadata-end-is :
+    (s : List ℕ) (at p l n : ℕ) → p ≡ recordIdAt s at → l ≡ metadataLength s at → n ≡ stringSize s (p + 9 + l) → p + 9 + l + n ≡ metadataEnd s at
+unfolding metadataEnd contentLengthAt stringEnd
+metadata-end-is s at p l n a b e =
+    let k : p + 9 + l ≡ recordIdAt s at + 5 + 4 + metadataLength s at = omega arith in
+    rw (e, ← k)
+
+pub name-is :
+    (s : List ℕ) (at n : ℕ) (r : Bool) → n ≡ numberAt 2 s (at + 8) → r ≡ identifier 32 (part s (at + 10) n) → r ≡ identifier 32 (metadataName s at)
+unfolding metadataName
+name-is s at n r a e = e ∙ rw a
+
+-- one record
+
+pub body-tile : (s : List ℕ) (at k : ℕ) (r : Bool) → k ≡ typeAt s at → k ≡ 2 → r ≡ tileRight s at → r ≡ bodyRight s at
+unfolding bodyRight
+body-tile s at k r p h e = rw (← p, h) e
+
+pub body-metadata : (s : List ℕ) (at k : ℕ) (r : Bool) → k ≡ typeAt s at → (k ≡ 2 → ⊥) → k ≡ 1 → r ≡ metadataRight s at → r ≡ bodyRight s at
+unfolding bodyRight
+body-metadata s at k r p g h e = rw (← p, ne-eqb k 2 g, eq-eqb k 1 h) e
+
+pub body-other : (s : List ℕ) (at k : ℕ) → k ≡ typeAt s at → (k ≡ 2 → ⊥) → (k ≡ 1 → ⊥) → true ≡ bodyRight s at
+unfolding bodyRight
+body-other s at k p g h = rw (← p, ne-eqb k 2 g, ne-eqb k 1 h)
+
+-- by the rule
+
+pub keeps-chain : (s : List ℕ) (w : Rule) (at : ℕ) (r : Bool) → w ≡ Chain → r ≡ recordOk s at → r ≡ rightOf s w at
+unfolding rightOf
+keeps-chain s w at r p q = rw p q
+
+pub keeps-checksum : (s : List ℕ) (w : Rule) (at : ℕ) (r : Bool) → w ≡ Checksum → r ≡ checksumRight s at → r ≡ rightOf s w at
+unfolding rightOf
+keeps-checksum s w at r p q = rw p q
+
+pub keeps-body : (s : List ℕ) (w : Rule) (at : ℕ) (r : Bool) → w ≡ Body → r ≡ bodyRight s at → r ≡ rightOf s w at
+unfolding rightOf
+keeps-body s w at r p q = rw p q
+
+wrong-not : (s : List ℕ) (w : Rule) (at : ℕ) (r : Bool) → r ≡ rightOf s w at → r ≡ true → wrongOf s w at ≡ false
+unfolding wrongOf
+wrong-not s w at r p q = rw (← p, q)
+
+wrong-is : (s : List ℕ) (w : Rule) (at : ℕ) (r : Bool) → r ≡ rightOf s w at → r ≡ false → wrongOf s w at ≡ true
+unfolding wrongOf
+wrong-is s w at r p q = rw (← p, q)
+
+-- the loop over the records: what is still to be looked at
+
+pub record Seeking (s : List ℕ) (w : Rule) (from at : ℕ) : Type 0 where
+  pub same : firstRecord s at (wrongOf s w) ≡ firstRecord s from (wrongOf s w)
+
+pub seek-begin : (s : List ℕ) (w : Rule) (at : ℕ) → Seeking s w at at
+seek-begin s w at = record { same = refl }
+
+module _ (s : List ℕ) (w : Rule) (from at k st n : ℕ) (nx : Cursor) (x : Step) (r : Bool) (i : Seeking s w from at) (u : x ≡ Record k st n nx) (v : x ≡ stepAt s at) (p : r ≡ rightOf s w st) where
+  pub seek-next : r ≡ true → Seeking s w from (nx .at)
+  seek-next e =
+      let h = stepped u v in
+      let f : wrongOf s w at ≡ false = rw (← h .start) (wrong-not s w st r p e) in
+      record { same = rw (h .next) (sym (first-next (wrongOf s w) s at (h .before-end) (h .ok) f)) ∙ i .same }
+
+  pub seek-found : r ≡ false → At st ≡ firstRecord s from (wrongOf s w)
+  seek-found e =
+      let h = stepped u v in
+      let f : wrongOf s w at ≡ true = rw (← h .start) (wrong-is s w st r p e) in
+      ap At (h .start) ∙ first-here (wrongOf s w) s at (h .before-end) f ∙ i .same
+
+module _ (s : List ℕ) (w : Rule) (from at : ℕ) (x : Step) (r : Bool) (i : Seeking s w from at) (u : x ≡ Bad) (v : x ≡ stepAt s at) (p : r ≡ rightOf s w at) where
+  pub seek-stop : r ≡ true → Nothing ≡ firstRecord s from (wrongOf s w)
+  seek-stop e = let h = stepped-bad u v in first-stop (wrongOf s w) s at (h .before-end) (h .bad) (wrong-not s w at r p e) ∙ i .same
+
+  pub seek-bad : r ≡ false → At at ≡ firstRecord s from (wrongOf s w)
+  seek-bad e = let h = stepped-bad u v in first-here (wrongOf s w) s at (h .before-end) (wrong-is s w at r p e) ∙ i .same
+
+pub seek-end : (s : List ℕ) (w : Rule) (from at : ℕ) (x : Step) → Seeking s w from at → x ≡ End → x ≡ stepAt s at → Nothing ≡ firstRecord s from (wrongOf s w)
+seek-end s w from at x i u v = let h = stepped-end u v in first-end (wrongOf s w) s at (h .ended) ∙ i .same
+
+pub ruleset seek = (less, seek-begin, seek-next, seek-found, seek-stop, seek-bad, seek-end)
+
+-- the faults
+
+pub chain-is : (s : List ℕ) (e : ℕ) (f : Found) → e ≡ headerEnd s → f ≡ firstRecord s e (wrongOf s Chain) → f ≡ chainFault s
+unfolding chainFault records firstRecord
+chain-is s e f p q = q ∙ rw p
+
+pub body-is : (s : List ℕ) (e : ℕ) (f : Found) → e ≡ headerEnd s → f ≡ firstRecord s e (wrongOf s Body) → f ≡ bodyFault s
+unfolding bodyFault records firstRecord
+body-is s e f p q = q ∙ rw p
+
+pub checksum-header : (s : List ℕ) (r : Bool) → r ≡ rightOf s Checksum 16 → r ≡ false → At 16 ≡ checksumFault s
+unfolding checksumFault find
+checksum-header s r p q = rw (wrong-is s Checksum 16 r p q)
+
+pub checksum-is :
+    (s : List ℕ) (e : ℕ) (r : Bool) (f : Found) → r ≡ rightOf s Checksum 16 → r ≡ true → e ≡ headerEnd s →
+    f ≡ firstRecord s e (wrongOf s Checksum) → f ≡ checksumFault s
+unfolding checksumFault records firstRecord find
+checksum-is s e r f a b p q = rw (wrong-not s Checksum 16 r a b) (q ∙ rw p)
+
+-- what a function's answer tells of its definition
+pub told : {r b v : Bool} → r ≡ b → r ≡ v → b ≡ v
+told p q = sym p ∙ q
+
+pub end-told : (s : List ℕ) (at e f : ℕ) (r v : Bool) → e ≡ f → r ≡ endRight s at e → r ≡ v → endRight s at f ≡ v
+end-told s at e f r v p q t = ap (endRight s at) (sym p) ∙ sym q ∙ t
+
+pub all-told : (n m : ℕ) (p : ℕ → Bool) (r v : Bool) → n ≡ m → r ≡ allBelow n p → r ≡ v → allBelow m p ≡ v
+all-told n m p r v a b c = ap (λ (k : ℕ). allBelow k p) (sym a) ∙ sym b ∙ c

@@ -1,0 +1,17 @@
+-- `check_records::checksum::checksum_right` meets its contract. Assumes nothing.
+use native.Mathlib.Omega.{arith}
+use Rattle.wire.proofs.TestLaws.{no, yes}
+use Rattle.check_records.specs.Checksum.{checksumRight}
+use borrow.Author.Needs.{needs}
+use Rattle.check_records.proofs.checksum.checksum_right.Statement.{statement}
+use Rattle.check_records.proofs.checksum.checksum_right.Tie as tie
+
+pub checksum-right-spec : {M : Type 1} → statement M
+unfolding checksumRight
+checksum-right-spec =
+    tie.close
+    (tie.spec
+    (λ c κs. search needs)
+    (λ c κs. search needs)
+    (λ c. no _ (λ h. omega arith))
+    (λ c. yes _ (omega arith, tt)))

@@ -1,0 +1,13 @@
+-- `check_records::metadata_body::data_type` meets its contract. Assumes nothing.
+use Rattle.check_records.proofs.RecordLaws.{data-type-is}
+use borrow.Author.Needs.{needs}
+use Rattle.check_records.proofs.metadata_body.data_type.Statement.{statement}
+use Rattle.check_records.proofs.metadata_body.data_type.Tie as tie
+
+pub data-type-spec : {M : Type 1} → statement M
+data-type-spec =
+    tie.close
+    (tie.spec
+    (λ c κs. search needs)
+    (λ c κs. search needs)
+    (λ c. search (needs, data-type-is)))

@@ -1,0 +1,5 @@
+pub mod Chain
+pub mod Checksum
+pub mod TileBody
+pub mod MetadataBody
+pub mod Faults

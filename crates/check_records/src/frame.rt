@@ -1,0 +1,55 @@
+// Where a record's fields end.
+use geometry::sizes;
+ghost use mathlib.Core.Path.{_≡_};
+ghost use Prim.Native.Nat.{_-_, _≤_};
+ghost use lib.ListN.{length};
+ghost use Rattle.check_records.specs.Chain.{recordLimit, endRight};
+
+// Where the checksum of the record at a position starts.
+pub fn record_limit(s: &[u8], at: usize) -> usize
+    ensures is { λ r. ⌜ r ≡ recordLimit (now (s .entry)) at ⌝ }
+    ensures inside { λ r. ⌜ r ≤ length (now (s .entry)) ⌝ }
+{
+    let n = wire::u32_at(s, at) as usize;
+    if s.len() < 4 {
+        return 0;
+    }
+    if s.len() <= at {
+        return s.len() - 4;
+    }
+    if s.len() - at < n {
+        return s.len() - 4;
+    }
+    if at + n < 4 {
+        return 0;
+    }
+    at + n - 4
+}
+
+// How far behind a position another lies.
+fn distance(at: usize, end: usize) -> usize
+    ensures { λ r. ⌜ r ≡ end - at ⌝ }
+{
+    if end < at {
+        return 0;
+    }
+    end - at
+}
+
+// Stage 8: the record's fields end at `end`, before its checksum, and its length is the least that holds them.
+pub fn end_right(s: &[u8], at: usize, end: usize) -> bool
+    ensures { λ r. ⌜ r ≡ endRight (now (s .entry)) at end ⌝ }
+{
+    let length = wire::u32_at(s, at);
+    if record_limit(s, at) < end {
+        return false;
+    }
+    let n = distance(at, end);
+    if 4294967295 < n {
+        return false;
+    }
+    if sizes::least_length(n as u32) != (length as u64) {
+        return false;
+    }
+    true
+}

@@ -1,0 +1,71 @@
+// Stage 8: the body of a metadata record.
+use crate::frame;
+use header::entries;
+use header::names;
+ghost use mathlib.Core.Path.{_≡_};
+ghost use Prim.Native.Nat.{_+_, _≤_, _<_};
+ghost use lib.ListN.{length};
+ghost use Rattle.header.specs.Names.{identifier};
+ghost use Rattle.check_records.specs.Chain.{endRight};
+ghost use Rattle.check_records.specs.MetadataBody.{metadataName, recordIdAt, dataType, contentLengthAt, metadataLength, metadataEnd, metadataRight};
+
+// Where the record ID stands.
+fn record_id_at(s: &[u8], at: usize) -> usize
+    requires { ⌜ at < length (now s) ⌝ }
+    ensures is { λ r. ⌜ r ≡ recordIdAt (now (s .entry)) at ⌝ }
+    ensures near { λ r. ⌜ r ≤ at + 65545 ⌝ }
+{
+    at + 8 + entries::string_size(s, at + 8)
+}
+
+// The data type.
+fn data_type(s: &[u8], at: usize) -> u32
+    requires { ⌜ at < length (now s) ⌝ }
+    ensures { λ r. ⌜ r ≡ dataType (now (s .entry)) at ⌝ }
+{
+    wire::byte_off(s, record_id_at(s, at), 4)
+}
+
+// The content's length.
+fn metadata_length(s: &[u8], at: usize) -> u32
+    requires { ⌜ at < length (now s) ⌝ }
+    ensures { λ r. ⌜ r ≡ metadataLength (now (s .entry)) at ⌝ }
+{
+    wire::u32_off(s, record_id_at(s, at), 5)
+}
+
+// Where the last field ends.
+fn metadata_end(s: &[u8], at: usize) -> usize
+    requires { ⌜ at < length (now s) ⌝ }
+    ensures { λ r. ⌜ r ≡ metadataEnd (now (s .entry)) at ⌝ }
+{
+    let description = record_id_at(s, at) + 9 + metadata_length(s, at) as usize;
+    description + entries::string_size(s, description)
+}
+
+fn name_right(s: &[u8], at: usize) -> bool
+    requires { ⌜ at < length (now s) ⌝ }
+    ensures { λ r. ⌜ r ≡ identifier 32 (metadataName (now (s .entry)) at) ⌝ }
+{
+    names::identifier_at(s, at + 10, wire::u16_off(s, at, 8) as usize, 32)
+}
+
+pub fn metadata_right(s: &[u8], at: usize) -> bool
+    ensures { λ r. ⌜ r ≡ metadataRight (now (s .entry)) at ⌝ }
+{
+    if s.len() <= at {
+        return false;
+    }
+    if 2147483647 < metadata_length(s, at) {
+        return false;
+    }
+    if frame::end_right(s, at, metadata_end(s, at)) {
+        if name_right(s, at) {
+            if 9 < data_type(s, at) {
+                return false;
+            }
+            return true;
+        }
+    }
+    false
+}
