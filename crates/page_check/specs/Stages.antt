@@ -1,0 +1,30 @@
+-- Document 01, 'Thirteen refusals': stages 6 to 8 in their order, and stages 1 to 8.
+use Prim.Native.Nat.{ℕ}
+use mathlib.Core.List.{List}
+use lib.ListN.{length}
+use Rattle.answer.specs.declared.Refusal.{Refusal}
+use Rattle.answer.specs.declared.Refusal.the-variants.{Chain, Checksum, Body}
+use Rattle.answer.specs.declared.Verdict.{Verdict}
+use Rattle.answer.specs.declared.Verdict.the-variants.{Accepted, Refused}
+use Rattle.record.specs.declared.Found.{Found}
+use Rattle.record.specs.declared.Found.the-variants.{At, Nothing}
+use Rattle.check_header.specs.Stages.{checkHeader}
+use Rattle.check_records.specs.Faults.{chainFault, checksumFault, bodyFault}
+
+-- the refusal at the place of a fault, and what comes behind the stage where there is none
+unfoldable pub unless : Found → (ℕ → Refusal) → Verdict → Verdict
+unless Nothing refusal behind = behind
+unless (At place) refusal behind = Refused (refusal place)
+
+-- what comes behind where a check accepts, and its refusal where it does not
+unfoldable pub after : Verdict → Verdict → Verdict
+after Accepted behind = behind
+after (Refused r) behind = Refused r
+
+-- stages 6 to 8, each over the whole file before the next, and what comes behind them
+unfoldable pub checkRecords : List ℕ → Verdict → Verdict
+checkRecords s behind = unless (chainFault s) Chain (unless (checksumFault s) Checksum (unless (bodyFault s) Body behind))
+
+-- stages 1 to 8
+unfoldable pub checkToBodies : List ℕ → Verdict
+checkToBodies s = after (checkHeader s (length s)) (checkRecords s Accepted)
