@@ -1,6 +1,6 @@
 -- Checksums, sections, bodies and faults, from what the functions below them answer. Assumes nothing.
 use Prim.Native.Nat.{ℕ, _+_, _-_, _≤_, _<_}
-use mathlib.Core.Path.{_≡_, refl, sym, ap, _∙_}
+use mathlib.Core.Path.{_≡_, sym, ap, _∙_}
 use mathlib.Core.List.{List, []}
 use mathlib.Core.Bool.{Bool, true, false}
 use native.Mathlib.Omega.{arith}
@@ -17,14 +17,11 @@ use Rattle.header.specs.Names.{identifier}
 use Rattle.header.specs.Fields.{checksumEnabled, elementCount, headerEnd}
 use Rattle.header.specs.Element.{stringSize, stringEnd}
 use Rattle.header.proofs.NameLaws.{identifier-empty}
-use Rattle.record.specs.declared.Cursor.{Cursor}
-use Rattle.record.specs.declared.Step.{Step}
-use Rattle.record.specs.declared.Step.the-variants.{Record, Bad, End}
 use Rattle.record.specs.declared.Found.{Found}
 use Rattle.record.specs.declared.Found.the-variants.{At, Nothing}
-use Rattle.record.specs.Record.{lengthAt, typeAt, recordOk, stepAt}
-use Rattle.record.specs.Chain.{find, firstRecord}
-use Rattle.record.proofs.ChainLaws.{stepped, stepped-bad, stepped-end, less, first-here, first-next, first-stop, first-end}
+use Rattle.record.specs.Record.{lengthAt, typeAt, recordOk}
+use Rattle.record.specs.Chain.{find, firstRecord, badRecord, Whole}
+use Rattle.record.proofs.ChainLaws.{whole-if}
 use Rattle.geometry.specs.declared.Judged.{Judged}
 use Rattle.geometry.specs.declared.Judged.the-variants.{Uncompressed, Compressed, Fault}
 use Rattle.geometry.specs.Sizes.{judgeElement, storedSize}
@@ -174,46 +171,13 @@ pub keeps-body : (s : List ℕ) (w : Rule) (at : ℕ) (r : Bool) → w ≡ Body 
 unfolding rightOf
 keeps-body s w at r p q = rw p q
 
-wrong-not : (s : List ℕ) (w : Rule) (at : ℕ) (r : Bool) → r ≡ rightOf s w at → r ≡ true → wrongOf s w at ≡ false
+pub wrong-not : (s : List ℕ) (w : Rule) (at : ℕ) (r : Bool) → r ≡ rightOf s w at → r ≡ true → false ≡ wrongOf s w at
 unfolding wrongOf
 wrong-not s w at r p q = rw (← p, q)
 
-wrong-is : (s : List ℕ) (w : Rule) (at : ℕ) (r : Bool) → r ≡ rightOf s w at → r ≡ false → wrongOf s w at ≡ true
+pub wrong-is : (s : List ℕ) (w : Rule) (at : ℕ) (r : Bool) → r ≡ rightOf s w at → r ≡ false → true ≡ wrongOf s w at
 unfolding wrongOf
 wrong-is s w at r p q = rw (← p, q)
-
--- the loop over the records: what is still to be looked at
-
-pub record Seeking (s : List ℕ) (w : Rule) (from at : ℕ) : Type 0 where
-  pub same : firstRecord s at (wrongOf s w) ≡ firstRecord s from (wrongOf s w)
-
-pub seek-begin : (s : List ℕ) (w : Rule) (at : ℕ) → Seeking s w at at
-seek-begin s w at = record { same = refl }
-
-module _ (s : List ℕ) (w : Rule) (from at k st n : ℕ) (nx : Cursor) (x : Step) (r : Bool) (i : Seeking s w from at) (u : x ≡ Record k st n nx) (v : x ≡ stepAt s at) (p : r ≡ rightOf s w st) where
-  pub seek-next : r ≡ true → Seeking s w from (nx .at)
-  seek-next e =
-      let h = stepped u v in
-      let f : wrongOf s w at ≡ false = rw (← h .start) (wrong-not s w st r p e) in
-      record { same = rw (h .next) (sym (first-next (wrongOf s w) s at (h .before-end) (h .ok) f)) ∙ i .same }
-
-  pub seek-found : r ≡ false → At st ≡ firstRecord s from (wrongOf s w)
-  seek-found e =
-      let h = stepped u v in
-      let f : wrongOf s w at ≡ true = rw (← h .start) (wrong-is s w st r p e) in
-      ap At (h .start) ∙ first-here (wrongOf s w) s at (h .before-end) f ∙ i .same
-
-module _ (s : List ℕ) (w : Rule) (from at : ℕ) (x : Step) (r : Bool) (i : Seeking s w from at) (u : x ≡ Bad) (v : x ≡ stepAt s at) (p : r ≡ rightOf s w at) where
-  pub seek-stop : r ≡ true → Nothing ≡ firstRecord s from (wrongOf s w)
-  seek-stop e = let h = stepped-bad u v in first-stop (wrongOf s w) s at (h .before-end) (h .bad) (wrong-not s w at r p e) ∙ i .same
-
-  pub seek-bad : r ≡ false → At at ≡ firstRecord s from (wrongOf s w)
-  seek-bad e = let h = stepped-bad u v in first-here (wrongOf s w) s at (h .before-end) (wrong-is s w at r p e) ∙ i .same
-
-pub seek-end : (s : List ℕ) (w : Rule) (from at : ℕ) (x : Step) → Seeking s w from at → x ≡ End → x ≡ stepAt s at → Nothing ≡ firstRecord s from (wrongOf s w)
-seek-end s w from at x i u v = let h = stepped-end u v in first-end (wrongOf s w) s at (h .ended) ∙ i .same
-
-pub ruleset seek = (less, seek-begin, seek-next, seek-found, seek-stop, seek-bad, seek-end)
 
 -- the faults
 
@@ -225,15 +189,20 @@ pub body-is : (s : List ℕ) (e : ℕ) (f : Found) → e ≡ headerEnd s → f �
 unfolding bodyFault records firstRecord
 body-is s e f p q = q ∙ rw p
 
-pub checksum-header : (s : List ℕ) (r : Bool) → r ≡ rightOf s Checksum 16 → r ≡ false → At 16 ≡ checksumFault s
+pub checksum-header : (s : List ℕ) (r : Bool) → r ≡ wrongOf s Checksum 16 → r ≡ true → At 16 ≡ checksumFault s
 unfolding checksumFault find
-checksum-header s r p q = rw (wrong-is s Checksum 16 r p q)
+checksum-header s r p q = rw (← p, q)
 
 pub checksum-is :
-    (s : List ℕ) (e : ℕ) (r : Bool) (f : Found) → r ≡ rightOf s Checksum 16 → r ≡ true → e ≡ headerEnd s →
+    (s : List ℕ) (e : ℕ) (r : Bool) (f : Found) → r ≡ wrongOf s Checksum 16 → r ≡ false → e ≡ headerEnd s →
     f ≡ firstRecord s e (wrongOf s Checksum) → f ≡ checksumFault s
 unfolding checksumFault records firstRecord find
-checksum-is s e r f a b p q = rw (wrong-not s Checksum 16 r a b) (q ∙ rw p)
+checksum-is s e r f a b p q = rw (← a, b) (q ∙ rw p)
+
+-- a chain without a fault is whole
+pub chain-whole : (s : List ℕ) → headerEnd s ≤ length s → chainFault s ≡ Nothing → Whole s (headerEnd s) (records s)
+unfolding chainFault records wrongOf rightOf badRecord firstRecord
+chain-whole s h e = whole-if s (headerEnd s) h e
 
 -- what a function's answer tells of its definition
 pub told : {r b v : Bool} → r ≡ b → r ≡ v → b ≡ v

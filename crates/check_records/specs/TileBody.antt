@@ -21,7 +21,7 @@ unfoldable pub sectionEnd : List ℕ → ℕ → ℕ
 sectionEnd s p = p + storedSize (u32At s p)
 
 -- where the section of element e of the tile record at `at` starts, its length field; a section that starts past the
--- record's checksum is not read
+-- start of the record's checksum is not read; one that starts there, or overlaps it, ends past it
 unfoldable pub sectionAt : List ℕ → ℕ → ℕ → ℕ
 sectionAt s at e = advance (sectionEnd s) (recordLimit s at) e (at + 12)
 
@@ -53,7 +53,7 @@ tileEnd s at = sectionAt s at (elementCount s)
 unfoldable pub indexRight : List ℕ → ℕ → Bool
 indexRight s at = passes ((tileIndex s at ≤? largestInteger) ∷ (tileIndex s at + 1 ≤? tileCount s) ∷ [])
 
--- so is the index; the sections end right; for each element L is from 1 to U
+-- the index is right; the sections end right; each L is from 1 to its element's U
 unfoldable pub tileRight : List ℕ → ℕ → Bool
 tileRight s at =
     passes

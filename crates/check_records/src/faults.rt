@@ -36,7 +36,17 @@ fn keeps(s: &[u8], rule: Rule, at: usize) -> bool
     }
 }
 
-// The first record from a position on that does not keep it.
+// Whether it breaks it.
+fn is_wrong(s: &[u8], rule: Rule, at: usize) -> bool
+    ensures { λ r. ⌜ r ≡ wrongOf (now (s .entry)) rule at ⌝ }
+{
+    if keeps(s, rule, at) {
+        return false;
+    }
+    true
+}
+
+// The first record from a position on that does.
 pub fn first_wrong(s: &[u8], rule: Rule, at: usize) -> Found
     ensures { λ r. ⌜ r ≡ firstRecord (now (s .entry)) at (wrongOf (now (s .entry)) rule) ⌝ }
 {
@@ -49,18 +59,17 @@ pub fn first_wrong(s: &[u8], rule: Rule, at: usize) -> Found
                 length: _,
                 next,
             } => {
-                if keeps(s, rule, start) {
-                    c = next;
-                } else {
+                if is_wrong(s, rule, start) {
                     return Found::At(start);
                 }
+                c = next;
             }
             Step::Bad => {
                 let start = c.at;
-                if keeps(s, rule, start) {
-                    return Found::Nothing;
+                if is_wrong(s, rule, start) {
+                    return Found::At(start);
                 }
-                return Found::At(start);
+                return Found::Nothing;
             }
             Step::End => {
                 return Found::Nothing;
@@ -80,10 +89,10 @@ pub fn chain_fault(s: &[u8]) -> Found
 pub fn checksum_fault(s: &[u8]) -> Found
     ensures { λ r. ⌜ r ≡ checksumFault (now (s .entry)) ⌝ }
 {
-    if keeps(s, Rule::Checksum, 16) {
-        return first_wrong(s, Rule::Checksum, fields::header_end(s));
+    if is_wrong(s, Rule::Checksum, 16) {
+        return Found::At(16);
     }
-    Found::At(16)
+    first_wrong(s, Rule::Checksum, fields::header_end(s))
 }
 
 // Stage 8.

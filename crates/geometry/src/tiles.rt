@@ -5,7 +5,7 @@ ghost use Prim.Native.Nat.{_/_, _%_, _≤_};
 ghost use Rattle.geometry.specs.Tiles.{tilesAlong, tileOf, insideOf, tilesAcross, tilesDown, tileCount, cellTile, cellInside};
 
 // The quotient and the remainder, for a divisor of 0 too.
-fn quotient(a: u32, b: u32) -> u32
+pub fn quotient(a: u32, b: u32) -> u32
     ensures is { λ r. ⌜ r ≡ a / b ⌝ }
     ensures small { λ r. ⌜ r ≤ a ⌝ }
 {
@@ -15,7 +15,7 @@ fn quotient(a: u32, b: u32) -> u32
     a / b
 }
 
-fn remainder(a: u32, b: u32) -> u32
+pub fn remainder(a: u32, b: u32) -> u32
     ensures is { λ r. ⌜ r ≡ a % b ⌝ }
     ensures small { λ r. ⌜ r ≤ a ⌝ }
 {

@@ -9,7 +9,7 @@ checksum-fault-spec =
     tie.close
     (tie.spec
     (λ c κs. search needs)
+    (λ c. search (needs, checksum-header))
     (λ c κs. search needs)
     (λ c κs. search needs)
-    (λ c. search (needs, checksum-is))
-    (λ c. search (needs, checksum-header)))
+    (λ c. search (needs, checksum-is)))

@@ -1,0 +1,18 @@
+-- `directory::references::referred` meets its contract. Assumes nothing.
+use native.Mathlib.Omega.{arith}
+use Rattle.wire.proofs.TestLaws.{no, yes}
+use Rattle.directory.specs.Search.{wants}
+use borrow.Author.Needs.{needs}
+use Rattle.directory.proofs.references.referred.Statement.{statement}
+use Rattle.directory.proofs.references.referred.Tie as tie
+
+pub referred-spec : {M : Type 1} → statement M
+unfolding wants
+referred-spec =
+    tie.close
+    (tie.spec
+    (λ c κs. search needs)
+    (λ c. no _ (λ h. omega arith))
+    (λ c. search needs)
+    (λ c. no _ (λ h. omega arith))
+    (λ c. yes _ (omega arith, (omega arith, tt))))

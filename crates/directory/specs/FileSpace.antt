@@ -1,0 +1,48 @@
+-- Document 01, stage 9; G Tables 17 and 18: the file-space directory.
+use Prim.Native.Nat.{ℕ, _+_, _*_, _-_}
+use mathlib.Core.List.{List, [], _∷_}
+use mathlib.Core.Bool.{Bool, _||_}
+use lib.Dec.{eqb}
+use Rattle.wire.specs.Pick.{pick}
+use Rattle.wire.specs.Tests.{_≤?_, _≡?_, is, passes, allBelow}
+use Rattle.wire.specs.Bytes.{u32At, u64At, largestInteger}
+use Rattle.header.specs.Fields.{fileSpaceReference}
+use Rattle.record.specs.Record.{lengthAt}
+use Rattle.directory.specs.Lists.{every, some, countBelow, recordsOf}
+use Rattle.directory.specs.References.{refersOrZero, noOther, padded}
+
+unfoldable pub fileSpaceAt : List ℕ → ℕ
+fileSpaceAt s = fileSpaceReference s - 8
+
+-- Table 17: the number of free-space records listed; none where the reference is zero
+unfoldable pub freeCount : List ℕ → ℕ
+freeCount s = pick (eqb (fileSpaceReference s) 0) 0 (u32At s (fileSpaceAt s + 8))
+
+-- Table 18: entry k has eight bytes, the start of a free-space record (G 3.3.4: not its content), and four, its whole length
+unfoldable pub freeEntryAt : List ℕ → ℕ → ℕ
+freeEntryAt s k = fileSpaceAt s + 12 + 12 * k
+
+-- it is that of the record at x: its own start and size
+unfoldable pub freeEntryIs : List ℕ → ℕ → ℕ → Bool
+freeEntryIs s x k = passes ((u64At s (freeEntryAt s k) ≡? x) ∷ (u32At s (freeEntryAt s k + 8) ≡? lengthAt s x) ∷ [])
+
+-- every free record is listed once; where the reference is zero there is no list, so there is no such record
+unfoldable pub freeListed : List ℕ → Bool
+freeListed s = every (λ x. eqb (countBelow (freeCount s) (freeEntryIs s x)) 1) (recordsOf s 0)
+
+-- the list has no other entry
+unfoldable pub freeOnly : List ℕ → Bool
+freeOnly s = allBelow (freeCount s) (λ k. some (λ x. freeEntryIs s x k) (recordsOf s 0))
+
+-- a file-space directory has at least one entry, and its count, which is not negative, fits
+unfoldable pub freeFits : List ℕ → Bool
+freeFits s =
+    eqb (fileSpaceReference s) 0
+    || passes
+    ((1 ≤? freeCount s) ∷ (freeCount s ≤? largestInteger) ∷ is (padded s (fileSpaceAt s) (freeEntryAt s (freeCount s))) ∷ [])
+
+unfoldable pub fileSpaceRight : List ℕ → Bool
+fileSpaceRight s =
+    passes
+    (is (refersOrZero s 3 (fileSpaceReference s)) ∷ is (noOther s 3 (fileSpaceReference s)) ∷ is (freeFits s) ∷ is (freeListed s)
+    ∷ is (freeOnly s) ∷ [])

@@ -1,0 +1,7 @@
+pub mod Lists
+pub mod References
+pub mod TileDirectory
+pub mod Search
+pub mod FileSpace
+pub mod Metadata
+pub mod Stage

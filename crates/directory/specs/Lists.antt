@@ -1,0 +1,33 @@
+-- Rules over the records of a file, and over the entries of a list that are counted from 0.
+use Prim.Native.Nat.{ℕ, zero, suc, _+_}
+use mathlib.Core.List.{List, [], _∷_}
+use mathlib.Core.Bool.{Bool, true, false, _||_}
+use lib.Dec.{eqb}
+use Rattle.wire.specs.Pick.{pick}
+use Rattle.wire.specs.Tests.{is, passes}
+use Rattle.record.specs.Record.{typeAt}
+use Rattle.check_records.specs.Chain.{records}
+
+-- those of a list at which p holds
+unfoldable pub select : (ℕ → Bool) → List ℕ → List ℕ
+select p [] = []
+select p (x ∷ xs) = pick (p x) (x ∷ select p xs) (select p xs)
+
+-- p holds of all, of some of them
+unfoldable pub every : (ℕ → Bool) → List ℕ → Bool
+every p [] = true
+every p (x ∷ xs) = passes (is (p x) ∷ is (every p xs) ∷ [])
+
+unfoldable pub some : (ℕ → Bool) → List ℕ → Bool
+some p [] = false
+some p (x ∷ xs) = p x || some p xs
+
+-- how many numbers below n p holds of
+unfoldable pub countBelow : ℕ → (ℕ → Bool) → ℕ
+countBelow zero p = 0
+countBelow (suc n) p = countBelow n p + pick (p n) 1 0
+
+-- the starts of a file's records of a type, in file order (G Table 1: 0 free space, 1 metadata, 2 tile, 3 file-space directory,
+-- 4 metadata directory, 5 tile directory)
+unfoldable pub recordsOf : List ℕ → ℕ → List ℕ
+recordsOf s kind = select (λ x. eqb (typeAt s x) kind) (records s)

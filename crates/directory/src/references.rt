@@ -1,0 +1,139 @@
+// Stage 9: the header's references, and records that they give or do not give.
+use crate::Want;
+use crate::tile_directory;
+use header::fields;
+use record::Cursor;
+use record::Found;
+use record::Step;
+ghost use mathlib.Core.Path.{_≡_};
+ghost use Prim.Native.Nat.{_<_};
+ghost use lib.ListN.{length};
+ghost use Rattle.record.specs.Chain.{firstRecord};
+ghost use Rattle.header.specs.Fields.{headerEnd};
+ghost use Rattle.check_records.specs.TileBody.{tileIndex};
+ghost use Rattle.directory.specs.References.{refersTo, noOther};
+ghost use Rattle.directory.specs.TileDirectory.{tileReference, tilesListed};
+ghost use Rattle.directory.specs.Search.{wants};
+
+// What the directory gives for the index of the tile record at a position.
+fn own_reference(s: &[u8], at: usize) -> u64
+    ensures { λ r. ⌜ r ≡ tileReference (now (s .entry)) (tileIndex (now (s .entry)) at) ⌝ }
+{
+    tile_directory::tile_reference(s, wire::u32_off(s, at, 8))
+}
+
+// Whether a record at a position is a tile record that is not listed at its own index.
+fn unlisted(s: &[u8], at: usize) -> bool
+    requires { ⌜ at < length (now s) ⌝ }
+    ensures { λ r. ⌜ r ≡ wants (now (s .entry)) Want.Unlisted at ⌝ }
+{
+    if wire::byte_off(s, at, 4) != 2 {
+        return false;
+    }
+    if own_reference(s, at) == (at as u64) + 8 {
+        return false;
+    }
+    true
+}
+
+fn referred(s: &[u8], kind: u32, reference: u64, at: usize) -> bool
+    requires { ⌜ at < length (now s) ⌝ }
+    ensures { λ r. ⌜ r ≡ wants (now (s .entry)) (Want.Referred kind reference) at ⌝ }
+{
+    if wire::byte_off(s, at, 4) != kind {
+        return false;
+    }
+    if (at as u64) + 8 != reference {
+        return false;
+    }
+    true
+}
+
+fn other(s: &[u8], kind: u32, reference: u64, at: usize) -> bool
+    requires { ⌜ at < length (now s) ⌝ }
+    ensures { λ r. ⌜ r ≡ wants (now (s .entry)) (Want.Other kind reference) at ⌝ }
+{
+    if wire::byte_off(s, at, 4) != kind {
+        return false;
+    }
+    if (at as u64) + 8 == reference {
+        return false;
+    }
+    true
+}
+
+// Whether a record is what is looked for.
+fn is_wanted(s: &[u8], want: Want, at: usize) -> bool
+    requires { ⌜ at < length (now s) ⌝ }
+    ensures { λ r. ⌜ r ≡ wants (now (s .entry)) want at ⌝ }
+{
+    match want {
+        Want::Referred { kind, reference } => referred(s, kind, reference, at),
+        Want::Other { kind, reference } => other(s, kind, reference, at),
+        Want::Unlisted => unlisted(s, at),
+    }
+}
+
+// The first record behind the header that is.
+pub fn find_record(s: &[u8], want: Want) -> Found
+    ensures { λ r. ⌜ r ≡ firstRecord (now (s .entry)) (headerEnd (now (s .entry))) (wants (now (s .entry)) want) ⌝ }
+{
+    let mut c = Cursor {
+        at: fields::header_end(s),
+    };
+    loop {
+        match c.step(s) {
+            Step::Record {
+                kind: _,
+                start,
+                length: _,
+                next,
+            } => {
+                if is_wanted(s, want, start) {
+                    return Found::At(start);
+                }
+                c = next;
+            }
+            Step::Bad => {
+                let start = c.at;
+                if is_wanted(s, want, start) {
+                    return Found::At(start);
+                }
+                return Found::Nothing;
+            }
+            Step::End => {
+                return Found::Nothing;
+            }
+        }
+    }
+}
+
+// A reference is the content of a record of a type.
+pub fn refers_to(s: &[u8], kind: u32, reference: u64) -> bool
+    ensures { λ r. ⌜ r ≡ refersTo (now (s .entry)) kind reference ⌝ }
+{
+    if let Found::At(_) = find_record(s, Want::Referred { kind, reference }) {
+        return true;
+    }
+    false
+}
+
+// No other record of the type exists.
+pub fn no_other(s: &[u8], kind: u32, reference: u64) -> bool
+    ensures { λ r. ⌜ r ≡ noOther (now (s .entry)) kind reference ⌝ }
+{
+    if let Found::At(_) = find_record(s, Want::Other { kind, reference }) {
+        return false;
+    }
+    true
+}
+
+// Every tile record is listed at its own index.
+pub fn tiles_listed(s: &[u8]) -> bool
+    ensures { λ r. ⌜ r ≡ tilesListed (now (s .entry)) ⌝ }
+{
+    if let Found::At(_) = find_record(s, Want::Unlisted) {
+        return false;
+    }
+    true
+}

@@ -1,0 +1,200 @@
+// Stage 9: the tile directory's fields and references.
+use geometry::tiles;
+use header::fields;
+ghost use mathlib.Core.Path.{_≡_};
+ghost use Prim.Native.Nat.{_+_, _*_, _-_, _≤_};
+ghost use Rattle.wire.specs.Bytes.{byteAt, u32At};
+ghost use Rattle.geometry.specs.Tiles.{tilesAcross, tilesDown};
+ghost use Rattle.directory.specs.TileDirectory.{tileDirectoryAt, directoryFormat, standardReferences, firstRow, firstColumn, listedRows, listedColumns, formRight, spanRight, rectangleRight, referenceAt, referenceOf, tileReference, inSpan, inRectangle, numberOf};
+
+// The start of the record that the header refers to.
+pub fn tile_directory_at(s: &[u8]) -> usize
+    ensures { λ r. ⌜ r ≡ tileDirectoryAt (now (s .entry)) ⌝ }
+{
+    let reference = fields::tile_directory_reference(s);
+    if reference < 8 {
+        return 0;
+    }
+    (reference - 8) as usize
+}
+
+// A number of four bytes, and a byte, at an offset of that record.
+fn number_in(s: &[u8], d: usize) -> u32
+    ensures { λ r. ⌜ r ≡ u32At (now (s .entry)) (tileDirectoryAt (now (s .entry)) + d) ⌝ }
+{
+    wire::u32_off(s, tile_directory_at(s), d)
+}
+
+fn byte_in(s: &[u8], d: usize) -> u32
+    ensures { λ r. ⌜ r ≡ byteAt (now (s .entry)) (tileDirectoryAt (now (s .entry)) + d) ⌝ }
+{
+    wire::byte_off(s, tile_directory_at(s), d)
+}
+
+// Its fields.
+pub fn directory_format(s: &[u8]) -> u32
+    ensures { λ r. ⌜ r ≡ directoryFormat (now (s .entry)) ⌝ }
+{
+    byte_in(s, 8)
+}
+
+pub fn standard_references(s: &[u8]) -> u32
+    ensures { λ r. ⌜ r ≡ standardReferences (now (s .entry)) ⌝ }
+{
+    byte_in(s, 9)
+}
+
+pub fn first_row(s: &[u8]) -> u32
+    ensures { λ r. ⌜ r ≡ firstRow (now (s .entry)) ⌝ }
+{
+    number_in(s, 16)
+}
+
+pub fn first_column(s: &[u8]) -> u32
+    ensures { λ r. ⌜ r ≡ firstColumn (now (s .entry)) ⌝ }
+{
+    number_in(s, 20)
+}
+
+pub fn listed_rows(s: &[u8]) -> u32
+    ensures { λ r. ⌜ r ≡ listedRows (now (s .entry)) ⌝ }
+{
+    number_in(s, 24)
+}
+
+pub fn listed_columns(s: &[u8]) -> u32
+    ensures { λ r. ⌜ r ≡ listedColumns (now (s .entry)) ⌝ }
+{
+    number_in(s, 28)
+}
+
+// The fields that pick the form have a printed value.
+pub fn form_right(s: &[u8]) -> bool
+    ensures { λ r. ⌜ r ≡ formRight (now (s .entry)) ⌝ }
+{
+    if directory_format(s) != 0 {
+        return false;
+    }
+    if 1 < standard_references(s) {
+        return false;
+    }
+    true
+}
+
+// One direction of the rectangle.
+fn span_right(start: u32, side: u32, tiles: u32) -> bool
+    ensures { λ r. ⌜ r ≡ spanRight start side tiles ⌝ }
+{
+    if 2147483647 < start {
+        return false;
+    }
+    if 2147483647 < side {
+        return false;
+    }
+    if tiles < start {
+        return false;
+    }
+    if tiles - start < side {
+        return false;
+    }
+    true
+}
+
+fn rows_right(s: &[u8]) -> bool
+    ensures { λ r. ⌜ r ≡ spanRight (firstRow (now (s .entry))) (listedRows (now (s .entry))) (tilesDown (now (s .entry))) ⌝ }
+{
+    span_right(first_row(s), listed_rows(s), tiles::tiles_down(s))
+}
+
+fn columns_right(s: &[u8]) -> bool
+    ensures { λ r. ⌜ r ≡ spanRight (firstColumn (now (s .entry))) (listedColumns (now (s .entry))) (tilesAcross (now (s .entry))) ⌝ }
+{
+    span_right(first_column(s), listed_columns(s), tiles::tiles_across(s))
+}
+
+// The rectangle ends inside the tile grid.
+pub fn rectangle_right(s: &[u8]) -> bool
+    ensures { λ r. ⌜ r ≡ rectangleRight (now (s .entry)) ⌝ }
+{
+    if rows_right(s) {
+        return columns_right(s);
+    }
+    false
+}
+
+// Whether a row or column of tiles lies in a span.
+fn in_span(start: u32, side: u32, x: u32) -> bool
+    ensures { λ r. ⌜ r ≡ inSpan start side x ⌝ }
+{
+    if x < start {
+        return false;
+    }
+    if side <= x - start {
+        return false;
+    }
+    true
+}
+
+// The position that reference number k gives; 0 where the number does not lie in the file.
+fn reference_at(s: &[u8], k: u64) -> u64
+    ensures { λ r. ⌜ r ≡ referenceAt (now (s .entry)) k ⌝ }
+{
+    let at = tile_directory_at(s);
+    if standard_references(s) == 1 {
+        if 1152921504606846976 <= k {
+            return 0;
+        }
+        return wire::u64_off(s, at, 32 + 8 * (k as usize));
+    }
+    if 2305843009213693952 <= k {
+        return 0;
+    }
+    wire::u32_off(s, at, 32 + 4 * (k as usize)) as u64 * 8
+}
+
+// Whether a tile, by its row and column of tiles, lies in the rectangle.
+fn in_rectangle(s: &[u8], row: u32, column: u32) -> bool
+    ensures { λ r. ⌜ r ≡ inRectangle (now (s .entry)) row column ⌝ }
+{
+    if in_span(first_row(s), listed_rows(s), row) {
+        return in_span(first_column(s), listed_columns(s), column);
+    }
+    false
+}
+
+// What the directory gives for the tile in a row and a column of tiles.
+fn reference_of(s: &[u8], row: u32, column: u32) -> u64
+    ensures { λ r. ⌜ r ≡ referenceOf (now (s .entry)) row column ⌝ }
+{
+    if in_rectangle(s, row, column) {
+        return reference_at(s, number_of(s, row, column));
+    }
+    0
+}
+
+// The number of a tile inside the rectangle, row by row.
+fn number_of(s: &[u8], row: u32, column: u32) -> u64
+    ensures { λ r. ⌜ r ≡ numberOf (now (s .entry)) row column ⌝ }
+{
+    let down = less(row, first_row(s)) as u64;
+    let right = less(column, first_column(s)) as u64;
+    down * (listed_columns(s) as u64) + right
+}
+
+fn less(a: u32, b: u32) -> u32
+    ensures is { λ r. ⌜ r ≡ a - b ⌝ }
+    ensures small { λ r. ⌜ r ≤ a ⌝ }
+{
+    if a < b {
+        return 0;
+    }
+    a - b
+}
+
+// What the directory gives for a tile index.
+pub fn tile_reference(s: &[u8], i: u32) -> u64
+    ensures { λ r. ⌜ r ≡ tileReference (now (s .entry)) i ⌝ }
+{
+    let across = tiles::tiles_across(s);
+    reference_of(s, tiles::quotient(i, across), tiles::remainder(i, across))
+}
