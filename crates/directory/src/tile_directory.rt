@@ -1,11 +1,13 @@
 // Stage 9: the tile directory's fields and references.
+use check_records::frame;
 use geometry::tiles;
 use header::fields;
 ghost use mathlib.Core.Path.{_≡_};
 ghost use Prim.Native.Nat.{_+_, _*_, _-_, _≤_};
 ghost use Rattle.wire.specs.Bytes.{byteAt, u32At};
 ghost use Rattle.geometry.specs.Tiles.{tilesAcross, tilesDown};
-ghost use Rattle.directory.specs.TileDirectory.{tileDirectoryAt, directoryFormat, standardReferences, firstRow, firstColumn, listedRows, listedColumns, formRight, spanRight, rectangleRight, referenceAt, referenceOf, tileReference, inSpan, inRectangle, numberOf};
+ghost use Rattle.directory.specs.TileDirectory.{tileDirectoryAt, directoryFormat, standardReferences, firstRow, firstColumn, listedRows, listedColumns, formRight, spanRight, rectangleRight, referenceAt, referenceOf, tileReference, inSpan, inRectangle, numberOf, referenceSize, referencesEnd};
+ghost use Rattle.directory.specs.References.{padded};
 
 // The start of the record that the header refers to.
 pub fn tile_directory_at(s: &[u8]) -> usize
@@ -197,4 +199,51 @@ pub fn tile_reference(s: &[u8], i: u32) -> u64
 {
     let across = tiles::tiles_across(s);
     reference_of(s, tiles::quotient(i, across), tiles::remainder(i, across))
+}
+
+// The bytes of a reference.
+fn reference_size(s: &[u8]) -> u64
+    ensures is { λ r. ⌜ r ≡ referenceSize (now (s .entry)) ⌝ }
+    ensures near { λ r. ⌜ (4 ≤ r) × (r ≤ 8) ⌝ }
+{
+    if standard_references(s) == 1 {
+        return 8;
+    }
+    4
+}
+
+// How many references the rectangle has.
+fn reference_count(s: &[u8]) -> u64
+    ensures { λ r. ⌜ r ≡ listedRows (now (s .entry)) * listedColumns (now (s .entry)) ⌝ }
+{
+    let rows = listed_rows(s) as u64;
+    let columns = listed_columns(s) as u64;
+    rows * columns
+}
+
+// The references fit their record with 0 to 7 padding bytes.
+pub fn references_fit(s: &[u8]) -> bool
+    ensures { λ r. ⌜ r ≡ padded (now (s .entry)) (tileDirectoryAt (now (s .entry))) (referencesEnd (now (s .entry))) ⌝ }
+{
+    let at = tile_directory_at(s);
+    let limit = frame::record_limit(s, at);
+    if limit < 32 {
+        return false;
+    }
+    if limit - 32 < at {
+        return false;
+    }
+    let room = (limit - 32 - at) as u64;
+    let size = reference_size(s);
+    let count = reference_count(s);
+    if room < count {
+        return false;
+    }
+    if room / size < count {
+        return false;
+    }
+    if 7 < room - count * size {
+        return false;
+    }
+    true
 }

@@ -2,6 +2,7 @@
 mod build;
 mod crc;
 mod headers;
+mod records;
 mod show;
 mod tables;
 mod values;
@@ -10,4 +11,5 @@ fn main() {
     crc::run();
     values::run();
     headers::run();
+    records::run();
 }

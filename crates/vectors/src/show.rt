@@ -54,3 +54,8 @@ pub fn element(x: header::Element) {
     number(x.end as u64);
     text(b"\n");
 }
+
+// What stages 1 to 8 say of the first n bytes as a file.
+pub fn records(s: &[u8], n: usize) {
+    verdict(page_check::check_to_bodies(wire::part_of(s, 0, n)));
+}
