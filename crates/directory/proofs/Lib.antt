@@ -1,2 +1,4 @@
 pub mod TileLaws
 pub mod SearchLaws
+pub mod FitLaws
+pub mod SpaceLaws

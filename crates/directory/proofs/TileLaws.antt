@@ -1,30 +1,16 @@
 -- The tile directory's references, from what the functions below them answer. Assumes nothing.
 use Prim.Native.Nat.{ℕ, _+_, _*_, _/_, _%_, _-_, _≤_, _<_}
-use mathlib.Core.Path.{_≡_, sym, ap, _∙_, refl}
+use mathlib.Core.Path.{_≡_, sym, ap, _∙_}
 use mathlib.Core.List.{List}
 use mathlib.Core.Bool.{Bool, true, false}
 use native.Mathlib.Omega.{arith}
-use lib.Dec.{eqb}
 use lib.ListN.{length}
 use borrow.Author.Tests.{ne-eqb}
-use Rattle.wire.specs.Pick.{pick}
 use Rattle.wire.specs.Bytes.{numberAt}
 use Rattle.wire.proofs.ByteLaws.{number-out}
-use Rattle.header.specs.Fields.{tileDirectoryReference}
 use Rattle.geometry.specs.Tiles.{tilesAcross}
 use Rattle.directory.specs.TileDirectory.{tileDirectoryAt, standardReferences, firstRow, firstColumn, listedColumns, inSpan, referenceAt, referenceOf, tileReference, inRectangle, numberOf, referenceSize, referencesEnd, listedRows}
 use Rattle.directory.specs.References.{padded}
-use Rattle.check_records.specs.Chain.{recordLimit}
-use Rattle.wire.proofs.TestLaws.{yes, no}
-use native.Mathlib.Nat.{mul-le-mul-left, div-lt-iff-lt-mul, le-div-iff-mul-le}
-
-pub at-none : (s : List ℕ) (r : ℕ) → r ≡ tileDirectoryReference s → r < 8 → 0 ≡ tileDirectoryAt s
-unfolding tileDirectoryAt
-at-none s r e h = omega arith
-
-pub at-some : (s : List ℕ) (r : ℕ) → r ≡ tileDirectoryReference s → r - 8 ≡ tileDirectoryAt s
-unfolding tileDirectoryAt
-at-some s r e = rw e
 
 -- a reference, by its form; one that lies past every slice is 0
 
@@ -91,52 +77,8 @@ pub size-compact : (s : List ℕ) (f : ℕ) → f ≡ standardReferences s → (
 unfolding referenceSize
 size-compact s f p h = rw (← p, ne-eqb f 1 h)
 
--- the references, n of a size z, in a record whose checksum starts at l, so many bytes behind them being left
-module _
-    (s : List ℕ) (d l n z : ℕ) (p : d ≡ tileDirectoryAt s) (q : l ≡ recordLimit s d) (t : n ≡ listedRows s * listedColumns s) (u : z ≡ referenceSize s)
-    (small : 4 ≤ z)
-  where
-    end-is : referencesEnd s ≡ d + 32 + n * z
-    unfolding referencesEnd
-    end-is = rw (p, t, u)
-
-    limit-is : recordLimit s (tileDirectoryAt s) ≡ l
-    limit-is = rw (← p) (sym q)
-
-    pub fit-short : l < d + 32 → false ≡ padded s (tileDirectoryAt s) (referencesEnd s)
-    unfolding padded
-    fit-short h = no _ (λ y. omega (arith, y .0, end-is, limit-is))
-
-    pub fit-many : l - 32 - d < n → d + 32 ≤ l → false ≡ padded s (tileDirectoryAt s) (referencesEnd s)
-    unfolding padded
-    fit-many h k =
-        let m : n * 1 ≤ n * z = mul-le-mul-left n (omega arith) in
-        no _ (λ y. omega (arith, y .0, end-is, limit-is))
-
-    pub fit-not : (l - 32 - d) / z < n → d + 32 ≤ l → false ≡ padded s (tileDirectoryAt s) (referencesEnd s)
-    unfolding padded
-    fit-not h k =
-        let m : l - 32 - d < n * z = div-lt-iff-lt-mul {k = z} (omega arith) .0 h in
-        no _ (λ y. omega (arith, y .0, end-is, limit-is))
-
-    pub fit-room : n ≤ (l - 32 - d) / z → n * z ≤ l - 32 - d
-    fit-room h = le-div-iff-mul-le {k = z} (omega arith) .0 h
-
-    pub fit-loose : n ≤ (l - 32 - d) / z → d + 32 ≤ l → 7 < l - 32 - d - n * z → false ≡ padded s (tileDirectoryAt s) (referencesEnd s)
-    unfolding padded
-    fit-loose h k m = let r = fit-room h in no _ (λ y. omega (arith, y .1 .0, end-is, limit-is))
-
-    pub fit-yes : n ≤ (l - 32 - d) / z → d + 32 ≤ l → l - 32 - d - n * z ≤ 7 → true ≡ padded s (tileDirectoryAt s) (referencesEnd s)
-    unfolding padded
-    fit-yes h k m = let r = fit-room h in yes _ (omega (arith, end-is, limit-is), (omega (arith, end-is, limit-is), tt))
-
-size-least : (s : List ℕ) → 4 ≤ referenceSize s
-unfolding referenceSize
-size-least s = go (eqb (standardReferences s) 1)
-  where
-    go : (b : Bool) → 4 ≤ pick b 8 4
-    go true = omega arith
-    go false = omega arith
-
-pub fit-early : (s : List ℕ) (d l : ℕ) → d ≡ tileDirectoryAt s → l ≡ recordLimit s d → l < d + 32 → false ≡ padded s (tileDirectoryAt s) (referencesEnd s)
-fit-early s d l p q h = fit-short s d l _ _ p q refl refl (size-least s) h
+pub fit-is :
+    (s : List ℕ) (d n z : ℕ) (b : Bool) → d ≡ tileDirectoryAt s → n ≡ listedRows s * listedColumns s → z ≡ referenceSize s →
+    b ≡ padded s d (d + 32 + n * z) → b ≡ padded s (tileDirectoryAt s) (referencesEnd s)
+unfolding referencesEnd
+fit-is s d n z b p q t e = e ∙ rw (p, q, t)

@@ -1,4 +1,6 @@
 // Stage 9 of the check: the directories.
+pub mod entries;
+pub mod file_space;
 pub mod references;
 pub mod tile_directory;
 

@@ -1,5 +1,5 @@
 // Stage 9: the tile directory's fields and references.
-use check_records::frame;
+use crate::entries;
 use geometry::tiles;
 use header::fields;
 ghost use mathlib.Core.Path.{_≡_};
@@ -13,11 +13,7 @@ ghost use Rattle.directory.specs.References.{padded};
 pub fn tile_directory_at(s: &[u8]) -> usize
     ensures { λ r. ⌜ r ≡ tileDirectoryAt (now (s .entry)) ⌝ }
 {
-    let reference = fields::tile_directory_reference(s);
-    if reference < 8 {
-        return 0;
-    }
-    (reference - 8) as usize
+    entries::record_of(fields::tile_directory_reference(s))
 }
 
 // A number of four bytes, and a byte, at an offset of that record.
@@ -203,8 +199,7 @@ pub fn tile_reference(s: &[u8], i: u32) -> u64
 
 // The bytes of a reference.
 fn reference_size(s: &[u8]) -> u64
-    ensures is { λ r. ⌜ r ≡ referenceSize (now (s .entry)) ⌝ }
-    ensures near { λ r. ⌜ (4 ≤ r) × (r ≤ 8) ⌝ }
+    ensures { λ r. ⌜ r ≡ referenceSize (now (s .entry)) ⌝ }
 {
     if standard_references(s) == 1 {
         return 8;
@@ -225,25 +220,11 @@ fn reference_count(s: &[u8]) -> u64
 pub fn references_fit(s: &[u8]) -> bool
     ensures { λ r. ⌜ r ≡ padded (now (s .entry)) (tileDirectoryAt (now (s .entry))) (referencesEnd (now (s .entry))) ⌝ }
 {
-    let at = tile_directory_at(s);
-    let limit = frame::record_limit(s, at);
-    if limit < 32 {
-        return false;
-    }
-    if limit - 32 < at {
-        return false;
-    }
-    let room = (limit - 32 - at) as u64;
-    let size = reference_size(s);
-    let count = reference_count(s);
-    if room < count {
-        return false;
-    }
-    if room / size < count {
-        return false;
-    }
-    if 7 < room - count * size {
-        return false;
-    }
-    true
+    entries::entries_fit(
+        s,
+        tile_directory_at(s),
+        32,
+        reference_count(s),
+        reference_size(s),
+    )
 }

@@ -1,5 +1,4 @@
 -- `directory::tile_directory::reference_size` meets its contract. Assumes nothing.
-use native.Mathlib.Omega.{arith}
 use Rattle.directory.proofs.TileLaws.{size-standard, size-compact}
 use borrow.Author.Needs.{needs}
 use Rattle.directory.proofs.tile_directory.reference_size.Statement.{statement}
@@ -10,5 +9,5 @@ reference-size-spec =
     tie.close
     (tie.spec
     (λ c κs. search needs)
-    (λ c. (search (needs, size-standard), (omega arith, omega arith)))
-    (λ c. (search (needs, size-compact), (omega arith, omega arith))))
+    (λ c. search (needs, size-standard))
+    (λ c. search (needs, size-compact)))
