@@ -1,14 +1,24 @@
 -- Entries that fit their record: n of a size z behind f bytes of the record at d, whose checksum starts at l. Assumes nothing.
-use Prim.Native.Nat.{ℕ, _+_, _*_, _/_, _≤_, _<_}
+use Prim.Native.Nat.{ℕ, _+_, _*_, _/_, _-_, _≤_, _<_}
 use mathlib.Core.Path.{_≡_, sym, ap, refl}
 use mathlib.Core.List.{List, [], _∷_}
 use mathlib.Core.Bool.{Bool, true, false, not}
 use native.Mathlib.Omega.{arith}
+use borrow.Author.Tests.{ne-eqb}
+use Rattle.wire.specs.Bytes.{u32At}
 use Rattle.check_records.specs.Chain.{recordLimit}
 use Rattle.wire.specs.Tests.{_≤?_, passes}
 use Rattle.wire.proofs.TestLaws.{yes, no, means, fails, not-both}
-use Rattle.directory.specs.References.{padded}
+use Rattle.directory.specs.References.{entryCount, padded}
 use native.Mathlib.Nat.{div-lt-iff-lt-mul, le-div-iff-mul-le}
+
+pub count-none : (s : List ℕ) (r : ℕ) → r ≡ 0 → 0 ≡ entryCount s r
+unfolding entryCount
+count-none s r h = rw h
+
+pub count-some : (s : List ℕ) (r d n : ℕ) → (r ≡ 0 → ⊥) → d ≡ r - 8 → n ≡ u32At s (d + 8) → n ≡ entryCount s r
+unfolding entryCount
+count-some s r d n h q e = rw (ne-eqb r 0 h, ← q) e
 
 by-not : (a b : ℕ) → (a ≤ b → ⊥) → b < a
 by-not a b h = omega (arith, h)

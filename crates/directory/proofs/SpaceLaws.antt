@@ -5,21 +5,12 @@ use mathlib.Core.List.{List}
 use mathlib.Core.Bool.{Bool, true, false}
 use native.Mathlib.Omega.{arith}
 use borrow.Author.Tests.{ne-eqb}
-use Rattle.wire.specs.Bytes.{u32At}
 use Rattle.wire.proofs.TestLaws.{no, not-both, either-way}
 use Rattle.header.specs.Fields.{fileSpaceReference}
 use Rattle.directory.specs.References.{padded}
 use Rattle.directory.specs.FileSpace.{fileSpaceAt, freeCount, freeEntryAt, freeFits}
 
 module _ (s : List ℕ) (r : ℕ) (p : r ≡ fileSpaceReference s) where
-  pub count-none : r ≡ 0 → 0 ≡ freeCount s
-  unfolding freeCount
-  count-none h = rw (← p, h)
-
-  pub count-some : (d n : ℕ) → (r ≡ 0 → ⊥) → d ≡ fileSpaceAt s → n ≡ u32At s (d + 8) → n ≡ freeCount s
-  unfolding freeCount
-  count-some d n h q e = rw (← p, ne-eqb r 0 h, ← q) e
-
   pub fits-none : r ≡ 0 → true ≡ freeFits s
   unfolding freeFits
   fits-none h = rw (← p, h)

@@ -3,20 +3,19 @@ use Prim.Native.Nat.{ℕ, _+_, _*_, _-_}
 use mathlib.Core.List.{List, [], _∷_}
 use mathlib.Core.Bool.{Bool, _||_}
 use lib.Dec.{eqb}
-use Rattle.wire.specs.Pick.{pick}
 use Rattle.wire.specs.Tests.{_≤?_, _≡?_, is, passes, allBelow}
 use Rattle.wire.specs.Bytes.{u32At, u64At, largestInteger}
 use Rattle.header.specs.Fields.{fileSpaceReference}
 use Rattle.record.specs.Record.{lengthAt}
 use Rattle.directory.specs.Lists.{every, some, countBelow, recordsOf}
-use Rattle.directory.specs.References.{refersOrZero, noOther, padded}
+use Rattle.directory.specs.References.{refersOrZero, noOther, entryCount, padded}
 
 unfoldable pub fileSpaceAt : List ℕ → ℕ
 fileSpaceAt s = fileSpaceReference s - 8
 
 -- Table 17: the number of free-space records listed; none where the reference is zero
 unfoldable pub freeCount : List ℕ → ℕ
-freeCount s = pick (eqb (fileSpaceReference s) 0) 0 (u32At s (fileSpaceAt s + 8))
+freeCount s = entryCount s (fileSpaceReference s)
 
 -- Table 18: entry k has eight bytes, the start of a free-space record (G 3.3.4: not its content), and four, its whole length
 unfoldable pub freeEntryAt : List ℕ → ℕ → ℕ

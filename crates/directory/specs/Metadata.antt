@@ -3,7 +3,6 @@ use Prim.Native.Nat.{ℕ, _+_, _-_}
 use mathlib.Core.List.{List, [], _∷_}
 use mathlib.Core.Bool.{Bool, _||_, not}
 use lib.Dec.{eqb}
-use Rattle.wire.specs.Pick.{pick}
 use Rattle.wire.specs.Tests.{_≤?_, _≡?_, is, passes, allBelow}
 use Rattle.wire.specs.Bytes.{byteAt, u16At, u32At, u64At, part, sameBytes, largestInteger}
 use Rattle.wire.specs.Items.{advance}
@@ -13,14 +12,14 @@ use Rattle.record.specs.Record.{contentAt}
 use Rattle.check_records.specs.Chain.{recordLimit}
 use Rattle.check_records.specs.MetadataBody.{metadataName, recordId, dataType}
 use Rattle.directory.specs.Lists.{every, some, countBelow, recordsOf}
-use Rattle.directory.specs.References.{refersOrZero, noOther, padded}
+use Rattle.directory.specs.References.{refersOrZero, noOther, entryCount, padded}
 
 unfoldable pub metadataAt : List ℕ → ℕ
 metadataAt s = metadataReference s - 8
 
 -- Table 19: the number of metadata records listed; none where the reference is zero
 unfoldable pub metadataCount : List ℕ → ℕ
-metadataCount s = pick (eqb (metadataReference s) 0) 0 (u32At s (metadataAt s + 8))
+metadataCount s = entryCount s (metadataReference s)
 
 -- Table 20, of the entry at p: a position, eight bytes; the name, a string; the record ID, four bytes; the type code, one
 unfoldable pub entryIdAt : List ℕ → ℕ → ℕ

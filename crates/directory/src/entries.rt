@@ -4,7 +4,7 @@ ghost use mathlib.Core.Path.{_≡_};
 ghost use Prim.Native.Nat.{_+_, _*_, _-_};
 ghost use mathlib.Core.List.{[], _∷_};
 ghost use Rattle.wire.specs.Tests.{_≤?_, passes};
-ghost use Rattle.directory.specs.References.{padded};
+ghost use Rattle.directory.specs.References.{entryCount, padded};
 
 // The start of the record whose content starts at a reference.
 pub fn record_of(reference: u64) -> usize
@@ -14,6 +14,16 @@ pub fn record_of(reference: u64) -> usize
         return 0;
     }
     (reference - 8) as usize
+}
+
+// How many entries the file-space or metadata directory lists.
+pub fn entry_count(s: &[u8], reference: u64) -> u32
+    ensures { λ r. ⌜ r ≡ entryCount (now (s .entry)) reference ⌝ }
+{
+    if reference == 0 {
+        return 0;
+    }
+    wire::u32_off(s, record_of(reference), 8)
 }
 
 // So many of a size take no more than the room, with no product that is too large.

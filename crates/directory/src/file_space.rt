@@ -15,10 +15,7 @@ pub fn file_space_at(s: &[u8]) -> usize
 pub fn free_count(s: &[u8]) -> u32
     ensures { λ r. ⌜ r ≡ freeCount (now (s .entry)) ⌝ }
 {
-    if fields::file_space_reference(s) == 0 {
-        return 0;
-    }
-    wire::u32_off(s, file_space_at(s), 8)
+    entries::entry_count(s, fields::file_space_reference(s))
 }
 
 // It has at least one entry, and its count fits.

@@ -1,6 +1,7 @@
 // Stage 9 of the check: the directories.
 pub mod entries;
 pub mod file_space;
+pub mod metadata;
 pub mod references;
 pub mod tile_directory;
 

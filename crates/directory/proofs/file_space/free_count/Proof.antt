@@ -1,15 +1,16 @@
 -- `directory::file_space::free_count` meets its contract. Assumes nothing.
-use Rattle.directory.proofs.SpaceLaws.{count-none, count-some}
+use mathlib.Core.Path.{ap, _∙_}
+use Rattle.directory.specs.References.{entryCount}
+use Rattle.directory.specs.FileSpace.{freeCount}
 use borrow.Author.Needs.{needs}
 use Rattle.directory.proofs.file_space.free_count.Statement.{statement}
 use Rattle.directory.proofs.file_space.free_count.Tie as tie
 
 pub free-count-spec : {M : Type 1} → statement M
+unfolding freeCount
 free-count-spec =
     tie.close
     (tie.spec
     (λ c κs. search needs)
-    (λ c. search (needs, count-none))
     (λ c κs. search needs)
-    (λ c κs. search needs)
-    (λ c. search (needs, count-some)))
+    (λ c. c .entry-count .ensures ∙ ap (entryCount _) (c .before .file-space-reference .ensures)))

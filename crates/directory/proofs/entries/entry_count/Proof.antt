@@ -1,0 +1,14 @@
+-- `directory::entries::entry_count` meets its contract. Assumes nothing.
+use Rattle.directory.proofs.FitLaws.{count-none, count-some}
+use borrow.Author.Needs.{needs}
+use Rattle.directory.proofs.entries.entry_count.Statement.{statement}
+use Rattle.directory.proofs.entries.entry_count.Tie as tie
+
+pub entry-count-spec : {M : Type 1} → statement M
+entry-count-spec =
+    tie.close
+    (tie.spec
+    (λ c. search (needs, count-none))
+    (λ c κs. search needs)
+    (λ c κs. search needs)
+    (λ c. search (needs, count-some)))
