@@ -10,10 +10,9 @@ use Rattle.wire.specs.Tests.{allBelow}
 use Rattle.wire.specs.Bytes.{byteAt, numberAt, u16At, u32At, part}
 use Rattle.wire.specs.Items.{advance}
 use Rattle.wire.proofs.TestLaws.{means, no, not-both}
-use Rattle.wire.proofs.ByteLaws.{number-out, part-out}
+use Rattle.wire.proofs.ByteLaws.{byte-out, number-out, part-out}
 use Rattle.wire.proofs.ItemLaws.{advance-grows}
 use Rattle.crc32c.specs.Crc.{crcPart}
-use Rattle.header.specs.Names.{identifier}
 use Rattle.header.specs.Fields.{checksumEnabled, elementCount, headerEnd}
 use Rattle.header.specs.Element.{stringSize, stringEnd}
 use Rattle.header.proofs.NameLaws.{identifier-empty}
@@ -30,7 +29,7 @@ use Rattle.check_records.specs.declared.Rule.the-variants.{Chain, Checks
 use Rattle.check_records.specs.Chain.{records, recordLimit, endRight}
 use Rattle.check_records.specs.Checksum.{summedBytes, checksumOf, checksumAt, checksumRight}
 use Rattle.check_records.specs.TileBody.{sectionEnd, sectionAt, sectionLength, sectionJudged, sectionRight, tileEnd, tileRight}
-use Rattle.check_records.specs.MetadataBody.{metadataName, recordIdAt, dataType, contentLengthAt, metadataLength, metadataEnd, metadataRight}
+use Rattle.check_records.specs.MetadataBody.{metadataName, recordIdAt, recordId, dataType, contentLengthAt, metadataLength, metadataEnd, metadataRight}
 use Rattle.check_records.specs.Faults.{bodyRight, rightOf, wrongOf, chainFault, checksumFault, bodyFault}
 
 -- checksums
@@ -113,11 +112,34 @@ tile-past s at h = no _ (λ z. let y = means _ (z .1 .0) in omega (arith, y .0, 
 pub metadata-past : (s : List ℕ) (at : ℕ) → length s ≤ at → false ≡ metadataRight s at
 unfolding metadataRight metadataName
 metadata-past s at h =
-    let n : 0 ≡ u16At s (at + 8) = number-out 2 s (at + 8) (omega arith) in
     let e : part s (at + 10) (u16At s (at + 8)) ≡ [] = part-out s (at + 10) (u16At s (at + 8)) (omega arith) in
     no _ (λ z. not-both (z .1 .1 .0) (rw e (sym (identifier-empty 32 [] (omega arith)))))
 
 -- metadata
+
+id-behind : (s : List ℕ) (at : ℕ) → at + 10 ≤ recordIdAt s at
+unfolding recordIdAt stringEnd stringSize
+id-behind s at = omega arith
+
+pub id-past : (s : List ℕ) (at : ℕ) → length s ≤ at → 0 ≡ recordId s at
+unfolding recordId
+id-past s at h = number-out 4 s (recordIdAt s at) (omega (arith, id-behind s at))
+
+pub type-past : (s : List ℕ) (at : ℕ) → length s ≤ at → 0 ≡ dataType s at
+unfolding dataType
+type-past s at h = byte-out s (recordIdAt s at + 4) (omega (arith, id-behind s at))
+
+pub name-past : (s : List ℕ) (at : ℕ) → length s ≤ at → [] ≡ metadataName s at
+unfolding metadataName
+name-past s at h = sym (part-out s (at + 10) (u16At s (at + 8)) (omega arith))
+
+pub record-id-is : (s : List ℕ) (at p r : ℕ) → p ≡ recordIdAt s at → r ≡ numberAt 4 s p → r ≡ recordId s at
+unfolding recordId
+record-id-is s at p r a e = e ∙ rw a
+
+pub named-is : (s : List ℕ) (at n : ℕ) (l : List ℕ) → n ≡ numberAt 2 s (at + 8) → l ≡ part s (at + 10) n → l ≡ metadataName s at
+unfolding metadataName
+named-is s at n l a e = e ∙ rw a
 
 pub id-is : (s : List ℕ) (at n : ℕ) → n ≡ stringSize s (at + 8) → at + 8 + n ≡ recordIdAt s at
 unfolding recordIdAt stringEnd
@@ -137,11 +159,6 @@ unfolding metadataEnd contentLengthAt stringEnd
 metadata-end-is s at p l n a b e =
     let k : p + 9 + l ≡ recordIdAt s at + 5 + 4 + metadataLength s at = omega arith in
     rw (e, ← k)
-
-pub name-is :
-    (s : List ℕ) (at n : ℕ) (r : Bool) → n ≡ numberAt 2 s (at + 8) → r ≡ identifier 32 (part s (at + 10) n) → r ≡ identifier 32 (metadataName s at)
-unfolding metadataName
-name-is s at n r a e = e ∙ rw a
 
 -- one record
 

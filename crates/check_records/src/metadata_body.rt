@@ -7,7 +7,7 @@ ghost use Prim.Native.Nat.{_+_, _≤_, _<_};
 ghost use lib.ListN.{length};
 ghost use Rattle.header.specs.Names.{identifier};
 ghost use Rattle.check_records.specs.Chain.{endRight};
-ghost use Rattle.check_records.specs.MetadataBody.{metadataName, recordIdAt, dataType, contentLengthAt, metadataLength, metadataEnd, metadataRight};
+ghost use Rattle.check_records.specs.MetadataBody.{metadataName, recordIdAt, recordId, dataType, contentLengthAt, metadataLength, metadataEnd, metadataRight};
 
 // Where the record ID stands.
 fn record_id_at(s: &[u8], at: usize) -> usize
@@ -18,12 +18,34 @@ fn record_id_at(s: &[u8], at: usize) -> usize
     at + 8 + entries::string_size(s, at + 8)
 }
 
+// The record ID; 0 where it does not lie in the file.
+pub fn record_id(s: &[u8], at: usize) -> u32
+    ensures { λ r. ⌜ r ≡ recordId (now (s .entry)) at ⌝ }
+{
+    if s.len() <= at {
+        return 0;
+    }
+    wire::u32_at(s, record_id_at(s, at))
+}
+
 // The data type.
-fn data_type(s: &[u8], at: usize) -> u32
-    requires { ⌜ at < length (now s) ⌝ }
+pub fn data_type(s: &[u8], at: usize) -> u32
     ensures { λ r. ⌜ r ≡ dataType (now (s .entry)) at ⌝ }
 {
+    if s.len() <= at {
+        return 0;
+    }
     wire::byte_off(s, record_id_at(s, at), 4)
+}
+
+// The name, as that part of the slice itself.
+pub fn metadata_name(s: &[u8], at: usize) -> &[u8]
+    ensures { λ r. ⌜ now r ≡ metadataName (now (s .entry)) at ⌝ }
+{
+    if s.len() <= at {
+        return &s[..0];
+    }
+    wire::part_of(s, at + 10, wire::u16_off(s, at, 8) as usize)
 }
 
 // The content's length.
@@ -44,10 +66,9 @@ fn metadata_end(s: &[u8], at: usize) -> usize
 }
 
 fn name_right(s: &[u8], at: usize) -> bool
-    requires { ⌜ at < length (now s) ⌝ }
     ensures { λ r. ⌜ r ≡ identifier 32 (metadataName (now (s .entry)) at) ⌝ }
 {
-    names::identifier_at(s, at + 10, wire::u16_off(s, at, 8) as usize, 32)
+    names::is_identifier(metadata_name(s, at), 32)
 }
 
 pub fn metadata_right(s: &[u8], at: usize) -> bool

@@ -1,4 +1,4 @@
--- Entries that fit their record: n of a size z behind f bytes of the record at d, whose checksum starts at l. Assumes nothing.
+-- Entries that fit their record: those of the record at d, whose checksum starts at l, end at e. Assumes nothing.
 use Prim.Native.Nat.{ℕ, _+_, _*_, _/_, _-_, _≤_, _<_}
 use mathlib.Core.Path.{_≡_, sym, ap, refl}
 use mathlib.Core.List.{List, [], _∷_}
@@ -42,15 +42,15 @@ module _ (r n z : ℕ) where
   over-told true p e = not-both e refl
   over-told false p e = by-not (n * z) r (λ h. fails _ (sym p) (h, tt))
 
-module _ (s : List ℕ) (d f l n z : ℕ) (q : l ≡ recordLimit s d) where
-  pub fit-over : l < d + f + n * z → false ≡ padded s d (d + f + n * z)
+module _ (s : List ℕ) (d l e : ℕ) (q : l ≡ recordLimit s d) where
+  pub fit-over : l < e → false ≡ padded s d e
   unfolding padded
   fit-over h = no _ (λ y. omega (arith, y .0))
 
-  pub fit-loose : d + f + n * z + 7 < l → false ≡ padded s d (d + f + n * z)
+  pub fit-loose : e + 7 < l → false ≡ padded s d e
   unfolding padded
   fit-loose h = no _ (λ y. omega (arith, y .1 .0))
 
-  pub fit-yes : d + f + n * z ≤ l → l ≤ d + f + n * z + 7 → true ≡ padded s d (d + f + n * z)
+  pub fit-yes : e ≤ l → l ≤ e + 7 → true ≡ padded s d e
   unfolding padded
   fit-yes h k = yes _ (omega arith, (omega arith, tt))

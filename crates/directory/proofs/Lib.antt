@@ -1,4 +1,7 @@
 pub mod TileLaws
 pub mod SearchLaws
 pub mod FitLaws
-pub mod SpaceLaws
+pub mod CountLaws
+pub mod OnlyLaws
+pub mod TallyLaws
+pub mod RuleLaws

@@ -4,6 +4,7 @@ use mathlib.Core.Path.{_≡_, refl, sym, ap, _∙_}
 use mathlib.Core.List.{List, [], _∷_}
 use mathlib.Core.Bool.{Bool, true, false, not}
 use lib.Dec.{eqb}
+use borrow.Author.Tests.{ne-eqb}
 use Rattle.wire.specs.Pick.{pick}
 use Rattle.wire.specs.Tests.{both, passes}
 use Rattle.header.specs.Fields.{headerEnd}
@@ -16,7 +17,7 @@ use Rattle.check_records.specs.TileBody.{tileIndex}
 use Rattle.directory.specs.declared.Want.{Want}
 use Rattle.directory.specs.declared.Want.the-variants.{Referred, Other, Unlisted}
 use Rattle.directory.specs.Lists.{select, every, some, recordsOf}
-use Rattle.directory.specs.References.{refersTo, noOther}
+use Rattle.directory.specs.References.{refersTo, refersOrZero, noOther}
 use Rattle.directory.specs.TileDirectory.{tileReference, tilesListed}
 use Rattle.directory.specs.Search.{wants}
 
@@ -59,7 +60,7 @@ module _ (p q w : ℕ → Bool) where
 
 -- by what is looked for
 
-type-is : (s : List ℕ) (k x : ℕ) (b : Bool) → both (eqb (typeAt s x) k) b ≡ both (eqb (typeAt s x) k) (both b true)
+pub type-is : (s : List ℕ) (k x : ℕ) (b : Bool) → both (eqb (typeAt s x) k) b ≡ both (eqb (typeAt s x) k) (both b true)
 type-is s k x b = go (eqb (typeAt s x) k) b
   where
     go : (a b : Bool) → both a b ≡ both a (both b true)
@@ -108,6 +109,14 @@ unlisted-found s x f p e = ap (λ (g : Found). not (isFound g)) (sym p) ∙ list
 
 pub unlisted-none : (s : List ℕ) (f : Found) → f ≡ Nothing → f ≡ firstRecord s (headerEnd s) (wants s Unlisted) → true ≡ tilesListed s
 unlisted-none s f p e = ap (λ (g : Found). not (isFound g)) (sym p) ∙ listed-is s f e
+
+pub zero-yes : (s : List ℕ) (k r : ℕ) → r ≡ 0 → true ≡ refersOrZero s k r
+unfolding refersOrZero
+zero-yes s k r h = rw h
+
+pub zero-or : (s : List ℕ) (k r : ℕ) (b : Bool) → (r ≡ 0 → ⊥) → b ≡ refersTo s k r → b ≡ refersOrZero s k r
+unfolding refersOrZero
+zero-or s k r b h e = rw (ne-eqb r 0 h) e
 
 -- a record is what is looked for
 

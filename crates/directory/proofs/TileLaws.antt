@@ -5,11 +5,13 @@ use mathlib.Core.List.{List}
 use mathlib.Core.Bool.{Bool, true, false}
 use native.Mathlib.Omega.{arith}
 use lib.ListN.{length}
+use Rattle.directory.specs.Lists.{oneIf}
+use Rattle.directory.proofs.CountLaws.{one-yes, one-no}
 use borrow.Author.Tests.{ne-eqb}
 use Rattle.wire.specs.Bytes.{numberAt}
 use Rattle.wire.proofs.ByteLaws.{number-out}
 use Rattle.geometry.specs.Tiles.{tilesAcross}
-use Rattle.directory.specs.TileDirectory.{tileDirectoryAt, standardReferences, firstRow, firstColumn, listedColumns, inSpan, referenceAt, referenceOf, tileReference, inRectangle, numberOf, referenceSize, referencesEnd, listedRows}
+use Rattle.directory.specs.TileDirectory.{tileDirectoryAt, standardReferences, firstRow, firstColumn, listedColumns, inSpan, referenceAt, referenceOf, tileReference, inRectangle, numberOf, referenceSize, referencesEnd, listedRows, gives}
 use Rattle.directory.specs.References.{padded}
 
 -- a reference, by its form; one that lies past every slice is 0
@@ -82,3 +84,11 @@ pub fit-is :
     b ≡ padded s d (d + 32 + n * z) → b ≡ padded s (tileDirectoryAt s) (referencesEnd s)
 unfolding referencesEnd
 fit-is s d n z b p q t e = e ∙ rw (p, q, t)
+
+pub given-one : (s : List ℕ) (k r : ℕ) → r ≡ referenceAt s k → (r ≡ 0 → ⊥) → (1 ≡ oneIf (gives s k)) × (1 ≤ 1)
+unfolding gives
+given-one s k r q h = one-yes _ (rw (← q, ne-eqb r 0 h))
+
+pub given-none : (s : List ℕ) (k r : ℕ) → r ≡ referenceAt s k → r ≡ 0 → (0 ≡ oneIf (gives s k)) × (0 ≤ 1)
+unfolding gives
+given-none s k r q h = one-no _ (rw (← q, h))

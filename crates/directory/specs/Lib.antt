@@ -2,6 +2,3 @@ pub mod Lists
 pub mod References
 pub mod TileDirectory
 pub mod Search
-pub mod FileSpace
-pub mod Metadata
-pub mod Stage

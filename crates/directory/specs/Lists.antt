@@ -22,10 +22,14 @@ unfoldable pub some : (ℕ → Bool) → List ℕ → Bool
 some p [] = false
 some p (x ∷ xs) = p x || some p xs
 
+-- 1 where it holds, else 0
+unfoldable pub oneIf : Bool → ℕ
+oneIf b = pick b 1 0
+
 -- how many numbers below n p holds of
 unfoldable pub countBelow : ℕ → (ℕ → Bool) → ℕ
 countBelow zero p = 0
-countBelow (suc n) p = countBelow n p + pick (p n) 1 0
+countBelow (suc n) p = countBelow n p + oneIf (p n)
 
 -- the starts of a file's records of a type, in file order (G Table 1: 0 free space, 1 metadata, 2 tile, 3 file-space directory,
 -- 4 metadata directory, 5 tile directory)

@@ -1,7 +1,7 @@
 -- Document 01, stage 9; G 4.2.8 and Table 21: the tile directory.
 use Prim.Native.Nat.{ℕ, _+_, _*_, _/_, _%_, _-_}
 use mathlib.Core.List.{List, [], _∷_}
-use mathlib.Core.Bool.{Bool, _||_}
+use mathlib.Core.Bool.{Bool, _||_, not}
 use lib.Dec.{eqb}
 use Rattle.wire.specs.Pick.{pick}
 use Rattle.wire.specs.Tests.{_≤?_, _≡?_, is, passes, allBelow}
@@ -59,6 +59,10 @@ referenceSize s = pick (eqb (standardReferences s) 1) 8 4
 unfoldable pub referenceAt : List ℕ → ℕ → ℕ
 referenceAt s k =
     pick (eqb (standardReferences s) 1) (u64At s (tileDirectoryAt s + 32 + 8 * k)) (u32At s (tileDirectoryAt s + 32 + 4 * k) * 8)
+
+-- it is not zero
+unfoldable pub gives : List ℕ → ℕ → Bool
+gives s k = not (eqb (referenceAt s k) 0)
 
 -- behind the last reference
 unfoldable pub referencesEnd : List ℕ → ℕ

@@ -59,3 +59,17 @@ pub fn entries_fit(s: &[u8], at: usize, fixed: usize, count: u64, size: u64) -> 
     }
     true
 }
+
+// The fields of the record at a position end at `end`, with 0 to 7 padding bytes behind them.
+pub fn padded_to(s: &[u8], at: usize, end: usize) -> bool
+    ensures { λ r. ⌜ r ≡ padded (now (s .entry)) at end ⌝ }
+{
+    let limit = frame::record_limit(s, at);
+    if limit < end {
+        return false;
+    }
+    if 7 < limit - end {
+        return false;
+    }
+    true
+}

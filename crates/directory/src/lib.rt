@@ -1,9 +1,8 @@
-// Stage 9 of the check: the directories.
+// Stage 9 of the check: references, and the tile directory.
 pub mod entries;
-pub mod file_space;
-pub mod metadata;
 pub mod references;
 pub mod tile_directory;
+pub mod tile_rules;
 
 // What is looked for among the records: one of a type whose content a reference gives, one of the type that it does not
 // give, or a tile record that is not listed at its own index.

@@ -8,10 +8,11 @@ use record::Step;
 ghost use mathlib.Core.Path.{_≡_};
 ghost use Prim.Native.Nat.{_<_};
 ghost use lib.ListN.{length};
+ghost use Rattle.directory.specs.Lists.{recordsOf};
 ghost use Rattle.record.specs.Chain.{firstRecord};
 ghost use Rattle.header.specs.Fields.{headerEnd};
 ghost use Rattle.check_records.specs.TileBody.{tileIndex};
-ghost use Rattle.directory.specs.References.{refersTo, noOther};
+ghost use Rattle.directory.specs.References.{refersTo, refersOrZero, noOther};
 ghost use Rattle.directory.specs.TileDirectory.{tileReference, tilesListed};
 ghost use Rattle.directory.specs.Search.{wants};
 
@@ -118,6 +119,16 @@ pub fn refers_to(s: &[u8], kind: u32, reference: u64) -> bool
     false
 }
 
+// It may be zero.
+pub fn refers_or_zero(s: &[u8], kind: u32, reference: u64) -> bool
+    ensures { λ r. ⌜ r ≡ refersOrZero (now (s .entry)) kind reference ⌝ }
+{
+    if reference == 0 {
+        return true;
+    }
+    refers_to(s, kind, reference)
+}
+
 // No other record of the type exists.
 pub fn no_other(s: &[u8], kind: u32, reference: u64) -> bool
     ensures { λ r. ⌜ r ≡ noOther (now (s .entry)) kind reference ⌝ }
@@ -136,4 +147,38 @@ pub fn tiles_listed(s: &[u8]) -> bool
         return false;
     }
     true
+}
+
+// How many records of a type a file has.
+pub fn record_count(s: &[u8], kind: u32) -> usize
+    ensures { λ r. ⌜ r ≡ length (recordsOf (now (s .entry)) kind) ⌝ }
+{
+    let mut c = Cursor {
+        at: fields::header_end(s),
+    };
+    let mut found = 0;
+    loop {
+        match c.step(s) {
+            Step::Record {
+                kind: k,
+                start: _,
+                length: _,
+                next,
+            } => {
+                if k == kind {
+                    found += 1;
+                }
+                c = next;
+            }
+            Step::Bad => {
+                if wire::byte_off(s, c.at, 4) == kind {
+                    found += 1;
+                }
+                return found;
+            }
+            Step::End => {
+                return found;
+            }
+        }
+    }
 }

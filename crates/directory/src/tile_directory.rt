@@ -134,7 +134,7 @@ fn in_span(start: u32, side: u32, x: u32) -> bool
 }
 
 // The position that reference number k gives; 0 where the number does not lie in the file.
-fn reference_at(s: &[u8], k: u64) -> u64
+pub fn reference_at(s: &[u8], k: u64) -> u64
     ensures { λ r. ⌜ r ≡ referenceAt (now (s .entry)) k ⌝ }
 {
     let at = tile_directory_at(s);
@@ -208,7 +208,7 @@ fn reference_size(s: &[u8]) -> u64
 }
 
 // How many references the rectangle has.
-fn reference_count(s: &[u8]) -> u64
+pub fn reference_count(s: &[u8]) -> u64
     ensures { λ r. ⌜ r ≡ listedRows (now (s .entry)) * listedColumns (now (s .entry)) ⌝ }
 {
     let rows = listed_rows(s) as u64;

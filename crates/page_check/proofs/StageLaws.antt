@@ -1,17 +1,20 @@
--- Stages 6 to 8 behind each other: which refusal the first fault gives. Assumes nothing.
+-- Stages 6 to 9 behind each other: which refusal the first fault gives. Assumes nothing.
 use Prim.Native.Nat.{ℕ}
-use mathlib.Core.Path.{_≡_}
+use mathlib.Core.Path.{_≡_, refl, sym, _∙_}
 use mathlib.Core.List.{List}
+use mathlib.Core.Bool.{Bool, true, false}
 use lib.ListN.{length}
 use Rattle.answer.specs.declared.Refusal.{Refusal}
-use Rattle.answer.specs.declared.Refusal.the-variants.{Chain, Checksum, Body}
+use Rattle.answer.specs.declared.Refusal.the-variants.{Chain, Checksum, Body, Directory}
 use Rattle.answer.specs.declared.Verdict.{Verdict}
 use Rattle.answer.specs.declared.Verdict.the-variants.{Accepted, Refused}
+use Rattle.answer.specs.Refusals.{gate}
 use Rattle.record.specs.declared.Found.{Found}
 use Rattle.record.specs.declared.Found.the-variants.{At, Nothing}
 use Rattle.check_header.specs.Stages.{checkHeader}
 use Rattle.check_records.specs.Faults.{chainFault, checksumFault, bodyFault}
-use Rattle.page_check.specs.Stages.{unless, after, checkRecords, checkToBodies}
+use Rattle.listed_records.specs.Stage.{directoriesRight}
+use Rattle.page_check.specs.Stages.{unless, after, checkRecords, checkToBodies, checkDirectories, checkFromRecords, check}
 
 module _ (s : List ℕ) (v : Verdict) (f : Found) (p : f ≡ chainFault s) where
   pub stage-6 : (x : ℕ) → f ≡ At x → Refused (Chain x) ≡ checkRecords s v
@@ -40,4 +43,67 @@ pub header-passed : (s : List ℕ) (v w : Verdict) → v ≡ checkHeader s (leng
 unfolding checkToBodies after
 header-passed s v w p e q = rw (← p, e) q
 
-pub ruleset in-order = (stage-6, stage-7, stage-8, stages-pass, header-refused, header-passed)
+-- stage 9
+
+pub directories-yes : (s : List ℕ) (b : Bool) → b ≡ directoriesRight s → b ≡ true → Accepted ≡ checkDirectories s
+unfolding checkDirectories gate
+directories-yes s b p e = rw (← p, e)
+
+pub directories-not : (s : List ℕ) (b : Bool) → b ≡ directoriesRight s → b ≡ false → Refused Directory ≡ checkDirectories s
+unfolding checkDirectories gate
+directories-not s b p e = rw (← p, e)
+
+-- what comes behind stages 8 and 5
+
+records-then : (s : List ℕ) (v : Verdict) → checkRecords s v ≡ after (checkRecords s Accepted) v
+unfolding checkRecords after unless
+records-then s v = go (chainFault s) (checksumFault s) (bodyFault s)
+  where
+    go :
+        (f g h : Found) →
+        unless f Chain (unless g Checksum (unless h Body v)) ≡ after (unless f Chain (unless g Checksum (unless h Body Accepted))) v
+    go (At x) g h = refl
+    go Nothing (At x) h = refl
+    go Nothing Nothing (At x) = refl
+    go Nothing Nothing Nothing = refl
+
+bodies-then : (s : List ℕ) → check s ≡ after (checkToBodies s) (checkDirectories s)
+unfolding check checkToBodies checkFromRecords after
+bodies-then s = go (checkHeader s (length s))
+  where
+    go : (w : Verdict) → after w (checkRecords s (checkDirectories s)) ≡ after (after w (checkRecords s Accepted)) (checkDirectories s)
+    go Accepted = records-then s (checkDirectories s)
+    go (Refused r) = refl
+
+module _ (s : List ℕ) (v : Verdict) (p : v ≡ checkRecords s Accepted) where
+  pub records-refused : (x : Refusal) → v ≡ Refused x → Refused x ≡ checkFromRecords s
+  unfolding checkFromRecords after
+  records-refused x e = rw (records-then s (checkDirectories s), ← p, e)
+
+  pub records-passed : (w : Verdict) → v ≡ Accepted → w ≡ checkDirectories s → w ≡ checkFromRecords s
+  unfolding checkFromRecords after
+  records-passed w e q = rw (records-then s (checkDirectories s), ← p, e) q
+
+module _ (s : List ℕ) (v : Verdict) (p : v ≡ checkToBodies s) where
+  pub bodies-refused : (x : Refusal) → v ≡ Refused x → Refused x ≡ check s
+  unfolding after
+  bodies-refused x e = rw (bodies-then s, ← p, e)
+
+  pub bodies-passed : (w : Verdict) → v ≡ Accepted → w ≡ checkDirectories s → w ≡ check s
+  unfolding after
+  bodies-passed w e q = rw (bodies-then s, ← p, e) q
+
+pub ruleset in-order = (
+  stage-6,
+  stage-7,
+  stage-8,
+  stages-pass,
+  header-refused,
+  header-passed,
+  directories-yes,
+  directories-not,
+  records-refused,
+  records-passed,
+  bodies-refused,
+  bodies-passed,
+)

@@ -1,12 +1,13 @@
-// The check: stages 6 to 8 behind a verdict, and stages 1 to 8.
+// The check: stages 1 to 9, and parts of it.
 use answer::Refusal;
 use answer::Verdict;
 use check_header::stages;
 use check_records::faults;
+use listed_records::stage;
 use record::Found;
 ghost use mathlib.Core.Path.{_≡_};
 ghost use Rattle.answer.specs.declared.Verdict.the-variants.{Accepted};
-ghost use Rattle.page_check.specs.Stages.{checkRecords, checkToBodies};
+ghost use Rattle.page_check.specs.Stages.{checkRecords, checkToBodies, checkDirectories, checkFromRecords, check};
 
 // Stages 6 to 8.
 pub fn check_records(s: &[u8]) -> Verdict
@@ -31,5 +32,35 @@ pub fn check_to_bodies(s: &[u8]) -> Verdict
     match stages::check_header(s, s.len()) {
         Verdict::Refused(r) => Verdict::Refused(r),
         Verdict::Accepted => check_records(s),
+    }
+}
+
+// Stage 9.
+fn check_directories(s: &[u8]) -> Verdict
+    ensures { λ r. ⌜ r ≡ checkDirectories (now (s .entry)) ⌝ }
+{
+    if stage::directories_right(s) {
+        return Verdict::Accepted;
+    }
+    Verdict::Refused(Refusal::Directory)
+}
+
+// Stages 6 to 9, whether the file is opened for writing or not.
+pub fn check_from_records(s: &[u8]) -> Verdict
+    ensures { λ r. ⌜ r ≡ checkFromRecords (now (s .entry)) ⌝ }
+{
+    match check_records(s) {
+        Verdict::Refused(r) => Verdict::Refused(r),
+        Verdict::Accepted => check_directories(s),
+    }
+}
+
+// Stages 1 to 9.
+pub fn check(s: &[u8]) -> Verdict
+    ensures { λ r. ⌜ r ≡ check (now (s .entry)) ⌝ }
+{
+    match check_to_bodies(s) {
+        Verdict::Refused(r) => Verdict::Refused(r),
+        Verdict::Accepted => check_directories(s),
     }
 }

@@ -1,5 +1,6 @@
 -- `check_records::metadata_body::data_type` meets its contract. Assumes nothing.
-use Rattle.check_records.proofs.RecordLaws.{data-type-is}
+use Rattle.check_records.proofs.RecordLaws.{data-type-is, type-past}
+use native.Mathlib.Omega.{arith}
 use borrow.Author.Needs.{needs}
 use Rattle.check_records.proofs.metadata_body.data_type.Statement.{statement}
 use Rattle.check_records.proofs.metadata_body.data_type.Tie as tie
@@ -8,6 +9,7 @@ pub data-type-spec : {M : Type 1} → statement M
 data-type-spec =
     tie.close
     (tie.spec
+    (λ c. type-past _ _ (omega arith))
     (λ c κs. search needs)
     (λ c κs. search needs)
     (λ c. search (needs, data-type-is)))

@@ -1,0 +1,285 @@
+-- Tile records and references correspond where each record is listed and there are as many of either. Assumes nothing.
+use Prim.Native.Nat.{ℕ, zero, suc, _+_, _*_, _/_, _%_, _-_, _≤_, _<_}
+use mathlib.Core.Path.{_≡_, refl, sym, ap, _∙_}
+use mathlib.Core.List.{List, [], _∷_}
+use mathlib.Core.Bool.{Bool, true, false, not, _||_}
+use native.Mathlib.Omega.{arith}
+use native.Mathlib.Nat.{mul-add-div-right, mul-add-mod-self-right, div-eq-of-lt, mod-eq-of-lt, div-add-mod', mod-lt, mul-le-mul-right, div-lt-iff-lt-mul}
+use lib.ListN.{length}
+use lib.Dec.{leb, eqb}
+use borrow.Author.Tests.{eqb-true, eqb-false, eq-eqb, ne-eqb, leb-true, leb-false}
+use Rattle.wire.specs.Tests.{_≡?_, passes, allBelow}
+use Rattle.wire.proofs.TestLaws.{means, yes, not-both, iff, below-each, below-all}
+use Rattle.header.specs.Fields.{headerEnd}
+use Rattle.record.specs.Record.{typeAt, lengthAt, contentAt, recordOk}
+use Rattle.record.specs.Chain.{starts}
+use Rattle.record.proofs.ChainLaws.{starts-end, starts-bad, starts-record, ok-means}
+use Rattle.geometry.specs.Tiles.{tilesAcross, tilesDown, tileCount, tilesIn}
+use Rattle.check_records.specs.Chain.{records}
+use Rattle.check_records.specs.TileBody.{tileIndex}
+use Rattle.directory.specs.Lists.{select, every, some, countBelow, recordsOf}
+use Rattle.directory.specs.TileDirectory.{firstRow, firstColumn, listedRows, listedColumns, spanRight, rectangleRight, referenceAt, gives, inSpan, inRectangle, numberOf, referenceOf, tileReference, tilesListed, givesTile, tilesOnly}
+use Rattle.directory.proofs.CountLaws.{Behind, behind-more, behind-select, every-each, count-one, count-both, count-same, count-named}
+
+-- the records of a type increase
+
+starts-behind : (k : ℕ) (s : List ℕ) (at : ℕ) → length s ≤ at + k → Behind at (starts s at)
+starts-behind zero s at h = rw (starts-end s at (omega arith)) tt
+starts-behind (suc k) s at h = go (leb (length s) at) refl (recordOk s at) refl (starts-behind k s (at + lengthAt s at))
+  where
+    go : (a : Bool) → leb (length s) at ≡ a → (b : Bool) → recordOk s at ≡ b → (length s ≤ at + lengthAt s at + k → Behind (at + lengthAt s at) (starts s (at + lengthAt s at))) → Behind at (starts s at)
+    go true p b q r = rw (starts-end s at (leb-true _ _ p)) tt
+    go false p true q r =
+        let o = ok-means s at q in
+        rw (starts-record s at (leb-false _ _ p) q)
+        (omega arith, behind-more (at + 1) (at + lengthAt s at) (starts s (at + lengthAt s at)) (omega (arith, o .long)) (r (omega (arith, o .long))))
+    go false p false q r = rw (starts-bad s at (leb-false _ _ p) q) (omega arith, tt)
+
+pub records-behind : (s : List ℕ) (kind : ℕ) → Behind 0 (recordsOf s kind)
+unfolding recordsOf records
+records-behind s kind =
+    behind-select (λ x. eqb (typeAt s x) kind) 0 (starts s (headerEnd s))
+    (behind-more 0 (headerEnd s) (starts s (headerEnd s)) (omega arith) (starts-behind (length s) s (headerEnd s) (omega arith)))
+
+-- a number in rows of w
+
+module _ (w a b : ℕ) (h : b < w) where
+  pub row-of : (a * w + b) / w ≡ a
+  row-of = let e = div-eq-of-lt h in mul-add-div-right (omega arith) a b ∙ omega arith
+
+  pub column-of : (a * w + b) % w ≡ b
+  column-of = mul-add-mod-self-right a w b ∙ mod-eq-of-lt h
+
+  pub grid-less : (n : ℕ) → a < n → a * w + b < n * w
+  grid-less n l = let m : (a + 1) * w ≤ n * w = mul-le-mul-right w (omega arith) in omega arith
+
+-- a row and a column fix the number
+pub same-index : (w i j : ℕ) → i / w ≡ j / w → i % w ≡ j % w → i ≡ j
+same-index w i j e f = sym (div-add-mod' i w) ∙ rw (e, f) (div-add-mod' j w)
+
+-- lists
+
+pub every-some : (p q r : ℕ → Bool) (l : List ℕ) → ((x : ℕ) → p x ≡ true → q x ≡ true → r x ≡ true) → every p l ≡ true → some q l ≡ true → some r l ≡ true
+unfolding some
+every-some p q r [] f e g = g
+every-some p q r (x ∷ xs) f e g = every-each p x xs e (λ a b. go (q x) refl (r x) refl a (every-some p q r xs f b))
+  where
+    go : (c : Bool) → q x ≡ c → (d : Bool) → r x ≡ d → p x ≡ true → (some q xs ≡ true → some r xs ≡ true) → (r x || some r xs) ≡ true
+    go true i d j a k = rw (f x a i)
+    go false i true j a k = rw j
+    go false i false j a k = rw j (k (rw i at g))
+
+pub every-more : (p q : ℕ → Bool) (l : List ℕ) → ((x : ℕ) → p x ≡ true → q x ≡ true) → every p l ≡ true → every q l ≡ true
+unfolding every
+every-more p q [] f e = refl
+every-more p q (x ∷ xs) f e = every-each p x xs e (λ a b. sym (yes _ (f x a, (every-more p q xs f b, tt))))
+
+pub some-gives : (C : Type 0) (p : ℕ → Bool) (l : List ℕ) → some p l ≡ true → ((x : ℕ) → p x ≡ true → C) → C
+unfolding some
+some-gives C p [] e f = not-both e refl
+some-gives C p (x ∷ xs) e f = go (p x) refl (some-gives C p xs)
+  where
+    go : (b : Bool) → p x ≡ b → (some p xs ≡ true → ((y : ℕ) → p y ≡ true → C) → C) → C
+    go true i r = f x i
+    go false i r = r (rw i at e) f
+
+-- a tile in the rectangle
+
+record Inside (s : List ℕ) (row column : ℕ) : Type 0 where
+  below : firstRow s ≤ row
+  rows : row < firstRow s + listedRows s
+  right : firstColumn s ≤ column
+  columns : column < firstColumn s + listedColumns s
+
+inside-means : (s : List ℕ) (row column : ℕ) → inRectangle s row column ≡ true → Inside s row column
+unfolding inRectangle inSpan
+inside-means s row column e =
+    let h = means _ e in
+    let a = means _ (h .0) in
+    let b = means _ (h .1 .0) in
+    record { below = a .0; rows = omega (arith, a .1 .0); right = b .0; columns = omega (arith, b .1 .0) }
+
+means-inside : (s : List ℕ) (row column : ℕ) → Inside s row column → inRectangle s row column ≡ true
+unfolding inRectangle inSpan
+means-inside s row column i =
+    sym (yes _ (sym (yes _ (i .below, (omega (arith, i .rows), tt))), (sym (yes _ (i .right, (omega (arith, i .columns), tt))), tt)))
+
+reference-inside : (s : List ℕ) (row column : ℕ) → Inside s row column → referenceOf s row column ≡ referenceAt s (numberOf s row column)
+unfolding referenceOf
+reference-inside s row column i = rw (means-inside s row column i)
+
+-- what is referred to lies inside
+inside-if : (s : List ℕ) (row column : ℕ) → (referenceOf s row column ≡ 0 → ⊥) → Inside s row column
+unfolding referenceOf
+inside-if s row column h = go (inRectangle s row column) refl
+  where
+    go : (b : Bool) → inRectangle s row column ≡ b → Inside s row column
+    go true e = inside-means s row column e
+    go false e = absurd (h (rw e))
+
+number-less : (s : List ℕ) (row column : ℕ) → Inside s row column → numberOf s row column < listedRows s * listedColumns s
+unfolding numberOf
+number-less s row column i =
+    grid-less (listedColumns s) (row - firstRow s) (column - firstColumn s) (omega (arith, i .columns, i .right)) (listedRows s) (omega (arith, i .rows, i .below))
+
+-- a number fixes the tile
+number-one : (s : List ℕ) (a b c d : ℕ) → Inside s a b → Inside s c d → numberOf s a b ≡ numberOf s c d → (a ≡ c) × (b ≡ d)
+unfolding numberOf
+number-one s a b c d i j e =
+    let w = listedColumns s in
+    let k : b - firstColumn s < w = omega (arith, i .columns, i .right) in
+    let l : d - firstColumn s < w = omega (arith, j .columns, j .right) in
+    let m : a - firstRow s ≡ c - firstRow s = sym (row-of w _ _ k) ∙ ap (λ (x : ℕ). x / w) e ∙ row-of w _ _ l in
+    let n : b - firstColumn s ≡ d - firstColumn s = sym (column-of w _ _ k) ∙ ap (λ (x : ℕ). x % w) e ∙ column-of w _ _ l in
+    (omega (arith, i .below, j .below), omega (arith, i .right, j .right))
+
+-- the index of reference k, and that its tile has number k
+
+module _ (s : List ℕ) (right : rectangleRight s ≡ true) (k : ℕ) (h : k < listedRows s * listedColumns s) where
+  wide : 0 < listedColumns s
+  wide = go (listedColumns s) refl
+    where
+      go : (c : ℕ) → listedColumns s ≡ c → 0 < listedColumns s
+      go zero e = let z : listedRows s * listedColumns s ≡ listedRows s * 0 = ap (λ (x : ℕ). listedRows s * x) e in absurd (omega arith)
+      go (suc c) e = omega arith
+
+  abbrev indexRow : ℕ
+  indexRow = firstRow s + k / listedColumns s
+
+  abbrev indexColumn : ℕ
+  indexColumn = firstColumn s + k % listedColumns s
+
+  inside : Inside s indexRow indexColumn
+  inside =
+      let a : k / listedColumns s < listedRows s = div-lt-iff-lt-mul wide .1 h in
+      let b : k % listedColumns s < listedColumns s = mod-lt k wide in
+      record { below = omega arith; rows = omega arith; right = omega arith; columns = omega arith }
+
+  number-back : numberOf s indexRow indexColumn ≡ k
+  unfolding numberOf
+  number-back =
+      let a : firstRow s + k / listedColumns s - firstRow s ≡ k / listedColumns s = omega arith in
+      let b : firstColumn s + k % listedColumns s - firstColumn s ≡ k % listedColumns s = omega arith in
+      rw (a, b) (div-add-mod' k (listedColumns s))
+
+  across : indexColumn < tilesAcross s
+  unfolding rectangleRight spanRight
+  across = let y = means _ (means _ right .1 .0) in omega (arith, inside .columns, y .1 .1 .0)
+
+  down : indexRow < tilesDown s
+  unfolding rectangleRight spanRight
+  down = let y = means _ (means _ right .0) in omega (arith, inside .rows, y .1 .1 .0)
+
+  abbrev index : ℕ
+  index = indexRow * tilesAcross s + indexColumn
+
+  index-less : index < tileCount s
+  unfolding tileCount tilesIn tilesAcross tilesDown
+  index-less = grid-less (tilesAcross s) indexRow indexColumn across (tilesDown s) down
+
+  index-row : index / tilesAcross s ≡ indexRow
+  index-row = row-of (tilesAcross s) indexRow indexColumn across
+
+  index-column : index % tilesAcross s ≡ indexColumn
+  index-column = column-of (tilesAcross s) indexRow indexColumn across
+
+  index-reference : tileReference s index ≡ referenceAt s k
+  unfolding tileReference
+  index-reference = rw (index-row, index-column) (reference-inside s indexRow indexColumn inside ∙ ap (referenceAt s) number-back)
+
+-- records and references
+
+module _ (s : List ℕ) (right : rectangleRight s ≡ true) (listed : tilesListed s ≡ true) where
+  abbrev total : ℕ
+  total = listedRows s * listedColumns s
+
+  abbrev ownNumber : ℕ → ℕ
+  ownNumber x = numberOf s (tileIndex s x / tilesAcross s) (tileIndex s x % tilesAcross s)
+
+  abbrev names : ℕ → ℕ → Bool
+  names x k = passes ((ownNumber x ≡? k) ∷ (referenceAt s k ≡? contentAt x) ∷ [])
+
+  abbrev covered : ℕ → Bool
+  covered k = some (λ x. names x k) (recordsOf s 2)
+
+  abbrev isListed : ℕ → Bool
+  isListed x = eqb (tileReference s (tileIndex s x)) (contentAt x)
+
+  own-inside : (x : ℕ) → isListed x ≡ true → Inside s (tileIndex s x / tilesAcross s) (tileIndex s x % tilesAcross s)
+  unfolding tileReference
+  own-inside x e = inside-if s _ _ (λ z. let y : tileReference s (tileIndex s x) ≡ contentAt x = eqb-true _ _ e in absurd (omega arith))
+
+  own-reference : (x : ℕ) → isListed x ≡ true → referenceAt s (ownNumber x) ≡ contentAt x
+  unfolding tileReference
+  own-reference x e = sym (reference-inside s _ _ (own-inside x e)) ∙ eqb-true _ _ e
+
+  named-once : (x : ℕ) → isListed x ≡ true → eqb (countBelow total (names x)) 1 ≡ true
+  named-once x e =
+      eq-eqb _ _
+      (count-one total (names x) (ownNumber x) (number-less s _ _ (own-inside x e)) (sym (yes _ (refl, (own-reference x e, tt))))
+      (λ k f. sym (means _ f .0)))
+
+  one-name : (x y k : ℕ) → names x k ≡ true → names y k ≡ true → x ≡ y
+  one-name x y k e f = omega (arith, means _ e .1 .0, means _ f .1 .0)
+
+  covered-count : countBelow total covered ≡ length (recordsOf s 2)
+  unfolding tilesListed
+  covered-count = count-named total names one-name 0 (recordsOf s 2) (records-behind s 2) (every-more isListed _ (recordsOf s 2) named-once listed)
+
+  covered-gives : (k : ℕ) → covered k ≡ true → gives s k ≡ true
+  unfolding gives
+  covered-gives k e =
+      some-gives _ _ (recordsOf s 2) e (λ x f. let y = means _ f .1 .0 in rw (ne-eqb (referenceAt s k) 0 (λ z. absurd (omega arith))))
+
+  gives-not : (k : ℕ) → gives s k ≡ true → referenceAt s k ≡ 0 → ⊥
+  unfolding gives
+  gives-not k e z = not-both e (rw z)
+
+  -- where nothing else is listed, there are as many
+  only-count : tilesOnly s ≡ true → countBelow total (gives s) ≡ length (recordsOf s 2)
+  unfolding tilesOnly givesTile tilesListed
+  only-count only = count-same total (gives s) covered (λ k h. iff _ _ (there k h) (covered-gives k)) ∙ covered-count
+    where
+      there : (k : ℕ) → k < total → gives s k ≡ true → covered k ≡ true
+      there k h g =
+          let e = index-reference s right k h in
+          let t = below-each (tileCount s) _ only (index s right k h) (index-less s right k h) in
+          let n = ne-eqb (tileReference s (index s right k h)) 0 (λ z. gives-not k g (sym e ∙ z)) in
+          every-some (λ x. true) _ _ (recordsOf s 2)
+          (λ x a b.
+          let y = means _ b in
+          let m : ownNumber x ≡ k = rw (y .1 .0, index-row s right k h, index-column s right k h) (number-back s right k h) in
+          sym (yes _ (m, (sym e ∙ sym (y .0), tt))))
+          (every-more isListed (λ x. true) (recordsOf s 2) (λ x a. refl) listed)
+          (rw n at t)
+
+  gives-if : (k : ℕ) → (referenceAt s k ≡ 0 → ⊥) → gives s k ≡ true
+  unfolding gives
+  gives-if k h = rw (ne-eqb (referenceAt s k) 0 h)
+
+  -- and where there are as many, nothing else is
+
+  given-tile : countBelow total (gives s) ≡ length (recordsOf s 2) → (i : ℕ) → (tileReference s i ≡ 0 → ⊥) → givesTile s i ≡ true
+  unfolding givesTile tileReference tilesListed
+  given-tile e i z =
+      let p = inside-if s (i / tilesAcross s) (i % tilesAcross s) z in
+      let k = numberOf s (i / tilesAcross s) (i % tilesAcross s) in
+      let f = reference-inside s (i / tilesAcross s) (i % tilesAcross s) p in
+      let c = count-both (gives s) covered covered-gives total (e ∙ sym covered-count) k (number-less s _ _ p) (gives-if k (λ y. z (f ∙ y))) in
+      every-some isListed _ _ (recordsOf s 2)
+      (λ x a b.
+      let y = means _ b in
+      let o = number-one s _ _ _ _ (own-inside x a) p (y .0) in
+      sym (yes _ (sym (y .1 .0) ∙ sym f, (same-index (tilesAcross s) (tileIndex s x) i (o .0) (o .1), tt))))
+      listed c
+
+  count-only : countBelow total (gives s) ≡ length (recordsOf s 2) → tilesOnly s ≡ true
+  unfolding tilesOnly
+  count-only e = below-all (tileCount s) _ (λ i h. go i (eqb (tileReference s i) 0) refl)
+    where
+      go : (i : ℕ) (b : Bool) → eqb (tileReference s i) 0 ≡ b → (eqb (tileReference s i) 0 || givesTile s i) ≡ true
+      go i true f = rw f
+      go i false f = rw f (given-tile e i (eqb-false _ _ f))
+
+  pub only-is : eqb (countBelow total (gives s)) (length (recordsOf s 2)) ≡ tilesOnly s
+  only-is = iff _ _ (λ e. count-only (eqb-true _ _ e)) (λ e. eq-eqb _ _ (only-count e))

@@ -1,0 +1,5 @@
+pub mod SpaceLaws
+pub mod MetadataLaws
+pub mod ListLaws
+pub mod FindLaws
+pub mod StageLaws

@@ -1,0 +1,16 @@
+-- `listed_records::file_space::free_count` meets its contract. Assumes nothing.
+use mathlib.Core.Path.{ap, _∙_}
+use Rattle.directory.specs.References.{entryCount}
+use Rattle.listed_records.specs.FileSpace.{freeCount}
+use borrow.Author.Needs.{needs}
+use Rattle.listed_records.proofs.file_space.free_count.Statement.{statement}
+use Rattle.listed_records.proofs.file_space.free_count.Tie as tie
+
+pub free-count-spec : {M : Type 1} → statement M
+unfolding freeCount
+free-count-spec =
+    tie.close
+    (tie.spec
+    (λ c κs. search needs)
+    (λ c κs. search needs)
+    (λ c. c .entry-count .ensures ∙ ap (entryCount _) (c .before .file-space-reference .ensures)))

@@ -1,0 +1,16 @@
+-- `listed_records::lists::list_fits` meets its contract. Assumes nothing.
+use Rattle.listed_records.proofs.ListLaws.{fits-free, fits-metadata}
+use borrow.Author.Needs.{needs}
+use Rattle.listed_records.proofs.lists.list_fits.Statement.{statement}
+use Rattle.listed_records.proofs.lists.list_fits.Tie as tie
+
+pub list-fits-spec : {M : Type 1} → statement M
+list-fits-spec =
+    tie.close
+    (tie.spec
+    (λ c. search needs)
+    (λ c κs. search needs)
+    (λ c. search needs)
+    (λ c κs. search needs)
+    (λ c. search (needs, fits-free))
+    (λ c. search (needs, fits-metadata)))

@@ -1,0 +1,16 @@
+-- `listed_records::metadata::metadata_count` meets its contract. Assumes nothing.
+use mathlib.Core.Path.{ap, _∙_}
+use Rattle.directory.specs.References.{entryCount}
+use Rattle.listed_records.specs.Metadata.{metadataCount}
+use borrow.Author.Needs.{needs}
+use Rattle.listed_records.proofs.metadata.metadata_count.Statement.{statement}
+use Rattle.listed_records.proofs.metadata.metadata_count.Tie as tie
+
+pub metadata-count-spec : {M : Type 1} → statement M
+unfolding metadataCount
+metadata-count-spec =
+    tie.close
+    (tie.spec
+    (λ c κs. search needs)
+    (λ c κs. search needs)
+    (λ c. c .entry-count .ensures ∙ ap (entryCount _) (c .before .metadata-reference .ensures)))

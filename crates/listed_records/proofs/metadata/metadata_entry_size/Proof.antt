@@ -1,0 +1,15 @@
+-- `listed_records::metadata::metadata_entry_size` meets its contract. Assumes nothing.
+use native.Mathlib.Omega.{arith}
+use Rattle.listed_records.proofs.MetadataLaws.{size-is}
+use borrow.Author.Needs.{needs}
+use Rattle.listed_records.proofs.metadata.metadata_entry_size.Statement.{statement}
+use Rattle.listed_records.proofs.metadata.metadata_entry_size.Tie as tie
+
+pub metadata-entry-size-spec : {M : Type 1} → statement M
+metadata-entry-size-spec =
+    tie.close
+    (tie.spec
+    (λ c κs. search needs)
+    (λ c. search needs)
+    (λ c. search needs)
+    (λ c. (size-is _ _ _ (c .u16-off .ensures .0), omega arith)))

@@ -1,0 +1,50 @@
+-- Document 01, stage 9; G Tables 17 and 18: the file-space directory.
+use Prim.Native.Nat.{ℕ, _+_, _*_, _-_}
+use mathlib.Core.List.{List, [], _∷_}
+use mathlib.Core.Bool.{Bool, _||_}
+use lib.Dec.{eqb}
+use Rattle.wire.specs.Tests.{_≤?_, _≡?_, is, passes}
+use Rattle.wire.specs.Bytes.{u32At, u64At, largestInteger}
+use Rattle.header.specs.Fields.{fileSpaceReference}
+use Rattle.record.specs.Record.{lengthAt}
+use Rattle.directory.specs.References.{refersOrZero, noOther, entryCount, padded}
+use Rattle.listed_records.specs.Listed.{listedOnce, nothingElse}
+
+unfoldable pub fileSpaceAt : List ℕ → ℕ
+fileSpaceAt s = fileSpaceReference s - 8
+
+-- Table 17: the number of free-space records listed; none where the reference is zero
+unfoldable pub freeCount : List ℕ → ℕ
+freeCount s = entryCount s (fileSpaceReference s)
+
+-- Table 18: entry k has eight bytes, the start of a free-space record (G 3.3.4: not its content), and four, its whole length
+unfoldable pub freeEntryAt : List ℕ → ℕ → ℕ
+freeEntryAt s k = fileSpaceAt s + 12 + 12 * k
+
+-- the entry at p is that of the record at x: its own start and size
+unfoldable pub freeEntryOf : List ℕ → ℕ → ℕ → Bool
+freeEntryOf s x p = passes ((u64At s p ≡? x) ∷ (u32At s (p + 8) ≡? lengthAt s x) ∷ [])
+
+unfoldable pub freeEntryIs : List ℕ → ℕ → ℕ → Bool
+freeEntryIs s x k = freeEntryOf s x (freeEntryAt s k)
+
+-- every free record is listed once; where the reference is zero there is no list, so there is no such record
+unfoldable pub freeListed : List ℕ → Bool
+freeListed s = listedOnce s 0 (freeCount s) (freeEntryIs s)
+
+-- the list has no other entry
+unfoldable pub freeOnly : List ℕ → Bool
+freeOnly s = nothingElse s 0 (freeCount s) (freeEntryIs s)
+
+-- a file-space directory has at least one entry, and its count, which is not negative, fits
+unfoldable pub freeFits : List ℕ → Bool
+freeFits s =
+    eqb (fileSpaceReference s) 0
+    || passes
+    ((1 ≤? freeCount s) ∷ (freeCount s ≤? largestInteger) ∷ is (padded s (fileSpaceAt s) (freeEntryAt s (freeCount s))) ∷ [])
+
+unfoldable pub fileSpaceRight : List ℕ → Bool
+fileSpaceRight s =
+    passes
+    (is (refersOrZero s 3 (fileSpaceReference s)) ∷ is (noOther s 3 (fileSpaceReference s)) ∷ is (freeFits s) ∷ is (freeListed s)
+    ∷ is (freeOnly s) ∷ [])

@@ -1,0 +1,5 @@
+pub mod Listed
+pub mod FileSpace
+pub mod Metadata
+pub mod Search
+pub mod Stage

@@ -1,0 +1,70 @@
+-- Document 01, stage 9; G 4.2.4 and Tables 19 and 20: the metadata directory.
+use Prim.Native.Nat.{ℕ, _+_, _-_}
+use mathlib.Core.List.{List, [], _∷_}
+use mathlib.Core.Bool.{Bool, _||_, not}
+use lib.Dec.{eqb}
+use Rattle.wire.specs.Tests.{_≤?_, _≡?_, is, passes}
+use Rattle.wire.specs.Bytes.{u64At, sameBytes, largestInteger}
+use Rattle.wire.specs.Items.{advance}
+use Rattle.header.specs.Fields.{metadataReference}
+use Rattle.header.specs.Element.{stringSize}
+use Rattle.record.specs.Record.{contentAt}
+use Rattle.check_records.specs.Chain.{recordLimit}
+use Rattle.check_records.specs.MetadataBody.{metadataName, recordId, dataType}
+use Rattle.directory.specs.Lists.{every, recordsOf}
+use Rattle.directory.specs.References.{refersOrZero, noOther, entryCount, padded}
+use Rattle.listed_records.specs.Listed.{listedOnce, nothingElse}
+
+unfoldable pub metadataAt : List ℕ → ℕ
+metadataAt s = metadataReference s - 8
+
+-- Table 19: the number of metadata records listed; none where the reference is zero
+unfoldable pub metadataCount : List ℕ → ℕ
+metadataCount s = entryCount s (metadataReference s)
+
+-- two have the same pair of name and ID. Table 20's entry has a position of eight bytes, then the name, the ID and the type code
+-- as Table 14's record has them behind its eight bytes of record header; so one reading serves both
+unfoldable pub sameKey : List ℕ → ℕ → ℕ → Bool
+sameKey s x y = passes (is (sameBytes (metadataName s x) (metadataName s y)) ∷ (recordId s x ≡? recordId s y) ∷ [])
+
+-- Table 20: the size of the entry at p, a position of eight bytes, a string, four bytes and one; and where it ends
+unfoldable pub metadataEntrySize : List ℕ → ℕ → ℕ
+metadataEntrySize s p = 8 + stringSize s (p + 8) + 5
+
+unfoldable pub metadataEntryEnd : List ℕ → ℕ → ℕ
+metadataEntryEnd s p = p + metadataEntrySize s p
+
+-- where entry k starts; an entry that starts past the start of the record's checksum is not read
+unfoldable pub metadataEntryAt : List ℕ → ℕ → ℕ
+metadataEntryAt s k = advance (metadataEntryEnd s) (recordLimit s (metadataAt s)) k (metadataAt s + 12)
+
+-- the entry at p is that of the record at x: its content, name, record ID and type code
+unfoldable pub metadataEntryOf : List ℕ → ℕ → ℕ → Bool
+metadataEntryOf s x p = passes ((u64At s p ≡? contentAt x) ∷ is (sameKey s p x) ∷ (dataType s p ≡? dataType s x) ∷ [])
+
+unfoldable pub metadataEntryIs : List ℕ → ℕ → ℕ → Bool
+metadataEntryIs s x k = metadataEntryOf s x (metadataEntryAt s k)
+
+-- every metadata record is listed once; where the reference is zero there is no list, so there is no such record
+unfoldable pub metadataListed : List ℕ → Bool
+metadataListed s = listedOnce s 1 (metadataCount s) (metadataEntryIs s)
+
+-- and nothing else is
+unfoldable pub metadataOnly : List ℕ → Bool
+metadataOnly s = nothingElse s 1 (metadataCount s) (metadataEntryIs s)
+
+-- no two records have the same pair: of each, it alone has its own
+unfoldable pub keysDistinct : List ℕ → Bool
+keysDistinct s = every (λ x. every (λ y. eqb x y || not (sameKey s x y)) (recordsOf s 1)) (recordsOf s 1)
+
+-- the count, which is not negative, fits; the directory may be empty
+unfoldable pub metadataFits : List ℕ → Bool
+metadataFits s =
+    eqb (metadataReference s) 0
+    || passes ((metadataCount s ≤? largestInteger) ∷ is (padded s (metadataAt s) (metadataEntryAt s (metadataCount s))) ∷ [])
+
+unfoldable pub metadataDirectoryRight : List ℕ → Bool
+metadataDirectoryRight s =
+    passes
+    (is (refersOrZero s 4 (metadataReference s)) ∷ is (noOther s 4 (metadataReference s)) ∷ is (metadataFits s)
+    ∷ is (metadataListed s) ∷ is (metadataOnly s) ∷ is (keysDistinct s) ∷ [])

@@ -1,0 +1,68 @@
+-- The two lists by their names, and what is looked for among the records.
+use Prim.Native.Nat.{ℕ}
+use mathlib.Core.List.{List, [], _∷_}
+use mathlib.Core.Bool.{Bool, true}
+use Rattle.wire.specs.Tests.{_≡?_, _≢?_, is, passes}
+use Rattle.record.specs.Record.{typeAt}
+use Rattle.directory.specs.Lists.{some, countBelow, recordsOf}
+use Rattle.listed_records.specs.declared.Listing.{Listing}
+use Rattle.listed_records.specs.declared.Listing.the-variants.{FreeSpace, Metadata}
+use Rattle.listed_records.specs.declared.Want.{Want}
+use Rattle.listed_records.specs.declared.Want.the-variants.{Miscounted, Repeated}
+use Rattle.listed_records.specs.Listed.{listedOnce, nothingElse}
+use Rattle.listed_records.specs.FileSpace.{freeCount, freeEntryAt, freeEntryOf, freeEntryIs, freeFits}
+use Rattle.listed_records.specs.Metadata.{metadataCount, metadataEntryAt, metadataEntrySize, metadataEntryOf, metadataEntryIs, metadataFits, sameKey}
+
+-- the type of the records that a list is of
+unfoldable pub listedKind : Listing → ℕ
+listedKind FreeSpace = 0
+listedKind Metadata = 1
+
+-- how many entries it has, whether they fit, where each starts, the size of the one at p, and whether it is that of the record at x
+unfoldable pub listCount : List ℕ → Listing → ℕ
+listCount s FreeSpace = freeCount s
+listCount s Metadata = metadataCount s
+
+unfoldable pub listFits : List ℕ → Listing → Bool
+listFits s FreeSpace = freeFits s
+listFits s Metadata = metadataFits s
+
+unfoldable pub listEntryAt : List ℕ → Listing → ℕ → ℕ
+listEntryAt s FreeSpace = freeEntryAt s
+listEntryAt s Metadata = metadataEntryAt s
+
+unfoldable pub listEntrySize : List ℕ → Listing → ℕ → ℕ
+listEntrySize s FreeSpace p = 12
+listEntrySize s Metadata p = metadataEntrySize s p
+
+unfoldable pub listEntryOf : List ℕ → Listing → ℕ → ℕ → Bool
+listEntryOf s FreeSpace = freeEntryOf s
+listEntryOf s Metadata = metadataEntryOf s
+
+unfoldable pub listEntryIs : List ℕ → Listing → ℕ → ℕ → Bool
+listEntryIs s FreeSpace = freeEntryIs s
+listEntryIs s Metadata = metadataEntryIs s
+
+-- a metadata record that is not the one at x and has its pair of name and ID
+unfoldable pub twinOf : List ℕ → ℕ → ℕ → Bool
+twinOf s x y = passes ((typeAt s y ≡? 1) ∷ (x ≢? y) ∷ is (sameKey s x y) ∷ [])
+
+unfoldable pub hasTwin : List ℕ → ℕ → Bool
+hasTwin s x = some (λ y. passes ((x ≢? y) ∷ is (sameKey s x y) ∷ [])) (recordsOf s 1)
+
+-- a record that is not listed once; a metadata record whose pair another one has
+unfoldable pub wants : List ℕ → Want → ℕ → Bool
+wants s (Miscounted list) x = passes ((typeAt s x ≡? listedKind list) ∷ (countBelow (listCount s list) (listEntryIs s list x) ≢? 1) ∷ [])
+wants s Repeated x = passes ((typeAt s x ≡? 1) ∷ is (hasTwin s x) ∷ [])
+
+-- an entry is looked for only where the list fits its record
+unfoldable pub askable : List ℕ → Want → Bool
+askable s (Miscounted list) = listFits s list
+askable s Repeated = true
+
+-- a list fits its record, every record of its type is listed once, and nothing else is
+unfoldable pub listRight : List ℕ → Listing → Bool
+listRight s list =
+    passes
+    (is (listFits s list) ∷ is (listedOnce s (listedKind list) (listCount s list) (listEntryIs s list))
+    ∷ is (nothingElse s (listedKind list) (listCount s list) (listEntryIs s list)) ∷ [])

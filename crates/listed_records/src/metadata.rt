@@ -1,0 +1,100 @@
+// Stage 9: the metadata directory's fields and entries.
+use check_records::frame;
+use check_records::metadata_body;
+use directory::entries;
+use header::fields;
+ghost use mathlib.Core.Path.{_≡_};
+ghost use Prim.Native.Nat.{_≤_, _<_};
+ghost use lib.ListN.{length};
+ghost use Rattle.listed_records.specs.Metadata.{metadataAt, metadataCount, metadataEntryAt, metadataEntrySize, metadataEntryOf, metadataFits, sameKey};
+
+// The start of the record that the header refers to.
+pub fn metadata_at(s: &[u8]) -> usize
+    ensures { λ r. ⌜ r ≡ metadataAt (now (s .entry)) ⌝ }
+{
+    entries::record_of(fields::metadata_reference(s))
+}
+
+// How many metadata records it lists.
+pub fn metadata_count(s: &[u8]) -> u32
+    ensures { λ r. ⌜ r ≡ metadataCount (now (s .entry)) ⌝ }
+{
+    entries::entry_count(s, fields::metadata_reference(s))
+}
+
+// Whether the records, or entries, at two positions have the same pair of name and ID.
+pub fn same_key(s: &[u8], x: usize, y: usize) -> bool
+    ensures { λ r. ⌜ r ≡ sameKey (now (s .entry)) x y ⌝ }
+{
+    if metadata_body::record_id(s, x) != metadata_body::record_id(s, y) {
+        return false;
+    }
+    wire::same_bytes(
+        metadata_body::metadata_name(s, x),
+        metadata_body::metadata_name(s, y),
+    )
+}
+
+// The size of the entry at a position.
+pub fn metadata_entry_size(s: &[u8], p: usize) -> usize
+    ensures is { λ r. ⌜ r ≡ metadataEntrySize (now (s .entry)) p ⌝ }
+    ensures near { λ r. ⌜ r ≤ 65550 ⌝ }
+{
+    15 + wire::u16_off(s, p, 8) as usize
+}
+
+// Whether the entry at a position is that of the metadata record at another.
+pub fn metadata_entry_of(s: &[u8], x: usize, p: usize) -> bool
+    ensures { λ r. ⌜ r ≡ metadataEntryOf (now (s .entry)) x p ⌝ }
+{
+    let content = wire::u64_at(s, p);
+    if content < 8 {
+        return false;
+    }
+    if content - 8 != (x as u64) {
+        return false;
+    }
+    if !same_key(s, p, x) {
+        return false;
+    }
+    if metadata_body::data_type(s, p) != metadata_body::data_type(s, x) {
+        return false;
+    }
+    true
+}
+
+// Where the last entry ends; entries that start past the record's checksum are not read.
+fn entries_end(s: &[u8]) -> usize
+    requires { ⌜ metadataAt (now s) < length (now s) ⌝ }
+    ensures { λ r. ⌜ r ≡ metadataEntryAt (now (s .entry)) (metadataCount (now (s .entry))) ⌝ }
+{
+    let at = metadata_at(s);
+    let limit = frame::record_limit(s, at);
+    let mut left = metadata_count(s);
+    let mut p = at + 12;
+    while 0 < left {
+        if limit < p {
+            return p;
+        }
+        p += metadata_entry_size(s, p);
+        left -= 1;
+    }
+    p
+}
+
+// Its count fits.
+pub fn metadata_fits(s: &[u8]) -> bool
+    ensures { λ r. ⌜ r ≡ metadataFits (now (s .entry)) ⌝ }
+{
+    if fields::metadata_reference(s) == 0 {
+        return true;
+    }
+    if 2147483647 < metadata_count(s) {
+        return false;
+    }
+    let at = metadata_at(s);
+    if s.len() <= at {
+        return false;
+    }
+    entries::padded_to(s, at, entries_end(s))
+}
