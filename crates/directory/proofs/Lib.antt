@@ -5,3 +5,5 @@ pub mod CountLaws
 pub mod OnlyLaws
 pub mod TallyLaws
 pub mod RuleLaws
+pub mod MemberLaws
+pub mod CorrespondLaws

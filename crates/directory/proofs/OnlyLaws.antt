@@ -133,6 +133,19 @@ number-one s a b c d i j e =
     let n : b - firstColumn s ≡ d - firstColumn s = sym (column-of w _ _ k) ∙ ap (λ (x : ℕ). x % w) e ∙ column-of w _ _ l in
     (omega (arith, i .below, j .below), omega (arith, i .right, j .right))
 
+-- an index that the directory gives a reference for is below the tile count
+pub referenced-below : (s : List ℕ) → rectangleRight s ≡ true → (i : ℕ) → (tileReference s i ≡ 0 → ⊥) → i < tileCount s
+unfolding rectangleRight spanRight tileReference tileCount tilesIn tilesAcross tilesDown
+referenced-below s right i z =
+    let p = inside-if s (i / tilesAcross s) (i % tilesAcross s) z in
+    let a = means _ (means _ right .0) in
+    let b = means _ (means _ right .1 .0) in
+    let r : i / tilesAcross s < tilesDown s = omega (arith, p .rows, a .1 .1 .0) in
+    let c : i % tilesAcross s < tilesAcross s = omega (arith, p .columns, b .1 .1 .0) in
+    let g = grid-less (tilesAcross s) (i / tilesAcross s) (i % tilesAcross s) c (tilesDown s) r in
+    let e = div-add-mod' i (tilesAcross s) in
+    omega arith
+
 -- the index of reference k, and that its tile has number k
 
 module _ (s : List ℕ) (right : rectangleRight s ≡ true) (k : ℕ) (h : k < listedRows s * listedColumns s) where

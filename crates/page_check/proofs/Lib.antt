@@ -1,1 +1,3 @@
 pub mod StageLaws
+pub mod AcceptedLaws
+pub mod GivenLaws

@@ -1,0 +1,77 @@
+-- What an accepted file's rules give the layers above. Assumes nothing.
+use Prim.Native.Nat.{ℕ, min, _≤_, _<_}
+use mathlib.Core.Path.{_≡_, sym, _∙_}
+use mathlib.Core.List.{List, List·Memᴰ}
+use mathlib.Core.Bool.{Bool, true}
+use native.Mathlib.Omega.{arith}
+use lib.ListN.{length}
+use borrow.Author.Tests.{eq-eqb}
+use Rattle.wire.proofs.TestLaws.{means, below-each}
+use Rattle.header.specs.Fields.{elementCount}
+use Rattle.header.specs.Element.{entriesRead}
+use Rattle.record.specs.Record.{typeAt}
+use Rattle.check_header.specs.HeaderRecord.{positive, sidesRight, optionsRight, elementRight, elementsRight, headerRight}
+use Rattle.check_header.specs.Ceilings.{sidesWithin, withinCeilings}
+use Rattle.check_records.specs.Chain.{records}
+use Rattle.check_records.specs.TileBody.{tileRight}
+use Rattle.check_records.specs.MetadataBody.{metadataRight}
+use Rattle.check_records.specs.Faults.{bodyRight}
+use Rattle.directory.specs.Lists.{recordsOf}
+use Rattle.directory.specs.TileDirectory.{rectangleRight, tilesListed, tilesOnly, tileDirectoryRight}
+use Rattle.directory.specs.Correspondence.{OneToOne}
+use Rattle.directory.proofs.MemberLaws.{of-type}
+use Rattle.directory.proofs.CorrespondLaws.{one-to-one}
+use Rattle.listed_records.specs.Stage.{directoriesRight}
+use Rattle.page_check.specs.Accepted.{ObeysBy, Obeys, InRange}
+
+-- the entries that are read are all of them, where there are at most 16
+read-all : (s : List ℕ) → elementCount s ≤ 16 → entriesRead s ≡ elementCount s
+unfolding entriesRead
+read-all s h = omega arith
+
+pub obeys-range : (s xs : List ℕ) → ObeysBy s xs → InRange s
+unfolding headerRight sidesRight positive optionsRight elementsRight elementRight withinCeilings sidesWithin
+obeys-range s xs o =
+    let h = means _ (o .header) in
+    let a = means _ (h .1 .0) in
+    let b = means _ (h .1 .1 .0) in
+    let e = means _ (h .1 .1 .1 .0) in
+    let c = means _ (o .ceilings) in
+    let w = means _ (c .1 .0) in
+    let n : elementCount s ≤ 16 = c .1 .1 .1 .0 in
+    record {
+      file = c .0;
+      rows = (means _ (a .0) .0, w .0);
+      columns = (means _ (a .1 .0) .0, w .1 .0);
+      tile-rows = (means _ (a .1 .1 .0) .0, w .1 .1 .0);
+      tile-columns = (means _ (a .1 .1 .1 .0) .0, w .1 .1 .1 .0);
+      tiles = c .1 .1 .0;
+      elements = (means _ (e .0) .0, n);
+      tile-size = c .1 .1 .1 .1 .0;
+      checksum-flag = b .0;
+      kinds = λ i k. means _ (below-each (entriesRead s) _ (e .1 .1 .0) i (omega (arith, read-all s n))) .0;
+    }
+
+-- bodies
+
+tile-body : (s : List ℕ) (x : ℕ) → typeAt s x ≡ 2 → bodyRight s x ≡ true → tileRight s x ≡ true
+unfolding bodyRight
+tile-body s x e b = rw e at b
+
+metadata-body : (s : List ℕ) (x : ℕ) → typeAt s x ≡ 1 → bodyRight s x ≡ true → metadataRight s x ≡ true
+unfolding bodyRight
+metadata-body s x e b = rw e at b
+
+pub obeys-tile : (s : List ℕ) → Obeys s → {x : ℕ} → List·Memᴰ x (recordsOf s 2) → tileRight s x ≡ true
+obeys-tile s o {x} m = let h = of-type s 2 m in tile-body s x (h .1) (o .bodies (h .0))
+
+pub obeys-metadata : (s : List ℕ) → Obeys s → {x : ℕ} → List·Memᴰ x (recordsOf s 1) → metadataRight s x ≡ true
+obeys-metadata s o {x} m = let h = of-type s 1 m in metadata-body s x (h .1) (o .bodies (h .0))
+
+-- the tile directory
+
+pub obeys-one : (s xs : List ℕ) → ObeysBy s xs → OneToOne s
+unfolding directoriesRight tileDirectoryRight
+obeys-one s xs o =
+    let t = means _ (means _ (o .directories) .0) in
+    one-to-one s (t .1 .1 .1 .1 .1 .0) (t .1 .1 .1 .1 .1 .1 .0) (t .1 .1 .1 .0)
