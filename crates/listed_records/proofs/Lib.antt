@@ -3,3 +3,4 @@ pub mod MetadataLaws
 pub mod ListLaws
 pub mod FindLaws
 pub mod StageLaws
+pub mod RearrangedLaws

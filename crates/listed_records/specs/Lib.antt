@@ -3,3 +3,4 @@ pub mod FileSpace
 pub mod Metadata
 pub mod Search
 pub mod Stage
+pub mod Rearranged
