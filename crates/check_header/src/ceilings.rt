@@ -5,7 +5,7 @@ use header::fields;
 ghost use mathlib.Core.Path.{_≡_};
 ghost use Rattle.check_header.specs.Ceilings.{sidesWithin, withinCeilings};
 
-fn sides_within(s: &[u8]) -> bool
+pub fn sides_within(s: &[u8]) -> bool
     ensures { λ r. ⌜ r ≡ sidesWithin (now (s .entry)) ⌝ }
 {
     if 65536 < fields::grid_rows(s) {

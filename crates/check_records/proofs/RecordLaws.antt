@@ -5,7 +5,7 @@ use mathlib.Core.List.{List, []}
 use mathlib.Core.Bool.{Bool, true, false}
 use native.Mathlib.Omega.{arith}
 use lib.ListN.{length}
-use borrow.Author.Tests.{eq-eqb, ne-eqb}
+use borrow.Author.Tests.{eq-eqb, ne-eqb, le-leb, lt-leb}
 use Rattle.wire.specs.Tests.{allBelow}
 use Rattle.wire.specs.Bytes.{byteAt, numberAt, u16At, u32At, part}
 use Rattle.wire.specs.Items.{advance}
@@ -28,7 +28,7 @@ use Rattle.check_records.specs.declared.Rule.{Rule}
 use Rattle.check_records.specs.declared.Rule.the-variants.{Chain, Checksum, Body}
 use Rattle.check_records.specs.Chain.{records, recordLimit, endRight}
 use Rattle.check_records.specs.Checksum.{summedBytes, checksumOf, checksumAt, checksumRight}
-use Rattle.check_records.specs.TileBody.{sectionEnd, sectionAt, sectionLength, sectionJudged, sectionRight, tileEnd, tileRight}
+use Rattle.check_records.specs.TileBody.{sectionEnd, sectionAt, sectionStart, sectionLength, sectionJudged, sectionRight, tileEnd, tileRight}
 use Rattle.check_records.specs.MetadataBody.{metadataName, recordIdAt, recordId, dataType, contentLengthAt, metadataLength, metadataEnd, metadataRight}
 use Rattle.check_records.specs.Faults.{bodyRight, rightOf, wrongOf, chainFault, checksumFault, bodyFault}
 
@@ -72,6 +72,14 @@ stored-most l n e h = (omega arith, omega arith)
 pub section-grows : (s : List ℕ) (p : ℕ) → p + 4 ≤ sectionEnd s p
 unfolding sectionEnd
 section-grows s p = omega (arith, stored-grows (u32At s p))
+
+pub start-past : (s : List ℕ) (at e : ℕ) → length s ≤ at → 0 ≡ sectionStart s at e
+unfolding sectionStart
+start-past s at e h = rw (le-leb (length s) at h)
+
+pub start-is : (s : List ℕ) (at e r : ℕ) → at < length s → r ≡ sectionAt s at e → r ≡ sectionStart s at e
+unfolding sectionStart
+start-is s at e r h q = rw (lt-leb (length s) at h) q
 
 pub sections-begin : (s : List ℕ) (at e l : ℕ) → l ≡ recordLimit s at → advance (sectionEnd s) l e (at + 12) ≡ sectionAt s at e
 unfolding sectionAt

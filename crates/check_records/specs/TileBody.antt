@@ -2,6 +2,9 @@
 use Prim.Native.Nat.{ℕ, _+_}
 use mathlib.Core.List.{List, [], _∷_}
 use mathlib.Core.Bool.{Bool, true, false}
+use lib.ListN.{length}
+use lib.Dec.{leb}
+use Rattle.wire.specs.Pick.{pick}
 use Rattle.wire.specs.Tests.{_≤?_, is, passes, allBelow}
 use Rattle.wire.specs.Bytes.{u32At, largestInteger}
 use Rattle.wire.specs.Items.{advance}
@@ -24,6 +27,10 @@ sectionEnd s p = p + storedSize (u32At s p)
 -- start of the record's checksum is not read; one that starts there, or overlaps it, ends past it
 unfoldable pub sectionAt : List ℕ → ℕ → ℕ → ℕ
 sectionAt s at e = advance (sectionEnd s) (recordLimit s at) e (at + 12)
+
+-- the same where a record starts in the file; 0 where not
+unfoldable pub sectionStart : List ℕ → ℕ → ℕ → ℕ
+sectionStart s at e = pick (leb (length s) at) 0 (sectionAt s at e)
 
 -- the length L of element e there, and where its content starts
 unfoldable pub sectionLength : List ℕ → ℕ → ℕ → ℕ

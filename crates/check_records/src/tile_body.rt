@@ -9,7 +9,7 @@ ghost use Prim.Native.Nat.{_+_, _≤_, _<_};
 ghost use lib.ListN.{length};
 ghost use Rattle.wire.specs.Tests.{allBelow};
 ghost use Rattle.check_records.specs.Chain.{endRight};
-ghost use Rattle.check_records.specs.TileBody.{sectionEnd, sectionAt, sectionRight, tileEnd, indexRight, tileRight};
+ghost use Rattle.check_records.specs.TileBody.{sectionEnd, sectionAt, sectionStart, sectionRight, tileEnd, indexRight, tileRight};
 
 // Where the section at a position ends; it has at most 4 + 4294967296 bytes.
 fn section_end(s: &[u8], p: usize) -> usize
@@ -37,6 +37,17 @@ fn section_at(s: &[u8], at: usize, e: u32) -> usize
         left -= 1;
     }
     p
+}
+
+// The same for any position; 0 where it is past the file.
+pub fn section_start(s: &[u8], at: usize, e: u32) -> usize
+    ensures is { λ r. ⌜ r ≡ sectionStart (now (s .entry)) at e ⌝ }
+    ensures near { λ r. ⌜ r ≤ length (now (s .entry)) + 4294967312 ⌝ }
+{
+    if s.len() <= at {
+        return 0;
+    }
+    section_at(s, at, e)
 }
 
 // Whether the length of element e there is from 1 to U.

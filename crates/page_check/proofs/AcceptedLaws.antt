@@ -47,7 +47,7 @@ unfolding unless
 unless-passed Nothing r v e = (refl, e)
 unless-passed (At x) r v e = refused-not e
 
-after-passed : (v w : Verdict) → after v w ≡ Accepted → (v ≡ Accepted) × (w ≡ Accepted)
+pub after-passed : (v w : Verdict) → after v w ≡ Accepted → (v ≡ Accepted) × (w ≡ Accepted)
 unfolding after
 after-passed Accepted w e = (refl, e)
 after-passed (Refused r) w e = refused-not e
@@ -73,14 +73,14 @@ all-right s w (y ∷ ys) f = rw (f y (List·Memᴰ·head refl)) (all-right s w y
 
 -- stages 1 to 5
 
-record Headed (s : List ℕ) : Type 0 where
-  block : identified s (length s) ≡ true
-  version : versionRight s ≡ true
-  header : headerRight s (length s) ≡ true
-  ceilings : withinCeilings s (length s) ≡ true
-  not-opened : closed s ≡ true
+pub record Headed (s : List ℕ) : Type 0 where
+  pub block : identified s (length s) ≡ true
+  pub version : versionRight s ≡ true
+  pub header : headerRight s (length s) ≡ true
+  pub ceilings : withinCeilings s (length s) ≡ true
+  pub not-opened : closed s ≡ true
 
-headed-if : (s : List ℕ) → checkHeader s (length s) ≡ Accepted → Headed s
+pub headed-if : (s : List ℕ) → checkHeader s (length s) ≡ Accepted → Headed s
 unfolding checkHeader stages firstTwo nextTwo
 headed-if s e =
     let a = gate-passed _ _ _ e in

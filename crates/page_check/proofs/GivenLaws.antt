@@ -22,21 +22,28 @@ use Rattle.directory.specs.Correspondence.{OneToOne}
 use Rattle.directory.proofs.MemberLaws.{of-type}
 use Rattle.directory.proofs.CorrespondLaws.{one-to-one}
 use Rattle.listed_records.specs.Stage.{directoriesRight}
+use Rattle.listed_records.specs.FileSpace.{fileSpaceRight}
+use Rattle.listed_records.specs.Metadata.{metadataDirectoryRight}
+use Rattle.listed_records.specs.Rearranged.{FreeRearranged, MetadataRearranged}
+use Rattle.listed_records.proofs.RearrangedLaws.{free-rearranged, metadata-rearranged}
+use Rattle.answer.specs.declared.Verdict.the-variants.{Accepted}
+use Rattle.page_check.specs.Stages.{checkToBodies}
 use Rattle.page_check.specs.Accepted.{ObeysBy, Obeys, InRange}
+use Rattle.page_check.proofs.AcceptedLaws.{after-passed, headed-if}
 
 -- the entries that are read are all of them, where there are at most 16
 read-all : (s : List ℕ) → elementCount s ≤ 16 → entriesRead s ≡ elementCount s
 unfolding entriesRead
 read-all s h = omega arith
 
-pub obeys-range : (s xs : List ℕ) → ObeysBy s xs → InRange s
+range-of : (s : List ℕ) → headerRight s (length s) ≡ true → withinCeilings s (length s) ≡ true → InRange s
 unfolding headerRight sidesRight positive optionsRight elementsRight elementRight withinCeilings sidesWithin
-obeys-range s xs o =
-    let h = means _ (o .header) in
+range-of s f g =
+    let h = means _ f in
     let a = means _ (h .1 .0) in
     let b = means _ (h .1 .1 .0) in
     let e = means _ (h .1 .1 .1 .0) in
-    let c = means _ (o .ceilings) in
+    let c = means _ g in
     let w = means _ (c .1 .0) in
     let n : elementCount s ≤ 16 = c .1 .1 .1 .0 in
     record {
@@ -51,6 +58,14 @@ obeys-range s xs o =
       checksum-flag = b .0;
       kinds = λ i k. means _ (below-each (entriesRead s) _ (e .1 .1 .0) i (omega (arith, read-all s n))) .0;
     }
+
+pub obeys-range : (s xs : List ℕ) → ObeysBy s xs → InRange s
+obeys-range s xs o = range-of s (o .header) (o .ceilings)
+
+-- the same where stages 1 to 8 pass
+pub bodies-range : (s : List ℕ) → checkToBodies s ≡ Accepted → InRange s
+unfolding checkToBodies
+bodies-range s e = let h = headed-if s (after-passed _ _ e .0) in range-of s (h .header) (h .ceilings)
 
 -- bodies
 
@@ -75,3 +90,13 @@ unfolding directoriesRight tileDirectoryRight
 obeys-one s xs o =
     let t = means _ (means _ (o .directories) .0) in
     one-to-one s (t .1 .1 .1 .1 .1 .0) (t .1 .1 .1 .1 .1 .1 .0) (t .1 .1 .1 .0)
+
+-- the lists
+
+pub obeys-lists : (s xs : List ℕ) → ObeysBy s xs → FreeRearranged s × MetadataRearranged s
+unfolding directoriesRight fileSpaceRight metadataDirectoryRight
+obeys-lists s xs o =
+    let d = means _ (o .directories) in
+    let m = means _ (d .1 .0) in
+    let f = means _ (d .1 .1 .0) in
+    (free-rearranged s (f .1 .1 .1 .0) (f .1 .1 .1 .1 .0), metadata-rearranged s (m .1 .1 .1 .0) (m .1 .1 .1 .1 .0))
