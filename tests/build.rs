@@ -12,10 +12,7 @@ fn main() {
         Err(_) => here.join("../target/staticlib"),
     };
     println!("cargo:rerun-if-env-changed=GVRS_LIB_DIR");
-    println!(
-        "cargo:rerun-if-changed={}",
-        folder.join("libgvrs_c.a").display()
-    );
+    println!("cargo:rerun-if-changed={}", folder.join("libgvrs_c.a").display());
     println!("cargo:rustc-link-search=native={}", folder.display());
     println!("cargo:rustc-link-lib=static=gvrs_c");
 }

@@ -31,24 +31,12 @@ fn main() -> ExitCode {
     };
     heading();
     let with_checksums = measure("few large tiles", &shapes::few_large_tiles(true));
-    let without = measure(
-        "few large tiles, checksums off",
-        &shapes::few_large_tiles(false),
-    );
+    let without = measure("few large tiles, checksums off", &shapes::few_large_tiles(false));
     measure("65,536 small tiles", &shapes::many_small_tiles(true));
-    measure(
-        "65,536 small tiles, checksums off",
-        &shapes::many_small_tiles(false),
-    );
+    measure("65,536 small tiles, checksums off", &shapes::many_small_tiles(false));
     measure("4,000 metadata records", &shapes::many_metadata(true));
-    measure(
-        "4,000 metadata records, checksums off",
-        &shapes::many_metadata(false),
-    );
-    measure(
-        "directory of 65,536 tiles, none stored",
-        &shapes::wide_directory(),
-    );
+    measure("4,000 metadata records, checksums off", &shapes::many_metadata(false));
+    measure("directory of 65,536 tiles, none stored", &shapes::wide_directory());
     let mut lengths = vec![MEBIBYTE, 2 * MEBIBYTE];
     if full {
         lengths.push(CEILING);
@@ -62,20 +50,13 @@ fn main() -> ExitCode {
 }
 
 fn heading() {
-    println!(
-        "{:40} {:>10} {:>11} {:>11} {:>7}",
-        "check", "bytes", "library", "second", "ratio"
-    );
+    println!("{:40} {:>10} {:>11} {:>11} {:>7}", "check", "bytes", "library", "second", "ratio");
 }
 
 /// Prints one line; gives the library's time.
 fn measure(shape: &str, file: &[u8]) -> Duration {
     assert_eq!(library::check(file), (0, 0), "{shape}: the library accepts");
-    assert_eq!(
-        check(file),
-        (0, 0),
-        "{shape}: the second implementation accepts"
-    );
+    assert_eq!(check(file), (0, 0), "{shape}: the second implementation accepts");
     let of_library = shortest(|| library::check(black_box(file)));
     let of_second = shortest(|| check(black_box(file)));
     let ratio = of_library.as_secs_f64() / of_second.as_secs_f64();

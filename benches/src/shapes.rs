@@ -40,8 +40,7 @@ pub fn many_metadata(checksums: bool) -> Vec<u8> {
         page.records.push(Record::new(Body::Metadata(metadata)));
     }
     let listed = (first..page.records.len()).collect();
-    page.records
-        .push(Record::new(Body::MetadataDirectory(listed)));
+    page.records.push(Record::new(Body::MetadataDirectory(listed)));
     bytes_of(&page)
 }
 
@@ -53,8 +52,7 @@ pub fn free_in_reverse(length: usize) -> Vec<u8> {
         page.records.push(Record::new(Body::Free(16)));
     }
     let listed = (first..page.records.len()).rev().collect();
-    page.records
-        .push(Record::new(Body::FileSpaceDirectory(listed)));
+    page.records.push(Record::new(Body::FileSpaceDirectory(listed)));
     bytes_of(&page)
 }
 
@@ -64,30 +62,22 @@ pub fn metadata_in_reverse(length: usize) -> Vec<u8> {
     let mut page = Page::plain();
     let first = page.records.len();
     for id in 0..(length - 1024) / 48 {
-        page.records
-            .push(Record::new(Body::Metadata(Metadata::new(b"m", id as u32))));
+        page.records.push(Record::new(Body::Metadata(Metadata::new(b"m", id as u32))));
     }
     let listed = (first..page.records.len()).rev().collect();
-    page.records
-        .push(Record::new(Body::MetadataDirectory(listed)));
+    page.records.push(Record::new(Body::MetadataDirectory(listed)));
     bytes_of(&page)
 }
 
 /// No tile record, and a directory that covers 65,536 tiles.
 pub fn wide_directory() -> Vec<u8> {
     let mut page = Page::of_sides([256, 256], [1, 1]);
-    let directory = TileDirectory {
-        standard: 1,
-        ..TileDirectory::compact(0, 0, 256, 256)
-    };
+    let directory = TileDirectory { standard: 1, ..TileDirectory::compact(0, 0, 256, 256) };
     page.records[0].body = Body::TileDirectory(directory);
     bytes_of(&page)
 }
 
 fn tile(index: u32, length: usize) -> Record {
     let content = (0..length).map(|at| (at as u32 ^ index) as u8).collect();
-    Record::new(Body::Tile(Tile {
-        index,
-        contents: vec![content],
-    }))
+    Record::new(Body::Tile(Tile { index, contents: vec![content] }))
 }

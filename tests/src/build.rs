@@ -56,11 +56,7 @@ impl Built {
     }
 
     pub fn named(&self, name: &str) -> Vec<Field> {
-        self.fields
-            .iter()
-            .filter(|field| field.name == name)
-            .copied()
-            .collect()
+        self.fields.iter().filter(|field| field.name == name).copied().collect()
     }
 
     pub fn named_in(&self, name: &str, owner: usize) -> Vec<Field> {
@@ -76,21 +72,18 @@ impl Built {
     }
 
     pub fn of_role(&self, role: Role) -> Vec<Field> {
-        self.fields
-            .iter()
-            .filter(|field| field.role == role)
-            .copied()
-            .collect()
+        self.fields.iter().filter(|field| field.role == role).copied().collect()
     }
 
     /// The length of a record behind the header.
     pub fn length(&self, number: usize) -> usize {
-        let end = self
-            .starts
-            .get(number + 1)
-            .copied()
-            .unwrap_or(self.bytes.len());
+        let end = self.starts.get(number + 1).copied().unwrap_or(self.bytes.len());
         end - self.starts[number]
+    }
+
+    /// Bytes between a position in a record behind the header and the record's checksum.
+    pub fn left_behind(&self, position: usize, number: usize) -> usize {
+        self.starts[number] + self.length(number) - 4 - position
     }
 }
 
@@ -99,11 +92,7 @@ pub fn build(page: &Page) -> Built {
     let starts = starts_of(page);
     let mut writer = Writer::new(page.filler, true);
     writer.file(page, &starts);
-    let mut built = Built {
-        bytes: writer.bytes,
-        starts,
-        fields: writer.fields,
-    };
+    let mut built = Built { bytes: writer.bytes, starts, fields: writer.fields };
     make_checksums_good(&mut built.bytes);
     built
 }
@@ -178,25 +167,13 @@ impl Writer {
             Filler::Zero => None,
             Filler::Junk(seed) => Some(Prng::new(seed)),
         };
-        Writer {
-            bytes: Vec::new(),
-            fields: Vec::new(),
-            keep_fields,
-            owner: None,
-            junk,
-        }
+        Writer { bytes: Vec::new(), fields: Vec::new(), keep_fields, owner: None, junk }
     }
 
     fn put(&mut self, name: &'static str, role: Role, bytes: &[u8]) {
         if self.keep_fields && !bytes.is_empty() {
             let (at, owner) = (self.bytes.len(), self.owner);
-            self.fields.push(Field {
-                name,
-                role,
-                at,
-                width: bytes.len(),
-                owner,
-            });
+            self.fields.push(Field { name, role, at, width: bytes.len(), owner });
         }
         self.bytes.extend_from_slice(bytes);
     }
@@ -211,20 +188,12 @@ impl Writer {
 
     /// A string that no rule looks into (G Table 5).
     fn string(&mut self, length_name: &'static str, name: &'static str, bytes: &[u8]) {
-        self.put(
-            length_name,
-            Role::Count,
-            &(bytes.len() as u16).to_le_bytes(),
-        );
+        self.put(length_name, Role::Count, &(bytes.len() as u16).to_le_bytes());
         self.put(name, Role::Unjudged, bytes);
     }
 
     fn identifier(&mut self, length_name: &'static str, name: &'static str, bytes: &[u8]) {
-        self.put(
-            length_name,
-            Role::Count,
-            &(bytes.len() as u16).to_le_bytes(),
-        );
+        self.put(length_name, Role::Count, &(bytes.len() as u16).to_le_bytes());
         self.put(name, Role::Judged, bytes);
     }
 
@@ -314,11 +283,7 @@ impl Writer {
         self.put("range and fill", Role::Unjudged, &element.range_and_fill);
         self.fill_to_four("element padding");
         self.string("element label length", "element label", &element.label);
-        self.string(
-            "element description length",
-            "element description",
-            &element.description,
-        );
+        self.string("element description length", "element description", &element.description);
         self.string("element unit length", "element unit", &element.unit);
         self.fill_to_four("element padding");
     }
@@ -369,18 +334,10 @@ impl Writer {
         self.identifier("metadata name length", "metadata name", &metadata.name);
         self.integer("metadata ID", Role::Judged, metadata.id);
         self.put("metadata type", Role::Judged, &[metadata.data_type]);
-        self.integer(
-            "metadata content length",
-            Role::Count,
-            metadata.content.len() as u32,
-        );
+        self.integer("metadata content length", Role::Count, metadata.content.len() as u32);
         self.put("metadata content", Role::Unjudged, &metadata.content);
         let description = &metadata.description;
-        self.string(
-            "metadata description length",
-            "metadata description",
-            description,
-        );
+        self.string("metadata description length", "metadata description", description);
     }
 
     /// G Tables 15 and 16.
@@ -411,11 +368,7 @@ impl Writer {
                 Body::Metadata(metadata) => metadata,
                 _ => &unnamed,
             };
-            self.long(
-                "metadata position",
-                Role::Reference,
-                starts[*number] as u64 + 8,
-            );
+            self.long("metadata position", Role::Reference, starts[*number] as u64 + 8);
             self.identifier("listed name length", "listed name", &metadata.name);
             self.integer("listed ID", Role::Judged, metadata.id);
             self.put("listed type", Role::Judged, &[metadata.data_type]);
@@ -457,10 +410,7 @@ impl Writer {
 
 /// The content of the first record of a type, 0 if there is none.
 fn first_content(page: &Page, starts: &[usize], record_type: u8) -> u64 {
-    let first = page
-        .records
-        .iter()
-        .position(|record| record.record_type() == record_type);
+    let first = page.records.iter().position(|record| record.record_type() == record_type);
     first.map_or(0, |number| starts[number] as u64 + 8)
 }
 
@@ -469,9 +419,7 @@ fn free_size(page: &Page, number: usize, starts: &[usize]) -> u32 {
     let record: &Record = &page.records[number];
     match record.body {
         Body::Free(length) => (length + record.surplus) as u32,
-        _ => starts
-            .get(number + 1)
-            .map_or(16, |next| next.wrapping_sub(starts[number]) as u32),
+        _ => starts.get(number + 1).map_or(16, |next| next.wrapping_sub(starts[number]) as u32),
     }
 }
 
@@ -488,7 +436,5 @@ fn tile_content(
         return 0;
     }
     let index = row * page.tiles_across() + column;
-    tiles
-        .get(&(index as u32))
-        .map_or(0, |number| starts[*number] as u64 + 8)
+    tiles.get(&(index as u32)).map_or(0, |number| starts[*number] as u64 + 8)
 }

@@ -16,12 +16,5 @@ pub fn check(file: &[u8]) -> Answer {
 /// The same with the caller's `out`, of any length.
 pub fn check_into(file: &[u8], out: &mut [u64]) -> u32 {
     // Both slices are alive for the whole call and do not overlap.
-    unsafe {
-        gvrs_check(
-            file.as_ptr(),
-            file.len() as u64,
-            out.as_mut_ptr(),
-            out.len() as u64,
-        )
-    }
+    unsafe { gvrs_check(file.as_ptr(), file.len() as u64, out.as_mut_ptr(), out.len() as u64) }
 }

@@ -80,11 +80,7 @@ impl Element {
     /// Sets minimum, maximum and fill, each as bits. Of an integer-coded element these are its
     /// integers.
     pub fn set_range_and_fill(&mut self, minimum: u32, maximum: u32, fill: u32) {
-        let first = if self.type_code == INTEGER_CODED {
-            20
-        } else {
-            0
-        };
+        let first = if self.type_code == INTEGER_CODED { 20 } else { 0 };
         let width = self.cell_size();
         for (number, bits) in [minimum, maximum, fill].into_iter().enumerate() {
             let at = first + 4 * number;
@@ -184,9 +180,7 @@ impl Page {
             methods: Vec::new(),
             label: Vec::new(),
             surplus: 0,
-            records: vec![Record::new(Body::TileDirectory(TileDirectory::compact(
-                0, 0, 1, 1,
-            )))],
+            records: vec![Record::new(Body::TileDirectory(TileDirectory::compact(0, 0, 1, 1)))],
             filler: Filler::Zero,
         }
     }
@@ -272,14 +266,7 @@ impl Record {
 
 impl TileDirectory {
     pub fn compact(row0: u32, column0: u32, rows: u32, columns: u32) -> TileDirectory {
-        TileDirectory {
-            format: 0,
-            standard: 0,
-            row0,
-            column0,
-            rows,
-            columns,
-        }
+        TileDirectory { format: 0, standard: 0, row0, column0, rows, columns }
     }
 }
 

@@ -29,11 +29,7 @@ pub fn random_page(random: &mut Prng) -> Page {
 }
 
 fn unjudged_fields(page: &mut Page, random: &mut Prng) {
-    page.filler = if random.one_in(2) {
-        Filler::Zero
-    } else {
-        Filler::Junk(random.long())
-    };
+    page.filler = if random.one_in(2) { Filler::Zero } else { Filler::Junk(random.long()) };
     page.uuid.copy_from_slice(&random.bytes(16));
     page.time_modified = if random.one_in(4) { 0 } else { random.long() };
     page.levels = random.long() as u16;
@@ -60,10 +56,7 @@ fn elements(random: &mut Prng) -> Vec<Element> {
     };
     let mut elements: Vec<Element> = Vec::new();
     while elements.len() < count {
-        let names: Vec<&[u8]> = elements
-            .iter()
-            .map(|element| element.name.as_slice())
-            .collect();
+        let names: Vec<&[u8]> = elements.iter().map(|element| element.name.as_slice()).collect();
         let name = name_near(&names, random);
         if !names.contains(&name.as_slice()) {
             elements.push(element(&name, random));
@@ -74,11 +67,7 @@ fn elements(random: &mut Prng) -> Vec<Element> {
 
 fn element(name: &[u8], random: &mut Prng) -> Element {
     let mut element = Element::new(random.below(4) as u8, name);
-    let block_length = if element.type_code == INTEGER_CODED {
-        32
-    } else {
-        12
-    };
+    let block_length = if element.type_code == INTEGER_CODED { 32 } else { 12 };
     element.range_and_fill = random.bytes(block_length);
     element.continuous = random.byte();
     element.label = text(random);
@@ -157,8 +146,7 @@ fn tiles(page: &mut Page, random: &mut Prng) -> TileDirectory {
     indexes.truncate(random.between(0, 8));
     for index in indexes {
         let contents = contents(page, random);
-        page.records
-            .push(Record::new(Body::Tile(Tile { index, contents })));
+        page.records.push(Record::new(Body::Tile(Tile { index, contents })));
     }
     rectangle
 }
@@ -204,11 +192,7 @@ pub fn contents(page: &Page, random: &mut Prng) -> Vec<Vec<u8>> {
 }
 
 fn content(uncompressed: usize, large: bool, random: &mut Prng) -> Vec<u8> {
-    let most = if large {
-        uncompressed.min(64)
-    } else {
-        uncompressed
-    };
+    let most = if large { uncompressed.min(64) } else { uncompressed };
     let length = match random.below(6) {
         0..=2 => most,
         3 => 1,
@@ -219,11 +203,7 @@ fn content(uncompressed: usize, large: bool, random: &mut Prng) -> Vec<u8> {
 }
 
 fn metadata(page: &mut Page, random: &mut Prng) {
-    let count = if random.one_in(3) {
-        0
-    } else {
-        random.between(1, 6)
-    };
+    let count = if random.one_in(3) { 0 } else { random.between(1, 6) };
     let mut keys: Vec<(Vec<u8>, u32)> = Vec::new();
     while keys.len() < count {
         let names: Vec<&[u8]> = keys.iter().map(|(name, _)| name.as_slice()).collect();
@@ -231,11 +211,7 @@ fn metadata(page: &mut Page, random: &mut Prng) {
             Some(name) if random.one_in(3) => name.to_vec(),
             _ => name_near(&names, random),
         };
-        let id = if random.one_in(3) {
-            random.integer()
-        } else {
-            random.below(3) as u32
-        };
+        let id = if random.one_in(3) { random.integer() } else { random.below(3) as u32 };
         if !keys.contains(&(name.clone(), id)) {
             keys.push((name, id));
         }
@@ -243,23 +219,13 @@ fn metadata(page: &mut Page, random: &mut Prng) {
     for (name, id) in keys {
         let data_type = random.below(10) as u8;
         let (content, description) = (text(random), text(random));
-        let metadata = Metadata {
-            name,
-            id,
-            data_type,
-            content,
-            description,
-        };
+        let metadata = Metadata { name, id, data_type, content, description };
         page.records.push(Record::new(Body::Metadata(metadata)));
     }
 }
 
 fn free_records(page: &mut Page, random: &mut Prng) {
-    let count = if random.one_in(3) {
-        0
-    } else {
-        random.between(1, 5)
-    };
+    let count = if random.one_in(3) { 0 } else { random.between(1, 5) };
     for _ in 0..count {
         let length = 8 * random.between(2, 9);
         page.records.push(Record::new(Body::Free(length)));

@@ -71,9 +71,5 @@ pub fn metadata_body<'a>(record: &Record<'a>) -> Option<Metadata<'a>> {
     let good = is_identifier(name, LONGEST_NAME)
         && data_type <= 9
         && has_least_length(record, reader.at());
-    good.then_some(Metadata {
-        name,
-        id,
-        data_type,
-    })
+    good.then_some(Metadata { name, id, data_type })
 }

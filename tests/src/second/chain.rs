@@ -42,11 +42,7 @@ impl<'a> Record<'a> {
 
 /// The header record of a file that passes stage 3.
 pub fn header_record<'a>(file: &'a [u8], header: &Header) -> Record<'a> {
-    Record {
-        start: HEADER_START,
-        record_type: HEADER,
-        bytes: &file[HEADER_START..header.end],
-    }
+    Record { start: HEADER_START, record_type: HEADER, bytes: &file[HEADER_START..header.end] }
 }
 
 /// Document 01, stage 6: "Records follow the header without a gap up to the last byte."
@@ -69,11 +65,7 @@ fn record_at(file: &[u8], start: usize) -> Option<Record<'_>> {
     let record_type = *file.get(start + 4)?;
     let bytes = file.get(start..start + length)?;
     let good = length_is_good(length) && type_is_good(record_type);
-    good.then_some(Record {
-        start,
-        record_type,
-        bytes,
-    })
+    good.then_some(Record { start, record_type, bytes })
 }
 
 fn length_is_good(length: usize) -> bool {

@@ -9,10 +9,7 @@ pub fn first_bad_checksum(header: Record, records: &[Record], on: bool) -> Optio
     if !checksum_is_good(&header, on) {
         return Some(header.start);
     }
-    records
-        .iter()
-        .find(|record| !checksum_is_good(record, on))
-        .map(|record| record.start)
+    records.iter().find(|record| !checksum_is_good(record, on)).map(|record| record.start)
 }
 
 /// Document 01, stage 7: the last four bytes are the CRC32C if checksums are on, zero if off.

@@ -20,11 +20,7 @@ const fn shifted_eight_times(start: u32) -> u32 {
     let mut value = start;
     let mut bit = 0;
     while bit < 8 {
-        value = if value & 1 == 1 {
-            (value >> 1) ^ POLYNOMIAL
-        } else {
-            value >> 1
-        };
+        value = if value & 1 == 1 { (value >> 1) ^ POLYNOMIAL } else { value >> 1 };
         bit += 1;
     }
     value

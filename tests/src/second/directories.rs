@@ -33,9 +33,7 @@ fn referred<'r, 'a>(
     reference: u64,
     record_type: u8,
 ) -> Option<&'r Record<'a>> {
-    let at = records
-        .binary_search_by_key(&reference, Record::content)
-        .ok()?;
+    let at = records.binary_search_by_key(&reference, Record::content).ok()?;
     let record = &records[at];
     (record.record_type == record_type).then_some(record)
 }
@@ -44,9 +42,7 @@ fn of_type<'r, 'a>(
     records: &'r [Record<'a>],
     record_type: u8,
 ) -> impl Iterator<Item = &'r Record<'a>> {
-    records
-        .iter()
-        .filter(move |record| record.record_type == record_type)
+    records.iter().filter(move |record| record.record_type == record_type)
 }
 
 // The tile directory.
@@ -88,11 +84,7 @@ fn tile_references(header: &Header, record: &Record) -> Option<Vec<Listed>> {
     let mut listed = Vec::new();
     for row in row0..row0 + rows {
         for column in column0..column0 + columns {
-            let reference = if standard == 1 {
-                reader.long()?
-            } else {
-                compact(reader.integer()?)
-            };
+            let reference = if standard == 1 { reader.long()? } else { compact(reader.integer()?) };
             if reference != 0 {
                 listed.push((row * across + column, reference));
             }
@@ -128,18 +120,14 @@ fn tile_contents(header: &Header, records: &[Record]) -> Vec<Listed> {
 /// with that same index".
 fn every_reference_is_a_tile(listed: &[Listed], stored: &[Listed]) -> bool {
     let index_at: HashMap<u64, u64> = stored.iter().map(|(index, at)| (*at, *index)).collect();
-    listed
-        .iter()
-        .all(|(index, at)| index_at.get(at) == Some(index))
+    listed.iter().all(|(index, at)| index_at.get(at) == Some(index))
 }
 
 /// Document 01, stage 9: "Every tile record is listed at its own index". One place holds one
 /// reference, so two tile records with one index are never both listed (reading 19).
 fn every_tile_is_listed(listed: &[Listed], stored: &[Listed]) -> bool {
     let listed_at: HashMap<u64, u64> = listed.iter().copied().collect();
-    stored
-        .iter()
-        .all(|(index, at)| listed_at.get(index) == Some(at))
+    stored.iter().all(|(index, at)| listed_at.get(index) == Some(at))
 }
 
 // The metadata directory.
@@ -181,12 +169,7 @@ fn metadata_listed<'a>(record: &Record<'a>) -> Option<Vec<MetadataEntry<'a>>> {
 fn metadata_stored<'a>(records: &[Record<'a>]) -> Vec<MetadataEntry<'a>> {
     let entry = |record: &Record<'a>| {
         let metadata = metadata_body(record)?;
-        Some((
-            record.content(),
-            metadata.name,
-            metadata.id,
-            metadata.data_type,
-        ))
+        Some((record.content(), metadata.name, metadata.id, metadata.data_type))
     };
     of_type(records, METADATA).filter_map(entry).collect()
 }

@@ -24,10 +24,8 @@ pub fn uncompressed_size(header: &Header, cell_size: u64) -> u128 {
 /// Uncompressed bytes of one tile, all elements together: U without length fields and padding
 /// (reading 8).
 pub fn tile_bytes(header: &Header) -> u128 {
-    let sizes = header
-        .elements
-        .iter()
-        .map(|element| uncompressed_size(header, element.cell_size()));
+    let sizes =
+        header.elements.iter().map(|element| uncompressed_size(header, element.cell_size()));
     sizes.sum()
 }
 

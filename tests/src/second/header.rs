@@ -143,10 +143,7 @@ fn element(reader: &mut Reader) -> Option<Element> {
     let _unit_of_measure = reader.string()?;
     reader.fill_to_four()?;
     let good = is_identifier(name, LONGEST_NAME);
-    good.then(|| Element {
-        type_code,
-        name: name.to_vec(),
-    })
+    good.then(|| Element { type_code, name: name.to_vec() })
 }
 
 /// Document 01, stage 3: "each of a type of G's Table 2". Codes of G Table 8, lengths of G Tables 9
@@ -161,11 +158,7 @@ fn range_block_length(type_code: u8) -> Option<usize> {
 
 /// Document 01, stage 3: "no two are equal".
 fn names_distinct(elements: &[Element]) -> bool {
-    let earlier = |at: usize| {
-        elements[..at]
-            .iter()
-            .any(|other| other.name == elements[at].name)
-    };
+    let earlier = |at: usize| elements[..at].iter().any(|other| other.name == elements[at].name);
     !(0..elements.len()).any(earlier)
 }
 

@@ -9,8 +9,6 @@ pub fn is_identifier(name: &[u8], longest: usize) -> bool {
     let begins_with_letter = name.first().is_some_and(u8::is_ascii_alphabetic);
     // Rules 1 and 4: ASCII letters, numbers and underscores. Rule 5, that case counts, is a matter
     // of comparing.
-    let characters = name
-        .iter()
-        .all(|byte| byte.is_ascii_alphanumeric() || *byte == b'_');
+    let characters = name.iter().all(|byte| byte.is_ascii_alphanumeric() || *byte == b'_');
     begins_with_letter && characters && name.len() <= longest
 }

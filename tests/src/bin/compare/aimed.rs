@@ -17,12 +17,7 @@ pub fn section(run: &mut Run, random: &mut Prng) {
     }
     for earlier in 1..=9 {
         for later in earlier + 1..=9 {
-            pairs(
-                run,
-                &of_stage(&aims, earlier),
-                &of_stage(&aims, later),
-                random,
-            );
+            pairs(run, &of_stage(&aims, earlier), &of_stage(&aims, later), random);
         }
     }
 }
@@ -44,9 +39,7 @@ fn single(run: &mut Run, aim: &Aim, random: &mut Prng) {
 
 /// The aims of a stage, but for those that take very long files.
 fn of_stage(aims: &[Aim], stage: u32) -> Vec<&Aim> {
-    aims.iter()
-        .filter(|aim| aim.stage == stage && aim.times >= 10)
-        .collect()
+    aims.iter().filter(|aim| aim.stage == stage && aim.times >= 10).collect()
 }
 
 /// Two damages of different stages: the earlier stage refuses.

@@ -46,12 +46,7 @@ impl Aim {
         sentence: &'static str,
         damage: fn(&mut Page, &mut Prng) -> Option<At>,
     ) -> Aim {
-        Aim {
-            stage,
-            sentence,
-            damage: Damage::Description(damage),
-            times: TIMES,
-        }
+        Aim { stage, sentence, damage: Damage::Description(damage), times: TIMES }
     }
 
     pub fn bytes(
@@ -59,12 +54,7 @@ impl Aim {
         sentence: &'static str,
         damage: fn(&mut Built, &mut Prng) -> Option<At>,
     ) -> Aim {
-        Aim {
-            stage,
-            sentence,
-            damage: Damage::Bytes(damage),
-            times: TIMES,
-        }
+        Aim { stage, sentence, damage: Damage::Bytes(damage), times: TIMES }
     }
 
     pub fn length(
@@ -72,24 +62,14 @@ impl Aim {
         sentence: &'static str,
         damage: fn(&mut Built, &mut Prng) -> Option<At>,
     ) -> Aim {
-        Aim {
-            stage,
-            sentence,
-            damage: Damage::Length(damage),
-            times: TIMES,
-        }
+        Aim { stage, sentence, damage: Damage::Length(damage), times: TIMES }
     }
 
     pub fn checksums(
         sentence: &'static str,
         damage: fn(&mut Built, &mut Prng) -> Option<At>,
     ) -> Aim {
-        Aim {
-            stage: 7,
-            sentence,
-            damage: Damage::Checksums(damage),
-            times: TIMES,
-        }
+        Aim { stage: 7, sentence, damage: Damage::Checksums(damage), times: TIMES }
     }
 }
 

@@ -11,7 +11,7 @@ pub fn section(run: &mut Run, random: &mut Prng) {
         let built = build(&random_page(random));
         counts(run, &built, random);
         references(run, &built, random);
-        judged_bytes(run, &built);
+        judged_bytes(run, &built, random);
     }
 }
 
@@ -22,34 +22,24 @@ fn with_value(good: &Built, field: &Field, value: u64) -> Vec<u8> {
     built.bytes
 }
 
-/// Some of the fields, so that files with many don't outweigh the others.
-fn some(mut fields: Vec<Field>, random: &mut Prng) -> Vec<Field> {
+/// Three fields of each name, so that files with many entries don't outweigh the others.
+fn some_of_each_name(mut fields: Vec<Field>, random: &mut Prng) -> Vec<Field> {
     random.shuffle(&mut fields);
-    fields.truncate(40);
-    fields
+    let mut some: Vec<Field> = Vec::new();
+    for field in fields {
+        if some.iter().filter(|other| other.name == field.name).count() < 3 {
+            some.push(field);
+        }
+    }
+    some
 }
 
 fn counts(run: &mut Run, good: &Built, random: &mut Prng) {
-    for field in some(good.of_role(Role::Count), random) {
+    for field in some_of_each_name(good.of_role(Role::Count), random) {
         let own = good.value(&field);
-        let mut values = vec![
-            0,
-            1,
-            8,
-            own.wrapping_sub(1),
-            own + 1,
-            own + 8,
-            0x7fff,
-            0xffff,
-        ];
+        let mut values = vec![0, 1, 8, own.wrapping_sub(1), own + 1, own + 8, 0x7fff, 0xffff];
         if field.width == 4 {
-            values.extend([
-                0x7fff_ffff,
-                0x7fff_fff8,
-                0x8000_0000,
-                0xffff_fff8,
-                0xffff_ffff,
-            ]);
+            values.extend([0x7fff_ffff, 0x7fff_fff8, 0x8000_0000, 0xffff_fff8, 0xffff_ffff]);
             values.extend([own | 0x8000_0000, 0x1_0000, 0x1000_0000, 0x4000_0000]);
         }
         for value in values {
@@ -60,38 +50,12 @@ fn counts(run: &mut Run, good: &Built, random: &mut Prng) {
 
 fn references(run: &mut Run, good: &Built, random: &mut Prng) {
     let end = good.bytes.len() as u64;
-    for field in some(good.of_role(Role::Reference), random) {
+    for field in some_of_each_name(good.of_role(Role::Reference), random) {
         let own = good.value(&field);
-        let mut values = vec![
-            0,
-            1,
-            7,
-            8,
-            15,
-            16,
-            24,
-            own ^ 1,
-            own ^ 4,
-            own ^ 8,
-            own / 8,
-            own * 8,
-        ];
+        let mut values = vec![0, 1, 7, 8, 15, 16, 24, own ^ 1, own ^ 4, own ^ 8, own / 8, own * 8];
         values.extend([own + 8, own.wrapping_sub(8), end - 8, end - 4, end, end + 8]);
-        values.extend([
-            u64::MAX,
-            u64::MAX - 7,
-            u64::MAX - 8,
-            u64::MAX - 15,
-            1 << 63,
-            1 << 32,
-        ]);
-        values.extend([
-            own | 1 << 32,
-            own | 1 << 63,
-            own | 1 << 29,
-            0x7fff_ffff,
-            0xffff_ffff,
-        ]);
+        values.extend([u64::MAX, u64::MAX - 7, u64::MAX - 8, u64::MAX - 15, 1 << 63, 1 << 32]);
+        values.extend([own | 1 << 32, own | 1 << 63, own | 1 << 29, 0x7fff_ffff, 0xffff_ffff]);
         for value in values {
             run.compare("hostile references", &with_value(good, &field, value));
         }
@@ -99,9 +63,10 @@ fn references(run: &mut Run, good: &Built, random: &mut Prng) {
 }
 
 /// Every value of every type byte and flag.
-fn judged_bytes(run: &mut Run, good: &Built) {
-    let fields = good.of_role(Role::Judged);
-    for field in fields.iter().filter(|field| field.width == 1).take(12) {
+fn judged_bytes(run: &mut Run, good: &Built, random: &mut Prng) {
+    let mut fields = good.of_role(Role::Judged);
+    fields.retain(|field| field.width == 1);
+    for field in &some_of_each_name(fields, random) {
         for value in (0..=12).chain([0x7f, 0x80, 0xff]) {
             run.compare("hostile types and flags", &with_value(good, field, value));
         }

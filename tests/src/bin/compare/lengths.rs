@@ -30,10 +30,7 @@ fn cut_at_every_length(run: &mut Run, random: &mut Prng) {
         for length in (0..built.bytes.len()).step_by(step) {
             let answer = run.compare("cut", &built.bytes[..length]);
             if answer.0 == 0 {
-                run.fault(
-                    "a file that lacks its end is accepted",
-                    &built.bytes[..length],
-                );
+                run.fault("a file that lacks its end is accepted", &built.bytes[..length]);
             }
         }
     }
@@ -58,11 +55,7 @@ fn lengthened(run: &mut Run, random: &mut Prng) {
         let built = build(&page);
         for count in 1..=24 {
             let mut file = built.bytes.clone();
-            let more = if random.one_in(2) {
-                vec![0; count]
-            } else {
-                random.bytes(count)
-            };
+            let more = if random.one_in(2) { vec![0; count] } else { random.bytes(count) };
             file.extend(more);
             make_checksums_good(&mut file);
             run.compare("lengthened", &file);
@@ -77,11 +70,7 @@ fn lengthened(run: &mut Run, random: &mut Prng) {
 fn lengthened_by_a_record(run: &mut Run, page: &Page, record_type: u8, random: &mut Prng) {
     let mut page = page.clone();
     let length = 4 * random.below(10);
-    let content = if random.one_in(2) {
-        vec![0; length]
-    } else {
-        random.bytes(length)
-    };
+    let content = if random.one_in(2) { vec![0; length] } else { random.bytes(length) };
     page.insert(page.records.len(), Body::Raw(record_type, content));
     let built = build(&page);
     run.compare("lengthened", &built.bytes);

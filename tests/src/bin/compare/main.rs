@@ -59,7 +59,7 @@ fn whole_run(seed: u64, small: bool) -> bool {
     ];
     let mut run = Run::new(small);
     for (number, section) in sections.into_iter().enumerate() {
-        section(&mut run, &mut Prng::new(seed + number as u64));
+        section(&mut run, &mut Prng::new(seed.wrapping_add(number as u64)));
     }
     run.report()
 }

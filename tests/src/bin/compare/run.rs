@@ -102,11 +102,7 @@ impl Run {
     fn aim_tally(&mut self, stage: u32, sentence: &'static str) -> &mut AimTally {
         let same = |tally: &AimTally| tally.stage == stage && tally.sentence == sentence;
         let at = self.aims.iter().position(same).unwrap_or_else(|| {
-            self.aims.push(AimTally {
-                stage,
-                sentence,
-                hit: 0,
-            });
+            self.aims.push(AimTally { stage, sentence, hit: 0 });
             self.aims.len() - 1
         });
         &mut self.aims[at]
@@ -114,18 +110,10 @@ impl Run {
 
     /// A file damaged in two stages.
     pub fn pair(&mut self, stages: (u32, u32), earlier_refused: bool) {
-        let at = self
-            .pairs
-            .iter()
-            .position(|tally| tally.stages == stages)
-            .unwrap_or_else(|| {
-                self.pairs.push(PairTally {
-                    stages,
-                    tried: 0,
-                    earlier: 0,
-                });
-                self.pairs.len() - 1
-            });
+        let at = self.pairs.iter().position(|tally| tally.stages == stages).unwrap_or_else(|| {
+            self.pairs.push(PairTally { stages, tried: 0, earlier: 0 });
+            self.pairs.len() - 1
+        });
         self.pairs[at].tried += 1;
         self.pairs[at].earlier += usize::from(earlier_refused);
     }

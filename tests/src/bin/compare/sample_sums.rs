@@ -39,10 +39,7 @@ fn published_checksums(run: &mut Run) {
 fn short_page(elements: usize, side: u32, length: usize) -> Page {
     let mut page = Page::of_sides([side, side], [side, side]);
     let names: [&[u8]; 2] = [b"a", b"b"];
-    page.elements = names[..elements]
-        .iter()
-        .map(|name| Element::new(SHORT, name))
-        .collect();
+    page.elements = names[..elements].iter().map(|name| Element::new(SHORT, name)).collect();
     let contents = vec![vec![7; length]; elements];
     page.insert(0, Body::Tile(Tile { index: 0, contents }));
     page
@@ -55,10 +52,7 @@ fn record_lengths(run: &mut Run) {
         let built = build(&page);
         run.expect(SORT, "a tile record's length", &built.bytes, (0, 0));
         if built.length(0) != length {
-            run.fault(
-                "a tile record has another length than the sample",
-                &built.bytes,
-            );
+            run.fault("a tile record has another length than the sample", &built.bytes);
         }
         page.records[0].surplus = 8;
         let built = build(&page);

@@ -6,6 +6,7 @@ use gvrs_tests::prng::Prng;
 use gvrs_tests::second::chain;
 
 use super::bad_names::{bad_name, BadName};
+use super::changes;
 use crate::damage::{Aim, At};
 
 pub fn aims() -> Vec<Aim> {
@@ -13,11 +14,7 @@ pub fn aims() -> Vec<Aim> {
     aims.extend(content_aims());
     aims.extend(metadata_aims());
     aims.extend(metadata_name_aims());
-    aims.push(Aim::description(
-        8,
-        "the first of two, tiles and metadata together",
-        first_of_two,
-    ));
+    aims.push(Aim::description(8, "the first of two, tiles and metadata together", first_of_two));
     aims
 }
 
@@ -25,12 +22,10 @@ pub fn aims() -> Vec<Aim> {
 
 fn tile_aims() -> Vec<Aim> {
     vec![
-        Aim::bytes(8, "a tile index is at least 0", tile_index_negative),
-        Aim::bytes(
-            8,
-            "a tile index is below the tile count",
-            tile_index_too_large,
-        ),
+        Aim::bytes(8, "a tile index is at least 0", |built, random| {
+            negative(built, "tile index", random)
+        }),
+        Aim::bytes(8, "a tile index is below the tile count", tile_index_too_large),
         Aim::description(8, "for each element: one is missing", element_missing),
         Aim::description(8, "for each element: one too many", element_too_many),
         Aim::description(8, "a tile record that holds an index only", index_only),
@@ -40,21 +35,16 @@ fn tile_aims() -> Vec<Aim> {
     ]
 }
 
-fn tile_index_negative(built: &mut Built, random: &mut Prng) -> Option<At> {
-    let field = random.pick_any(&built.named("tile index"))?;
-    let index = built.value(&field) | 0x8000_0000;
-    built.set(&field, random.pick(&[index, 0x8000_0000, 0xffff_ffff]));
-    field.owner.map(At::Record)
-}
-
 fn tile_index_too_large(built: &mut Built, random: &mut Prng) -> Option<At> {
     let field = random.pick_any(&built.named("tile index"))?;
-    let side = |name| built.value(&built.only(name));
-    let down = side("grid rows").div_ceil(side("tile rows"));
-    let across = side("grid columns").div_ceil(side("tile columns"));
+    let (down, across) = changes::tile_grid(built);
     let count = down * across;
     built.set(&field, random.pick(&[count, count + 1, 0x7fff_ffff]));
     field.owner.map(At::Record)
+}
+
+fn negative(built: &mut Built, name: &str, random: &mut Prng) -> Option<At> {
+    changes::negative(built, name, random)?.owner.map(At::Record)
 }
 
 /// A tile record of the page, by number.
@@ -99,9 +89,7 @@ fn longer(page: &mut Page, record_type: u8, random: &mut Prng) -> Option<At> {
 
 fn content_aims() -> Vec<Aim> {
     vec![
-        Aim::description(8, "L is at least 1", |page, random| {
-            set_content(page, random, |_| 0)
-        }),
+        Aim::description(8, "L is at least 1", |page, random| set_content(page, random, |_| 0)),
         Aim::description(8, "L is at most U: U + 1", |page, random| {
             set_content(page, random, |uncompressed| uncompressed + 1)
         }),
@@ -110,17 +98,11 @@ fn content_aims() -> Vec<Aim> {
         }),
         Aim::description(8, "L does not count the padding", padding_counted),
         Aim::description(8, "U is times 2 for Short", short_of_four_bytes),
-        Aim::bytes(8, "L is not negative", content_length_negative),
-        Aim::description(
-            8,
-            "L bytes and padding fit the record",
-            content_past_the_end,
-        ),
-        Aim::bytes(
-            8,
-            "the least length: L one word shorter",
-            content_one_word_shorter,
-        ),
+        Aim::bytes(8, "L is not negative", |built, random| {
+            negative(built, "content length", random)
+        }),
+        Aim::description(8, "L bytes and padding fit the record", content_past_the_end),
+        Aim::bytes(8, "the least length: L one word shorter", content_one_word_shorter),
     ]
 }
 
@@ -157,13 +139,6 @@ fn short_of_four_bytes(page: &mut Page, random: &mut Prng) -> Option<At> {
     (uncompressed <= 4096).then_some(At::Record(number))
 }
 
-fn content_length_negative(built: &mut Built, random: &mut Prng) -> Option<At> {
-    let field = random.pick_any(&built.named("content length"))?;
-    let length = built.value(&field) | 0x8000_0000;
-    built.set(&field, random.pick(&[length, 0x8000_0000, 0xffff_ffff]));
-    field.owner.map(At::Record)
-}
-
 /// The last element of a tile is stored with one byte, then said to have up to U, which is more than
 /// the record holds.
 fn content_past_the_end(page: &mut Page, random: &mut Prng) -> Option<At> {
@@ -192,10 +167,7 @@ fn content_one_word_shorter(built: &mut Built, random: &mut Prng) -> Option<At> 
         return None;
     }
     let field = random.pick_any(&built.named("content length"))?;
-    let length = built
-        .value(&field)
-        .checked_sub(8)
-        .filter(|length| *length > 0)?;
+    let length = built.value(&field).checked_sub(8).filter(|length| *length > 0)?;
     built.set(&field, length);
     field.owner.map(At::Record)
 }
@@ -205,11 +177,9 @@ fn content_one_word_shorter(built: &mut Built, random: &mut Prng) -> Option<At> 
 fn metadata_aims() -> Vec<Aim> {
     vec![
         Aim::bytes(8, "a data type from 0 to 9", metadata_type),
-        Aim::bytes(
-            8,
-            "a content length not negative",
-            metadata_content_negative,
-        ),
+        Aim::bytes(8, "a content length not negative", |built, random| {
+            negative(built, "metadata content length", random)
+        }),
         Aim::bytes(8, "metadata content fits", metadata_content_too_long),
         Aim::bytes(8, "a metadata description fits", |built, random| {
             string_too_long(built, "metadata description length", random)
@@ -217,21 +187,11 @@ fn metadata_aims() -> Vec<Aim> {
         Aim::bytes(8, "a metadata name fits", |built, random| {
             string_too_long(built, "metadata name length", random)
         }),
-        Aim::description(
-            8,
-            "the fields of Table 14: fewer bytes than they take",
-            metadata_short,
-        ),
-        Aim::description(
-            8,
-            "a metadata record has the least length",
-            |page, random| longer(page, chain::METADATA, random),
-        ),
-        Aim::bytes(
-            8,
-            "the least length: metadata content 8 shorter",
-            metadata_content_shorter,
-        ),
+        Aim::description(8, "the fields of Table 14: fewer bytes than they take", metadata_short),
+        Aim::description(8, "a metadata record has the least length", |page, random| {
+            longer(page, chain::METADATA, random)
+        }),
+        Aim::bytes(8, "the least length: metadata content 8 shorter", metadata_content_shorter),
     ]
 }
 
@@ -242,31 +202,16 @@ fn metadata_type(built: &mut Built, random: &mut Prng) -> Option<At> {
     field.owner.map(At::Record)
 }
 
-fn metadata_content_negative(built: &mut Built, random: &mut Prng) -> Option<At> {
-    let field = random.pick_any(&built.named("metadata content length"))?;
-    let length = built.value(&field) | 0x8000_0000;
-    built.set(&field, random.pick(&[length, 0x8000_0000, 0xffff_ffff]));
-    field.owner.map(At::Record)
-}
-
-/// Bytes between a position and the checksum of its record.
-fn left_behind(built: &Built, owner: usize, position: usize) -> usize {
-    built.starts[owner] + built.length(owner) - 4 - position
-}
-
 fn metadata_content_too_long(built: &mut Built, random: &mut Prng) -> Option<At> {
     let field = random.pick_any(&built.named("metadata content length"))?;
-    let left = left_behind(built, field.owner?, field.at + 4) as u64;
-    built.set(
-        &field,
-        random.pick(&[left + 1, left, left - 1, 0x7fff_ffff]),
-    );
+    let left = built.left_behind(field.at + 4, field.owner?) as u64;
+    built.set(&field, random.pick(&[left + 1, left, left - 1, 0x7fff_ffff]));
     field.owner.map(At::Record)
 }
 
 fn string_too_long(built: &mut Built, name: &str, random: &mut Prng) -> Option<At> {
     let field = random.pick_any(&built.named(name))?;
-    let left = left_behind(built, field.owner?, field.at + 2) as u64;
+    let left = built.left_behind(field.at + 2, field.owner?) as u64;
     built.set(&field, random.pick(&[left + 1, left + 5, 0xffff]));
     field.owner.map(At::Record)
 }
@@ -297,26 +242,18 @@ fn metadata_name_aims() -> Vec<Aim> {
         Aim::description(8, "a metadata name of no character", |page, random| {
             spoil_name(page, BadName::Empty, random)
         }),
-        Aim::description(
-            8,
-            "a metadata name of more than 32 characters",
-            |page, random| spoil_name(page, BadName::TooLong, random),
-        ),
-        Aim::description(
-            8,
-            "a metadata name that begins with no letter",
-            |page, random| spoil_name(page, BadName::Beginning, random),
-        ),
-        Aim::description(
-            8,
-            "a metadata name with another ASCII character",
-            |page, random| spoil_name(page, BadName::Character, random),
-        ),
-        Aim::description(
-            8,
-            "a metadata name with a byte that is not ASCII",
-            |page, random| spoil_name(page, BadName::NotAscii, random),
-        ),
+        Aim::description(8, "a metadata name of more than 32 characters", |page, random| {
+            spoil_name(page, BadName::TooLong, random)
+        }),
+        Aim::description(8, "a metadata name that begins with no letter", |page, random| {
+            spoil_name(page, BadName::Beginning, random)
+        }),
+        Aim::description(8, "a metadata name with another ASCII character", |page, random| {
+            spoil_name(page, BadName::Character, random)
+        }),
+        Aim::description(8, "a metadata name with a byte that is not ASCII", |page, random| {
+            spoil_name(page, BadName::NotAscii, random)
+        }),
     ]
 }
 

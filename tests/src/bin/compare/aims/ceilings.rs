@@ -30,16 +30,8 @@ pub fn aims() -> Vec<Aim> {
         }),
         Aim::bytes(4, "tiles above 65,536", many_tiles),
         Aim::description(4, "elements above 16", many_elements),
-        Aim::description(
-            4,
-            "elements above 16, faults behind the 16th",
-            faults_behind_16,
-        ),
-        Aim::bytes(
-            4,
-            "elements above 16, the record ends there",
-            record_ends_behind_16,
-        ),
+        Aim::description(4, "elements above 16, faults behind the 16th", faults_behind_16),
+        Aim::bytes(4, "elements above 16, the record ends there", record_ends_behind_16),
         Aim::bytes(4, "tile bytes above 1,048,576", many_tile_bytes),
     ]
 }
@@ -66,14 +58,7 @@ fn sides(built: &mut Built, grid: [u32; 2], tile: [u32; 2]) -> Option<At> {
 }
 
 fn many_tiles(built: &mut Built, random: &mut Prng) -> Option<At> {
-    let grids = [
-        [2, 32_769],
-        [32_769, 2],
-        [257, 256],
-        [65_536, 65_536],
-        [65_536, 2],
-        [257, 257],
-    ];
+    let grids = [[2, 32_769], [32_769, 2], [257, 256], [65_536, 65_536], [65_536, 2], [257, 257]];
     sides(built, random.pick(&grids), [1, 1])
 }
 
@@ -110,10 +95,7 @@ fn record_ends_behind_16(built: &mut Built, random: &mut Prng) -> Option<At> {
 /// Just above or far above, with sides that are kept.
 fn many_tile_bytes(built: &mut Built, random: &mut Prng) -> Option<At> {
     let types = built.named("element type");
-    let cell: u64 = types
-        .iter()
-        .map(|field| if built.value(field) == 3 { 2 } else { 4 })
-        .sum();
+    let cell: u64 = types.iter().map(|field| if built.value(field) == 3 { 2 } else { 4 }).sum();
     let cells = 1_048_576 / cell + 1;
     let rows = random.between(cells.div_ceil(4096) as usize, 4096) as u64;
     let columns = cells.div_ceil(rows);

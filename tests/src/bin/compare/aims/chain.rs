@@ -7,11 +7,7 @@ use crate::damage::{Aim, At};
 
 pub fn aims() -> Vec<Aim> {
     vec![
-        Aim::length(
-            6,
-            "without a gap: 1 to 15 bytes behind the last record",
-            bytes_left_over,
-        ),
+        Aim::length(6, "without a gap: 1 to 15 bytes behind the last record", bytes_left_over),
         Aim::length(6, "without a gap: zeros between two records", zeros_between),
         Aim::bytes(6, "a length is a multiple of 8", length_not_a_multiple),
         Aim::bytes(6, "a length is at least 16", length_below_16),
@@ -69,11 +65,7 @@ fn length_below_16(built: &mut Built, random: &mut Prng) -> Option<At> {
 fn length_past_the_end(built: &mut Built, random: &mut Prng) -> Option<At> {
     let number = any_record(built, random);
     let rest = (built.bytes.len() - built.starts[number]) as u64;
-    set_length(
-        built,
-        number,
-        random.pick(&[rest + 8, rest + 4096, 0x7fff_fff8]),
-    )
+    set_length(built, number, random.pick(&[rest + 8, rest + 4096, 0x7fff_fff8]))
 }
 
 fn cut_in_a_record(built: &mut Built, random: &mut Prng) -> Option<At> {

@@ -16,39 +16,27 @@ pub fn aims() -> Vec<Aim> {
         Aim::checksums("on: a free record's last four bytes", |built, random| {
             flip_checksum_of_type(built, chain::FREE, random)
         }),
-        Aim::checksums(
-            "on: a metadata record's last four bytes",
-            |built, random| flip_checksum_of_type(built, chain::METADATA, random),
-        ),
+        Aim::checksums("on: a metadata record's last four bytes", |built, random| {
+            flip_checksum_of_type(built, chain::METADATA, random)
+        }),
         Aim::checksums("on: a tile record's last four bytes", |built, random| {
             flip_checksum_of_type(built, chain::TILE, random)
         }),
-        Aim::checksums(
-            "on: a file-space directory's last four bytes",
-            |built, random| flip_checksum_of_type(built, chain::FILE_SPACE_DIRECTORY, random),
-        ),
-        Aim::checksums(
-            "on: a metadata directory's last four bytes",
-            |built, random| flip_checksum_of_type(built, chain::METADATA_DIRECTORY, random),
-        ),
+        Aim::checksums("on: a file-space directory's last four bytes", |built, random| {
+            flip_checksum_of_type(built, chain::FILE_SPACE_DIRECTORY, random)
+        }),
+        Aim::checksums("on: a metadata directory's last four bytes", |built, random| {
+            flip_checksum_of_type(built, chain::METADATA_DIRECTORY, random)
+        }),
         Aim::checksums("on: a tile directory's last four bytes", |built, random| {
             flip_checksum_of_type(built, chain::TILE_DIRECTORY, random)
         }),
-        Aim::checksums(
-            "on: of all earlier bytes of the record",
-            unjudged_byte_changed,
-        ),
+        Aim::checksums("on: of all earlier bytes of the record", unjudged_byte_changed),
         Aim::checksums("on: zero is no checksum", checksum_zero),
         Aim::checksums("on: final exclusive-or", checksum_inverted),
         Aim::checksums("on: little-endian", checksum_big_endian),
-        Aim::checksums(
-            "on: a free record's is of its first eight bytes only",
-            free_over_content,
-        ),
-        Aim::checksums(
-            "on: the header's is of its own bytes only",
-            header_from_byte_0,
-        ),
+        Aim::checksums("on: a free record's is of its first eight bytes only", free_over_content),
+        Aim::checksums("on: the header's is of its own bytes only", header_from_byte_0),
         Aim::checksums("off: they are zero, the header's", |built, random| {
             if_off(built)?;
             flip_checksum_of(built, None, random)
@@ -190,10 +178,6 @@ fn first_of_two(built: &mut Built, random: &mut Prng) -> Option<At> {
     }
     flip_checksum_of(built, one, random)?;
     flip_checksum_of(built, other, random)?;
-    let first = if one.is_none() || other.is_none() {
-        None
-    } else {
-        one.min(other)
-    };
+    let first = if one.is_none() || other.is_none() { None } else { one.min(other) };
     Some(at_owner(first))
 }

@@ -6,6 +6,7 @@ use gvrs_tests::prng::Prng;
 use gvrs_tests::random_page::name;
 
 use super::bad_names::{bad_name, BadName};
+use super::changes;
 use crate::damage::{Aim, At};
 
 pub fn aims() -> Vec<Aim> {
@@ -22,17 +23,9 @@ pub fn aims() -> Vec<Aim> {
 
 fn record_aims() -> Vec<Aim> {
     vec![
-        Aim::length(
-            3,
-            "16 to 23 bytes with a good first block",
-            no_header_at_all,
-        ),
+        Aim::length(3, "16 to 23 bytes with a good first block", no_header_at_all),
         Aim::length(3, "the header ends inside the file: cut", cut_in_header),
-        Aim::bytes(
-            3,
-            "the header ends inside the file: length",
-            length_past_the_end,
-        ),
+        Aim::bytes(3, "the header ends inside the file: length", length_past_the_end),
         Aim::bytes(3, "its length is a multiple of 8", length_not_a_multiple),
         Aim::bytes(3, "its length is not negative", length_negative),
         Aim::bytes(3, "its length holds its fixed fields", length_too_short),
@@ -65,10 +58,8 @@ fn length_past_the_end(built: &mut Built, random: &mut Prng) -> Option<At> {
 
 /// The padding bytes of the header.
 fn header_padding(built: &Built) -> usize {
-    let padding = built
-        .fields
-        .iter()
-        .find(|field| field.name == "padding" && field.owner.is_none());
+    let padding =
+        built.fields.iter().find(|field| field.name == "padding" && field.owner.is_none());
     padding.map_or(0, |field| field.width)
 }
 
@@ -116,15 +107,11 @@ fn too_much_padding(page: &mut Page, random: &mut Prng) -> Option<At> {
 
 fn value_aims() -> Vec<Aim> {
     vec![
-        Aim::bytes(3, "grid rows at least 1", |built, random| {
-            side(built, "grid rows", random)
-        }),
+        Aim::bytes(3, "grid rows at least 1", |built, random| side(built, "grid rows", random)),
         Aim::bytes(3, "grid columns at least 1", |built, random| {
             side(built, "grid columns", random)
         }),
-        Aim::bytes(3, "tile rows at least 1", |built, random| {
-            side(built, "tile rows", random)
-        }),
+        Aim::bytes(3, "tile rows at least 1", |built, random| side(built, "tile rows", random)),
         Aim::bytes(3, "tile columns at least 1", |built, random| {
             side(built, "tile columns", random)
         }),
@@ -140,13 +127,19 @@ fn value_aims() -> Vec<Aim> {
     ]
 }
 
+fn negative(built: &mut Built, name: &str, random: &mut Prng) -> Option<At> {
+    changes::negative(built, name, random)?;
+    Some(At::Zero)
+}
+
 /// Zero or a negative number.
 fn side(built: &mut Built, name: &str, random: &mut Prng) -> Option<At> {
-    let field = built.only(name);
-    let negative = 0x8000_0000 | random.long();
-    let value = random.pick(&[0, 0x8000_0000, 0xffff_ffff, negative]);
-    built.set(&field, value);
-    Some(At::Zero)
+    if random.one_in(3) {
+        let field = built.only(name);
+        built.set(&field, 0);
+        return Some(At::Zero);
+    }
+    negative(built, name, random)
 }
 
 /// A byte above the highest printed value, often the next one.
@@ -163,7 +156,9 @@ fn above(built: &mut Built, name: &str, highest: usize, random: &mut Prng) -> Op
 fn element_aims() -> Vec<Aim> {
     vec![
         Aim::bytes(3, "there is at least one element", no_element),
-        Aim::bytes(3, "a negative count of elements", negative_element_count),
+        Aim::bytes(3, "a negative count of elements", |built, random| {
+            negative(built, "element count", random)
+        }),
         Aim::bytes(3, "each of a type of G's Table 2", element_type),
         Aim::bytes(3, "an element's strings fit", element_string_too_long),
         Aim::bytes(3, "an element's name fits", |built, random| {
@@ -178,14 +173,6 @@ fn no_element(built: &mut Built, _: &mut Prng) -> Option<At> {
     Some(At::Zero)
 }
 
-fn negative_element_count(built: &mut Built, random: &mut Prng) -> Option<At> {
-    let field = built.only("element count");
-    let value = built.value(&field) | 0x8000_0000;
-    let value = random.pick(&[value, 0x8000_0000, 0xffff_ffff]);
-    built.set(&field, value);
-    Some(At::Zero)
-}
-
 fn element_type(built: &mut Built, random: &mut Prng) -> Option<At> {
     let field = random.pick(&built.named("element type"));
     let value = random.between(4, 255);
@@ -195,11 +182,7 @@ fn element_type(built: &mut Built, random: &mut Prng) -> Option<At> {
 }
 
 fn element_string_too_long(built: &mut Built, random: &mut Prng) -> Option<At> {
-    let names = [
-        "element label length",
-        "element description length",
-        "element unit length",
-    ];
+    let names = ["element label length", "element description length", "element unit length"];
     pass_the_record(built, random.pick(&names), random)
 }
 
@@ -252,7 +235,9 @@ fn equal_names(page: &mut Page, random: &mut Prng) -> Option<At> {
 
 fn rest_aims() -> Vec<Aim> {
     vec![
-        Aim::bytes(3, "a negative count of methods", negative_method_count),
+        Aim::bytes(3, "a negative count of methods", |built, random| {
+            negative(built, "method count", random)
+        }),
         Aim::bytes(3, "the methods fit: their count", too_many_methods),
         Aim::bytes(3, "the methods fit: a name", |built, random| {
             pass_the_record(built, "method name length", random)
@@ -260,21 +245,9 @@ fn rest_aims() -> Vec<Aim> {
         Aim::bytes(3, "the label fits", |built, random| {
             pass_the_record(built, "product label length", random)
         }),
-        Aim::bytes(
-            3,
-            "the reserved bytes behind the label fit",
-            label_into_reserved,
-        ),
+        Aim::bytes(3, "the reserved bytes behind the label fit", label_into_reserved),
         Aim::bytes(3, "0 to 7 padding bytes: label 8 shorter", label_shorter),
     ]
-}
-
-fn negative_method_count(built: &mut Built, random: &mut Prng) -> Option<At> {
-    let field = built.only("method count");
-    let value = built.value(&field) | 0x8000_0000;
-    let value = random.pick(&[value, 0x8000_0000, 0xffff_ffff]);
-    built.set(&field, value);
-    Some(At::Zero)
 }
 
 /// More methods than two bytes each could fit.
@@ -304,26 +277,10 @@ fn label_shorter(built: &mut Built, _: &mut Prng) -> Option<At> {
 
 fn many_element_aims() -> Vec<Aim> {
     vec![
-        Aim::description(
-            3,
-            "17 elements, a bad type among the first 16",
-            bad_type_of_many,
-        ),
-        Aim::description(
-            3,
-            "17 elements, a bad name among the first 16",
-            bad_name_of_many,
-        ),
-        Aim::description(
-            3,
-            "17 elements, equal names among the first 16",
-            equal_names_of_many,
-        ),
-        Aim::bytes(
-            3,
-            "17 elements said, the 16th does not fit",
-            sixteenth_does_not_fit,
-        ),
+        Aim::description(3, "17 elements, a bad type among the first 16", bad_type_of_many),
+        Aim::description(3, "17 elements, a bad name among the first 16", bad_name_of_many),
+        Aim::description(3, "17 elements, equal names among the first 16", equal_names_of_many),
+        Aim::bytes(3, "17 elements said, the 16th does not fit", sixteenth_does_not_fit),
     ]
 }
 
@@ -333,8 +290,7 @@ pub fn more_than_16(page: &mut Page, random: &mut Prng) {
     while page.elements.len() < count {
         let name = name(random);
         if page.elements.iter().all(|element| element.name != name) {
-            page.elements
-                .push(Element::new(random.below(4) as u8, &name));
+            page.elements.push(Element::new(random.below(4) as u8, &name));
         }
     }
 }

@@ -4,12 +4,12 @@ mod bad_names;
 mod bodies;
 mod ceilings;
 mod chain;
+mod changes;
 mod checksums;
 mod file_space;
 mod front;
 mod header;
 mod metadata_directory;
-mod references;
 mod tile_directory;
 
 use crate::damage::Aim;

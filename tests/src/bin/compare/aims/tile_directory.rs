@@ -6,8 +6,10 @@ use gvrs_tests::prng::Prng;
 use gvrs_tests::random_page::{contents, put_anywhere};
 use gvrs_tests::second::chain;
 
-use super::references::wrong_content;
+use super::changes;
 use crate::damage::{Aim, At};
+
+const REFERENCE: &str = "tile directory reference";
 
 pub fn aims() -> Vec<Aim> {
     let mut aims = reference_aims();
@@ -23,23 +25,15 @@ pub fn aims() -> Vec<Aim> {
 fn reference_aims() -> Vec<Aim> {
     vec![
         Aim::bytes(9, "the tile directory reference is not zero", |built, _| {
-            let field = built.only("tile directory reference");
-            built.set(&field, 0);
-            Some(At::Header)
+            changes::zero(built, REFERENCE)
         }),
-        Aim::bytes(
-            9,
-            "the tile directory reference is the content",
-            |built, random| {
-                let field = built.only("tile directory reference");
-                wrong_content(built, &field, random)
-            },
-        ),
-        Aim::bytes(
-            9,
-            "the tile directory reference is to a type 5",
-            |built, random| reference_to_another_type(built, random),
-        ),
+        Aim::bytes(9, "the tile directory reference is the content", |built, random| {
+            let field = built.only(REFERENCE);
+            changes::wrong_content(built, &field, random)
+        }),
+        Aim::bytes(9, "the tile directory reference is to a type 5", |built, random| {
+            changes::content_of_another(built, REFERENCE, random)
+        }),
         Aim::length(9, "a tile directory always exists", file_of_a_header_only),
         Aim::description(9, "no other record of type 5", |page, random| {
             let directory = TileDirectory::compact(0, 0, 0, 0);
@@ -49,18 +43,9 @@ fn reference_aims() -> Vec<Aim> {
     ]
 }
 
-fn reference_to_another_type(built: &mut Built, random: &mut Prng) -> Option<At> {
-    let field = built.only("tile directory reference");
-    let own = built.value(&field);
-    let others: Vec<u64> = built.starts.iter().map(|start| *start as u64 + 8).collect();
-    let other = random.pick(&others);
-    built.set(&field, other);
-    (other != own).then_some(At::Header)
-}
-
 fn file_of_a_header_only(built: &mut Built, random: &mut Prng) -> Option<At> {
     built.bytes.truncate(built.starts[0]);
-    let field = built.only("tile directory reference");
+    let field = built.only(REFERENCE);
     let end = built.starts[0] as u64;
     built.set(&field, random.pick(&[0, end, end + 8]));
     for name in ["metadata reference", "file-space reference"] {
@@ -91,9 +76,7 @@ fn form_aims() -> Vec<Aim> {
 
 fn rectangle_aims() -> Vec<Aim> {
     vec![
-        Aim::bytes(9, "row0 is not negative", |built, random| {
-            negative(built, "row0", random)
-        }),
+        Aim::bytes(9, "row0 is not negative", |built, random| negative(built, "row0", random)),
         Aim::bytes(9, "column0 is not negative", |built, random| {
             negative(built, "column0", random)
         }),
@@ -103,45 +86,24 @@ fn rectangle_aims() -> Vec<Aim> {
         Aim::bytes(9, "directory columns is not negative", |built, random| {
             negative(built, "directory columns", random)
         }),
-        Aim::description(
-            9,
-            "the rectangle ends inside the tile grid: rows",
-            rows_outside,
-        ),
-        Aim::description(
-            9,
-            "the rectangle ends inside the tile grid: columns",
-            columns_outside,
-        ),
-        Aim::description(
-            9,
-            "a row start outside, where columns are 0",
-            empty_rows_outside,
-        ),
-        Aim::description(
-            9,
-            "a column start outside, where rows are 0",
-            empty_columns_outside,
-        ),
+        Aim::description(9, "the rectangle ends inside the tile grid: rows", rows_outside),
+        Aim::description(9, "the rectangle ends inside the tile grid: columns", columns_outside),
+        Aim::description(9, "a row start outside, where columns are 0", empty_rows_outside),
+        Aim::description(9, "a column start outside, where rows are 0", empty_columns_outside),
         Aim::bytes(9, "start plus side does not wrap", start_plus_side),
     ]
 }
 
 fn negative(built: &mut Built, name: &str, random: &mut Prng) -> Option<At> {
-    let field = built.only(name);
-    let value = built.value(&field) | 0x8000_0000;
-    built.set(&field, random.pick(&[value, 0x8000_0000, 0xffff_ffff]));
+    changes::negative(built, name, random)?;
     Some(At::Header)
 }
 
 fn directory(page: &mut Page) -> &mut TileDirectory {
-    let found = page
-        .records
-        .iter_mut()
-        .find_map(|record| match &mut record.body {
-            Body::TileDirectory(directory) => Some(directory),
-            _ => None,
-        });
+    let found = page.records.iter_mut().find_map(|record| match &mut record.body {
+        Body::TileDirectory(directory) => Some(directory),
+        _ => None,
+    });
     found.expect("a page has a tile directory")
 }
 
@@ -203,24 +165,19 @@ fn start_plus_side(built: &mut Built, random: &mut Prng) -> Option<At> {
 fn fit_aims() -> Vec<Aim> {
     vec![
         Aim::bytes(9, "the tile references fit", references_do_not_fit),
-        Aim::description(
-            9,
-            "0 to 7 padding bytes in the tile directory",
-            |page, random| {
-                let number = page.of_type(chain::TILE_DIRECTORY)[0];
-                page.records[number].surplus = 8 * random.between(1, 3);
-                Some(At::Header)
-            },
-        ),
+        Aim::description(9, "0 to 7 padding bytes in the tile directory", |page, random| {
+            let number = page.of_type(chain::TILE_DIRECTORY)[0];
+            page.records[number].surplus = 8 * random.between(1, 3);
+            Some(At::Header)
+        }),
         Aim::description(9, "the tile directory's own fields fit", fields_do_not_fit),
     ]
 }
 
 /// One row or column more inside the tile grid, for which the record has no place.
 fn references_do_not_fit(built: &mut Built, random: &mut Prng) -> Option<At> {
+    let (down, across) = changes::tile_grid(built);
     let value = |name| built.value(&built.only(name));
-    let down = value("grid rows").div_ceil(value("tile rows"));
-    let across = value("grid columns").div_ceil(value("tile columns"));
     let (rows, columns) = (value("directory rows"), value("directory columns"));
     let more_rows = value("row0") + rows < down && columns >= 2;
     let more_columns = value("column0") + columns < across && rows >= 2;
@@ -248,41 +205,15 @@ fn fields_do_not_fit(page: &mut Page, random: &mut Prng) -> Option<At> {
 
 fn listing_aims() -> Vec<Aim> {
     vec![
-        Aim::bytes(
-            9,
-            "every tile record is listed: its reference is zero",
-            tile_not_listed,
-        ),
-        Aim::description(
-            9,
-            "every tile record is listed: not in the rectangle",
-            outside_rectangle,
-        ),
-        Aim::bytes(
-            9,
-            "every tile record is listed at its own index",
-            references_swapped,
-        ),
-        Aim::bytes(
-            9,
-            "a tile's index is not that of its place",
-            index_of_a_free_place,
-        ),
-        Aim::bytes(
-            9,
-            "a tile reference is the content of a tile record",
-            wrong_tile_reference,
-        ),
-        Aim::bytes(
-            9,
-            "a tile reference to a record of another type",
-            tile_reference_to_other_type,
-        ),
-        Aim::bytes(
-            9,
-            "a reference where no tile is",
-            reference_where_no_tile_is,
-        ),
+        Aim::bytes(9, "every tile record is listed: its reference is zero", tile_not_listed),
+        Aim::description(9, "every tile record is listed: not in the rectangle", outside_rectangle),
+        Aim::bytes(9, "every tile record is listed at its own index", |built, random| {
+            changes::swapped(built, "tile reference", random)
+        }),
+        Aim::bytes(9, "a tile's index is not that of its place", index_of_a_free_place),
+        Aim::bytes(9, "a tile reference is the content of a tile record", wrong_tile_reference),
+        Aim::bytes(9, "a tile reference to a record of another type", tile_reference_to_other_type),
+        Aim::bytes(9, "a reference where no tile is", reference_where_no_tile_is),
         Aim::description(9, "two tile records with one index", two_with_one_index),
         Aim::bytes(9, "compact taken for standard", form_taken_for_the_other),
     ]
@@ -316,21 +247,10 @@ fn outside_rectangle(page: &mut Page, random: &mut Prng) -> Option<At> {
     Some(At::Header)
 }
 
-fn references_swapped(built: &mut Built, random: &mut Prng) -> Option<At> {
-    let fields = built.named("tile reference");
-    let (one, other) = (random.pick_any(&fields)?, random.pick_any(&fields)?);
-    let (first, second) = (built.value(&one), built.value(&other));
-    built.set(&one, second);
-    built.set(&other, first);
-    (first != second).then_some(At::Header)
-}
-
 /// The record's own index becomes another that is below the tile count.
 fn index_of_a_free_place(built: &mut Built, random: &mut Prng) -> Option<At> {
     let field = random.pick_any(&built.named("tile index"))?;
-    let value = |name| built.value(&built.only(name));
-    let down = value("grid rows").div_ceil(value("tile rows"));
-    let across = value("grid columns").div_ceil(value("tile columns"));
+    let (down, across) = changes::tile_grid(built);
     let index = random.below((down * across) as usize) as u64;
     let own = built.value(&field);
     built.set(&field, index);
@@ -341,17 +261,10 @@ fn index_of_a_free_place(built: &mut Built, random: &mut Prng) -> Option<At> {
 fn wrong_tile_reference(built: &mut Built, random: &mut Prng) -> Option<At> {
     let field = random.pick_any(&references_to_tiles(built))?;
     if field.width == 8 {
-        return wrong_content(built, &field, random);
+        return changes::wrong_content(built, &field, random);
     }
     let own = built.value(&field);
-    let wrong = [
-        own - 1,
-        own + 1,
-        own | 0x2000_0000,
-        own | 0x8000_0000,
-        own * 8,
-        0xffff_ffff,
-    ];
+    let wrong = [own - 1, own + 1, own | 0x2000_0000, own | 0x8000_0000, own * 8, 0xffff_ffff];
     built.set(&field, random.pick(&wrong));
     Some(At::Header)
 }

@@ -25,13 +25,7 @@ fn page_with_tile(grid: [u32; 2], tile: [u32; 2], row: u32, column: u32) -> Page
     [page.tile_rows, page.tile_columns] = tile;
     page.records[0].body = Body::TileDirectory(TileDirectory::compact(row, column, 1, 1));
     let index = row * page.tiles_across() as u32 + column;
-    page.insert(
-        0,
-        Body::Tile(Tile {
-            index,
-            contents: vec![vec![7; 1]],
-        }),
-    );
+    page.insert(0, Body::Tile(Tile { index, contents: vec![vec![7; 1]] }));
     page
 }
 
@@ -82,10 +76,7 @@ fn most_tiles(run: &mut Run) {
         if let Body::TileDirectory(directory) = &mut page.records[1].body {
             directory.standard = 1;
         }
-        let last = Tile {
-            index: 65_535,
-            contents: vec![vec![7; 4]],
-        };
+        let last = Tile { index: 65_535, contents: vec![vec![7; 4]] };
         page.insert(2, Body::Tile(last));
         run.accept("65,536 tiles", &bytes_of(&page));
     }
@@ -95,18 +86,14 @@ fn most_tiles(run: &mut Run) {
 fn page_of_16(type_code: u8) -> Page {
     let mut page = Page::of_sides([8, 8], [8, 8]);
     let name = |number: u8| vec![b'e', b'a' + number];
-    page.elements = (0..16)
-        .map(|number| Element::new(type_code, &name(number)))
-        .collect();
+    page.elements = (0..16).map(|number| Element::new(type_code, &name(number))).collect();
     page
 }
 
 fn most_elements(run: &mut Run) {
     for type_code in 0..4 {
         let mut page = page_of_16(type_code);
-        let contents = (0..16)
-            .map(|element| vec![7; page.uncompressed_size(element)])
-            .collect();
+        let contents = (0..16).map(|element| vec![7; page.uncompressed_size(element)]).collect();
         page.insert(0, Body::Tile(Tile { index: 0, contents }));
         run.accept("16 elements", &bytes_of(&page));
     }
@@ -115,13 +102,7 @@ fn most_elements(run: &mut Run) {
 fn most_tile_bytes(run: &mut Run) {
     for length in [1, 1_048_575, 1_048_576] {
         let mut page = Page::of_sides([4096, 64], [4096, 64]);
-        page.insert(
-            0,
-            Body::Tile(Tile {
-                index: 0,
-                contents: vec![vec![7; length]],
-            }),
-        );
+        page.insert(0, Body::Tile(Tile { index: 0, contents: vec![vec![7; length]] }));
         run.accept("tile bytes of 1,048,576", &bytes_of(&page));
     }
     let mut page = page_of_16(INTEGER);

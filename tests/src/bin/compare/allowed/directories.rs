@@ -1,8 +1,9 @@
 //! What directories may be.
 
 use gvrs_tests::build::{build, bytes_of, Built};
-use gvrs_tests::page::{Body, Metadata, Page, Tile, TileDirectory};
+use gvrs_tests::page::{Body, Metadata, Page, Record, Tile, TileDirectory};
 use gvrs_tests::prng::Prng;
+use gvrs_tests::second::chain;
 
 use crate::run::Run;
 
@@ -72,10 +73,7 @@ fn partial_rectangles(run: &mut Run, random: &mut Prng) {
         for row in directory.row0..directory.row0 + directory.rows {
             for column in directory.column0..directory.column0 + directory.columns {
                 if random.one_in(2) {
-                    let tile = Tile {
-                        index: row * 4 + column,
-                        contents: vec![vec![7; 4]],
-                    };
+                    let tile = Tile { index: row * 4 + column, contents: vec![vec![7; 4]] };
                     page.insert(random.between(0, page.records.len()), Body::Tile(tile));
                 }
             }
@@ -87,10 +85,7 @@ fn partial_rectangles(run: &mut Run, random: &mut Prng) {
 }
 
 fn padding(built: &Built, owner: usize) -> usize {
-    built
-        .named_in("padding", owner)
-        .first()
-        .map_or(0, |field| field.width)
+    built.named_in("padding", owner).first().map_or(0, |field| field.width)
 }
 
 /// References have four or eight bytes, so padding has none or four.
@@ -101,17 +96,11 @@ fn tile_directory_padding(run: &mut Run) {
         seen[padding(&built, 0)] = true;
         run.accept("0 or 4 padding bytes in a tile directory", &built.bytes);
     }
-    assert!(
-        seen[0] && seen[4],
-        "both numbers of padding bytes in a tile directory"
-    );
+    assert!(seen[0] && seen[4], "both numbers of padding bytes in a tile directory");
 }
 
 fn references_zero(run: &mut Run) {
-    run.accept(
-        "metadata and file-space references are zero",
-        &bytes_of(&Page::plain()),
-    );
+    run.accept("metadata and file-space references are zero", &bytes_of(&Page::plain()));
     let mut page = Page::plain();
     page.insert(0, Body::MetadataDirectory(Vec::new()));
     run.accept("an empty metadata directory", &bytes_of(&page));
@@ -130,10 +119,7 @@ fn metadata_directory_padding(run: &mut Run) {
         seen[padding(&built, 1)] = true;
         run.accept("0 to 7 padding bytes in a metadata directory", &built.bytes);
     }
-    assert_eq!(
-        seen, [true; 8],
-        "every number of padding bytes in a metadata directory"
-    );
+    assert_eq!(seen, [true; 8], "every number of padding bytes in a metadata directory");
 }
 
 /// Entries have twelve bytes, so padding has none or four.
@@ -143,22 +129,13 @@ fn file_space_padding(run: &mut Run) {
         let mut page = Page::plain();
         page.insert(0, Body::FileSpaceDirectory((1..=count).collect()));
         for number in 1..=count {
-            page.records.insert(
-                number,
-                gvrs_tests::page::Record::new(Body::Free(8 * number + 8)),
-            );
+            page.records.insert(number, Record::new(Body::Free(8 * number + 8)));
         }
         let built = build(&page);
         seen[padding(&built, 0)] = true;
-        run.accept(
-            "0 or 4 padding bytes in a file-space directory",
-            &built.bytes,
-        );
+        run.accept("0 or 4 padding bytes in a file-space directory", &built.bytes);
     }
-    assert!(
-        seen[0] && seen[4],
-        "both numbers of padding bytes in a file-space directory"
-    );
+    assert!(seen[0] && seen[4], "both numbers of padding bytes in a file-space directory");
 }
 
 /// Every order of the numbers.
@@ -186,12 +163,9 @@ fn lists_in_any_order(run: &mut Run) {
         page.insert(0, Body::Metadata(Metadata::new(b"m", id)));
         page.insert(4.min(page.records.len()), Body::Free(length));
     }
-    let metadata = page.of_type(1);
-    let free = page.of_type(0);
-    for (metadata, free) in orders(&metadata)
-        .into_iter()
-        .zip(orders(&free).into_iter().rev())
-    {
+    let metadata = page.of_type(chain::METADATA);
+    let free = page.of_type(chain::FREE);
+    for (metadata, free) in orders(&metadata).into_iter().zip(orders(&free).into_iter().rev()) {
         let mut page = page.clone();
         for record in &mut page.records {
             match &mut record.body {
@@ -214,15 +188,12 @@ fn records_in_any_order(run: &mut Run) {
             let body = match record_type {
                 0 => Body::Free(24),
                 1 => Body::Metadata(Metadata::new(b"m", 1)),
-                2 => Body::Tile(Tile {
-                    index: 0,
-                    contents: vec![vec![7; 16]],
-                }),
+                2 => Body::Tile(Tile { index: 0, contents: vec![vec![7; 16]] }),
                 3 => Body::FileSpaceDirectory(place(0).into_iter().collect()),
                 4 => Body::MetadataDirectory(place(1).into_iter().collect()),
                 _ => Body::TileDirectory(TileDirectory::compact(0, 0, 1, 1)),
             };
-            page.records.push(gvrs_tests::page::Record::new(body));
+            page.records.push(Record::new(body));
         }
         run.accept("records in any order", &bytes_of(&page));
     }

@@ -47,10 +47,7 @@ fn name_alignments(run: &mut Run, random: &mut Prng) {
             element.unit = random.bytes(length % 4);
             page.elements = vec![element, Element::new(SHORT, b"other")];
             page.label = random.bytes(9);
-            run.accept(
-                "element names of 1 to 32 bytes, each type",
-                &bytes_of(&page),
-            );
+            run.accept("element names of 1 to 32 bytes, each type", &bytes_of(&page));
         }
     }
 }
@@ -65,16 +62,8 @@ fn name_characters(run: &mut Run) {
     for byte in (b'A'..=b'Z').chain(b'a'..=b'z') {
         accept_name(run, "a name begins with any letter", &[byte]);
     }
-    for byte in (b'A'..=b'Z')
-        .chain(b'a'..=b'z')
-        .chain(b'0'..=b'9')
-        .chain([b'_'])
-    {
-        accept_name(
-            run,
-            "a name goes on with letters, numbers, underscores",
-            &[b'q', byte, b'q'],
-        );
+    for byte in (b'A'..=b'Z').chain(b'a'..=b'z').chain(b'0'..=b'9').chain([b'_']) {
+        accept_name(run, "a name goes on with letters, numbers, underscores", &[b'q', byte, b'q']);
         accept_name(run, "a name ends with any of these", &[b'q', byte]);
     }
 }
@@ -84,13 +73,8 @@ fn near_names(run: &mut Run) {
     let long = [b'a'; 32];
     let mut other = long;
     other[31] = b'b';
-    let pairs: [[&[u8]; 2]; 5] = [
-        [b"Score", b"score"],
-        [b"a", b"ab"],
-        [b"a_", b"a"],
-        [&long, &other],
-        [&long[..31], &long],
-    ];
+    let pairs: [[&[u8]; 2]; 5] =
+        [[b"Score", b"score"], [b"a", b"ab"], [b"a_", b"a"], [&long, &other], [&long[..31], &long]];
     for [one, two] in pairs {
         for names in [[one, two], [two, one]] {
             let mut page = Page::plain();
@@ -132,10 +116,7 @@ fn methods(run: &mut Run) {
     for methods in lists {
         let mut page = Page::plain();
         page.methods = methods;
-        run.accept(
-            "names of compression methods only have to fit",
-            &bytes_of(&page),
-        );
+        run.accept("names of compression methods only have to fit", &bytes_of(&page));
     }
 }
 
@@ -161,15 +142,9 @@ fn header_padding(run: &mut Run) {
         page.label = vec![b'l'; length];
         let built = build(&page);
         let padding = built.named("padding");
-        let own = padding
-            .iter()
-            .find(|field| field.owner.is_none())
-            .map_or(0, |field| field.width);
+        let own = padding.iter().find(|field| field.owner.is_none()).map_or(0, |field| field.width);
         seen[own] = true;
         run.accept("0 to 7 padding bytes in the header", &built.bytes);
     }
-    assert_eq!(
-        seen, [true; 8],
-        "every number of padding bytes in the header"
-    );
+    assert_eq!(seen, [true; 8], "every number of padding bytes in the header");
 }

@@ -51,29 +51,18 @@ fn mixed_contents(run: &mut Run, random: &mut Prng) {
     let mut page = Page::of_sides([3, 3], [3, 3]);
     let types = [SHORT, INTEGER, FLOAT, SHORT];
     let names: [&[u8]; 4] = [b"a", b"b", b"c", b"d"];
-    page.elements = types
-        .iter()
-        .zip(names)
-        .map(|(kind, name)| Element::new(*kind, name))
-        .collect();
+    page.elements = types.iter().zip(names).map(|(kind, name)| Element::new(*kind, name)).collect();
     for mix in 0..16 {
         let mut contents = Vec::new();
         for element in 0..4 {
             let uncompressed = page.uncompressed_size(element);
             let whole = mix >> element & 1 == 1;
-            let length = if whole {
-                uncompressed
-            } else {
-                random.between(1, uncompressed - 1)
-            };
+            let length = if whole { uncompressed } else { random.between(1, uncompressed - 1) };
             contents.push(random.bytes(length));
         }
         let mut page = page.clone();
         page.insert(0, Body::Tile(Tile { index: 0, contents }));
-        run.accept(
-            "whole and compressed elements in one tile",
-            &bytes_of(&page),
-        );
+        run.accept("whole and compressed elements in one tile", &bytes_of(&page));
     }
 }
 
@@ -92,10 +81,7 @@ fn metadata_values(run: &mut Run) {
         let mut metadata = Metadata::new(b"Author", 0);
         metadata.data_type = data_type;
         metadata.content = vec![7; 5];
-        run.accept(
-            "a data type from 0 to 9",
-            &with_metadata(vec![metadata]).bytes,
-        );
+        run.accept("a data type from 0 to 9", &with_metadata(vec![metadata]).bytes);
     }
     for id in [0, 1, 0x7fff_ffff, 0x8000_0000, 0xffff_ffff] {
         let built = with_metadata(vec![Metadata::new(b"Author", id)]);
@@ -104,17 +90,11 @@ fn metadata_values(run: &mut Run) {
     for length in [0, 1, 70_000, 1_000_000] {
         let mut metadata = Metadata::new(b"Author", 0);
         metadata.content = vec![7; length];
-        run.accept(
-            "a content length not negative",
-            &with_metadata(vec![metadata]).bytes,
-        );
+        run.accept("a content length not negative", &with_metadata(vec![metadata]).bytes);
     }
     let mut metadata = Metadata::new(b"Author", 0);
     metadata.description = vec![7; 65_535];
-    run.accept(
-        "strings of 65,535 bytes",
-        &with_metadata(vec![metadata]).bytes,
-    );
+    run.accept("strings of 65,535 bytes", &with_metadata(vec![metadata]).bytes);
 }
 
 fn metadata_names(run: &mut Run) {
@@ -129,10 +109,7 @@ fn metadata_names(run: &mut Run) {
         [(b"a", 1), (b"b", 1), (b"a", 2)],
     ];
     for records in keys {
-        let records = records
-            .iter()
-            .map(|(name, id)| Metadata::new(name, *id))
-            .collect();
+        let records = records.iter().map(|(name, id)| Metadata::new(name, *id)).collect();
         let built = with_metadata(records);
         run.accept("keys that differ in name or in ID only", &built.bytes);
     }
@@ -140,10 +117,7 @@ fn metadata_names(run: &mut Run) {
 
 /// The padding bytes of a record.
 fn padding(built: &Built, owner: usize) -> usize {
-    built
-        .named_in("padding", owner)
-        .first()
-        .map_or(0, |field| field.width)
+    built.named_in("padding", owner).first().map_or(0, |field| field.width)
 }
 
 fn metadata_padding(run: &mut Run) {
@@ -155,34 +129,19 @@ fn metadata_padding(run: &mut Run) {
         seen[padding(&built, 0)] = true;
         run.accept("0 to 7 padding bytes in a metadata record", &built.bytes);
     }
-    assert_eq!(
-        seen, [true; 8],
-        "every number of padding bytes in a metadata record"
-    );
+    assert_eq!(seen, [true; 8], "every number of padding bytes in a metadata record");
 }
 
 fn last_tile(run: &mut Run) {
     let mut page = Page::of_sides([5, 7], [2, 3]);
-    page.insert(
-        0,
-        Body::Tile(Tile {
-            index: 8,
-            contents: vec![vec![7; 24]],
-        }),
-    );
+    page.insert(0, Body::Tile(Tile { index: 8, contents: vec![vec![7; 24]] }));
     run.accept("the last tile index", &bytes_of(&page));
 }
 
 fn tile_larger_than_grid(run: &mut Run) {
     for tile in [[5, 5], [4, 64], [4096, 1], [1, 4096]] {
         let mut page = Page::of_sides([3, 3], tile);
-        page.insert(
-            0,
-            Body::Tile(Tile {
-                index: 0,
-                contents: vec![vec![7; 3]],
-            }),
-        );
+        page.insert(0, Body::Tile(Tile { index: 0, contents: vec![vec![7; 3]] }));
         run.accept("a tile larger than the grid", &bytes_of(&page));
     }
 }

@@ -30,11 +30,7 @@ fn junk(run: &mut Run, good: &Built, wanted: &'static str, random: &mut Prng) {
     let ones = random.one_in(3);
     for field in good.of_role(Role::Unjudged) {
         if sentence(good, &field) == wanted {
-            let junk = if ones {
-                vec![0xff; field.width]
-            } else {
-                random.bytes(field.width)
-            };
+            let junk = if ones { vec![0xff; field.width] } else { random.bytes(field.width) };
             built.bytes[field.at..field.at + field.width].copy_from_slice(&junk);
         }
     }
@@ -50,10 +46,7 @@ fn free_content_without_repair(run: &mut Run, good: &Built, random: &mut Prng) {
         built.bytes[field.at..field.at + field.width].copy_from_slice(&random.bytes(field.width));
     }
     if !fields.is_empty() {
-        run.accept(
-            "a free record's content may change under its checksum",
-            &built.bytes,
-        );
+        run.accept("a free record's content may change under its checksum", &built.bytes);
     }
 }
 
