@@ -24,6 +24,9 @@ pub fn section(run: &mut Run, random: &mut Prng) {
 
 fn single(run: &mut Run, aim: &Aim, random: &mut Prng) {
     run.aim_at(aim.stage, aim.sentence);
+    if run.small && aim.has_long_files() {
+        return;
+    }
     let mut left = run.times(aim.times);
     for _ in 0..MOST_TRIES {
         if left == 0 {
@@ -39,7 +42,7 @@ fn single(run: &mut Run, aim: &Aim, random: &mut Prng) {
 
 /// The aims of a stage, but for those that take very long files.
 fn of_stage(aims: &[Aim], stage: u32) -> Vec<&Aim> {
-    aims.iter().filter(|aim| aim.stage == stage && aim.times >= 10).collect()
+    aims.iter().filter(|aim| aim.stage == stage && !aim.has_long_files()).collect()
 }
 
 /// Two damages of different stages: the earlier stage refuses.

@@ -71,6 +71,15 @@ impl Aim {
     ) -> Aim {
         Aim { stage: 7, sentence, damage: Damage::Checksums(damage), times: TIMES }
     }
+
+    /// So many files in a whole run, where files are long.
+    pub fn times(self, times: usize) -> Aim {
+        Aim { times, ..self }
+    }
+
+    pub fn has_long_files(&self) -> bool {
+        self.times < TIMES
+    }
 }
 
 /// The damaged file and the place aimed at by the first of the damages. What later stages judge is

@@ -1,7 +1,7 @@
 //! How much of an answer goes into `out`: what fits, and no more.
 
 use gvrs_tests::build::build;
-use gvrs_tests::library::check_into;
+use gvrs_tests::library::{self, check_into};
 use gvrs_tests::prng::Prng;
 use gvrs_tests::random_page::random_page;
 use gvrs_tests::second::check::check;
@@ -26,6 +26,7 @@ pub fn section(run: &mut Run, random: &mut Prng) {
         for length in [0, 1, 3] {
             out_of(run, &file, length);
         }
+        at_any_address(run, &file);
     }
 }
 
@@ -43,5 +44,18 @@ fn out_of(run: &mut Run, file: &[u8], length: usize) {
     if answered != number || memory != expected || file != before {
         let text = format!("out of {length}: answered {answered}, expected {number}, {memory:x?}");
         run.fault(&text, file);
+    }
+}
+
+/// The answer does not depend on where the file lies in memory, nor on what surrounds it.
+fn at_any_address(run: &mut Run, file: &[u8]) {
+    let answer = check(file);
+    for before in 0..8 {
+        let mut memory = vec![0xff; before];
+        memory.extend(file);
+        memory.extend([0xff; 16]);
+        if library::check(&memory[before..before + file.len()]) != answer {
+            run.fault(&format!("another answer {before} bytes further on"), file);
+        }
     }
 }

@@ -147,6 +147,7 @@ impl Run {
             println!("  {number:8}  {sentence}");
         }
         println!("Aims hit: stage, times, sentence");
+        self.aims.sort_by_key(|aim| aim.stage);
         for aim in &self.aims {
             println!("  {}  {:6}  {}", aim.stage, aim.hit, aim.sentence);
         }

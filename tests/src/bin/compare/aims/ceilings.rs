@@ -8,10 +8,23 @@ use super::header::more_than_16;
 use crate::damage::{Aim, At};
 
 pub fn aims() -> Vec<Aim> {
-    let mut file = Aim::length(4, "file above 16,777,216 bytes", long_file);
-    file.times = 3;
     vec![
-        file,
+        Aim::length(4, "file above 16,777,216 bytes", long_file).times(3),
+        Aim::length(1, "not identified and above 16,777,216 bytes", |built, random| {
+            built.bytes[0] = b'G';
+            long_file(built, random)
+        })
+        .times(1),
+        Aim::length(2, "another version and above 16,777,216 bytes", |built, random| {
+            built.bytes[13] = 5;
+            long_file(built, random)
+        })
+        .times(1),
+        Aim::length(3, "header at fault and above 16,777,216 bytes", |built, random| {
+            built.bytes[20] = 5;
+            long_file(built, random)
+        })
+        .times(1),
         Aim::bytes(4, "grid rows above 65,536", |built, random| {
             let side = above(65_536, random);
             sides(built, [side, 1], [4_096, 1])
