@@ -109,7 +109,7 @@ fn record_ends_behind_16(built: &mut Built, random: &mut Prng) -> Option<At> {
 fn many_tile_bytes(built: &mut Built, random: &mut Prng) -> Option<At> {
     let types = built.named("element type");
     let cell: u64 = types.iter().map(|field| if built.value(field) == 3 { 2 } else { 4 }).sum();
-    let cells = 1_048_576 / cell + 1;
+    let cells = 1_048_576_u64.checked_div(cell)? + 1;
     let rows = random.between(cells.div_ceil(4096) as usize, 4096) as u64;
     let columns = cells.div_ceil(rows);
     let (rows, columns) = random.pick(&[(rows, columns), (rows, 4096), (4096, 4096)]);

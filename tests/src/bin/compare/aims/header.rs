@@ -155,7 +155,7 @@ fn above(built: &mut Built, name: &str, highest: usize, random: &mut Prng) -> Op
 
 fn element_aims() -> Vec<Aim> {
     vec![
-        Aim::bytes(3, "there is at least one element", no_element),
+        Aim::description(3, "there is at least one element", no_element),
         Aim::bytes(3, "a negative count of elements", |built, random| {
             negative(built, "element count", random)
         }),
@@ -167,9 +167,8 @@ fn element_aims() -> Vec<Aim> {
     ]
 }
 
-fn no_element(built: &mut Built, _: &mut Prng) -> Option<At> {
-    let field = built.only("element count");
-    built.set(&field, 0);
+fn no_element(page: &mut Page, _: &mut Prng) -> Option<At> {
+    page.elements.clear();
     Some(At::Zero)
 }
 
