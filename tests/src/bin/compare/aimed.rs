@@ -8,7 +8,7 @@ use crate::damage::{damaged, Aim, Damage};
 use crate::run::Run;
 
 /// Pages tried for one aim, as not every damage can be done to every page.
-const MOST_TRIES: usize = 4000;
+const MOST_TRIES: usize = 8000;
 
 pub fn section(run: &mut Run, random: &mut Prng) {
     let aims = aims::all();
@@ -48,7 +48,7 @@ fn of_stage(aims: &[Aim], stage: u32) -> Vec<&Aim> {
 /// Two damages of different stages: the earlier stage refuses.
 fn pairs(run: &mut Run, earlier: &[&Aim], later: &[&Aim], random: &mut Prng) {
     let stages = (earlier[0].stage, later[0].stage);
-    for _ in 0..run.times(200) {
+    for _ in 0..run.times(600) {
         let (one, other) = (random.pick(earlier), random.pick(later));
         if !can_pair(one, other) {
             continue;

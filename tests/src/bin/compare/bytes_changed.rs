@@ -27,7 +27,7 @@ fn flip(built: &mut Built, count: usize, random: &mut Prng) {
 }
 
 fn bytes_flipped(run: &mut Run, random: &mut Prng) {
-    for _ in 0..run.times(600) {
+    for _ in 0..run.times(2000) {
         let good = build(&random_page(random));
         for _ in 0..20 {
             let mut built = good.clone();
@@ -40,7 +40,7 @@ fn bytes_flipped(run: &mut Run, random: &mut Prng) {
 
 /// Changes in fields that rules look at, where most changes are refused.
 fn judged_fields_flipped(run: &mut Run, random: &mut Prng) {
-    for _ in 0..run.times(600) {
+    for _ in 0..run.times(2000) {
         let good = build(&random_page(random));
         let mut fields = good.fields.clone();
         fields.retain(|field| !matches!(field.role, Role::Unjudged | Role::Checksum));
@@ -56,7 +56,7 @@ fn judged_fields_flipped(run: &mut Run, random: &mut Prng) {
 }
 
 fn checksums_left(run: &mut Run, random: &mut Prng) {
-    for _ in 0..run.times(1500) {
+    for _ in 0..run.times(5000) {
         let mut built = build(&random_page(random));
         flip(&mut built, random.between(1, 3), random);
         run.compare("bytes changed, checksums left", &built.bytes);
@@ -85,7 +85,7 @@ fn random_bytes(run: &mut Run, random: &mut Prng) {
 
 /// A good header, then records with good lengths and random types and content.
 fn random_behind_a_good_front(run: &mut Run, random: &mut Prng) {
-    for _ in 0..run.times(3000) {
+    for _ in 0..run.times(10000) {
         let built = build(&random_page(random));
         let mut file = built.bytes[..built.starts[0]].to_vec();
         for _ in 0..random.below(5) {

@@ -38,7 +38,7 @@ pub enum At {
     Position(usize),
 }
 
-const TIMES: usize = 60;
+const TIMES: usize = 200;
 
 impl Aim {
     pub fn description(

@@ -7,7 +7,7 @@ use gvrs_tests::random_page::random_page;
 use crate::run::Run;
 
 pub fn section(run: &mut Run, random: &mut Prng) {
-    for _ in 0..run.times(60) {
+    for _ in 0..run.times(200) {
         let built = build(&random_page(random));
         counts(run, &built, random);
         references(run, &built, random);

@@ -24,7 +24,7 @@ fn short_page(random: &mut Prng) -> Built {
 }
 
 fn cut_at_every_length(run: &mut Run, random: &mut Prng) {
-    for _ in 0..run.times(12) {
+    for _ in 0..run.times(40) {
         let built = short_page(random);
         let step = if run.small { 16 } else { 1 };
         for length in (0..built.bytes.len()).step_by(step) {
@@ -38,7 +38,7 @@ fn cut_at_every_length(run: &mut Run, random: &mut Prng) {
 
 /// Cut between records, where the chain stays whole, and a little beside.
 fn cut_at_some_lengths(run: &mut Run, random: &mut Prng) {
-    for _ in 0..run.times(600) {
+    for _ in 0..run.times(2000) {
         let built = build(&random_page(random));
         for start in &built.starts {
             let near = *start - 8 + random.below(17);
@@ -50,7 +50,7 @@ fn cut_at_some_lengths(run: &mut Run, random: &mut Prng) {
 }
 
 fn lengthened(run: &mut Run, random: &mut Prng) {
-    for _ in 0..run.times(150) {
+    for _ in 0..run.times(500) {
         let page = random_page(random);
         let built = build(&page);
         for count in 1..=24 {

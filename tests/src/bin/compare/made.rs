@@ -7,7 +7,7 @@ use gvrs_tests::random_page::random_page;
 use crate::run::Run;
 
 pub fn section(run: &mut Run, random: &mut Prng) {
-    for _ in 0..run.times(6000) {
+    for _ in 0..run.times(20000) {
         let built = build(&random_page(random));
         fields_tile_the_file(run, &built);
         run.expect("made", "a page at random", &built.bytes, (0, 0));

@@ -11,7 +11,7 @@ use crate::run::Run;
 const MARK: u64 = 0x5a5a_5a5a_a5a5_a5a5;
 
 pub fn section(run: &mut Run, random: &mut Prng) {
-    for _ in 0..run.times(400) {
+    for _ in 0..run.times(1000) {
         let mut file = build(&random_page(random)).bytes;
         match random.below(4) {
             0 => file.truncate(random.below(file.len())),

@@ -8,7 +8,7 @@ use gvrs_tests::second::chain;
 use crate::run::Run;
 
 pub fn section(run: &mut Run, random: &mut Prng) {
-    for _ in 0..run.times(200) {
+    for _ in 0..run.times(500) {
         let built = build(&random_page(random));
         let mut sentences: Vec<&'static str> = Vec::new();
         for field in built.of_role(Role::Unjudged) {
