@@ -125,7 +125,7 @@ pub fn make_checksum_good(record: &mut [u8], on: bool) {
 
 fn record_length(bytes: &[u8], start: usize) -> Option<usize> {
     let length = integer_at(bytes, start)? as usize;
-    (length >= 16 && length % 8 == 0 && start + length <= bytes.len()).then_some(length)
+    (length >= 16 && length.is_multiple_of(8) && start + length <= bytes.len()).then_some(length)
 }
 
 /// Lengths do not depend on positions, so records are written once with no start known.

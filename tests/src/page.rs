@@ -160,8 +160,8 @@ impl Record {
 }
 
 impl Page {
-    /// A page without a tile record: one Integer element, one tile, the whole tile grid in a compact
-    /// directory, checksums on.
+    /// A page without a tile record: one Integer element, one tile, a compact directory of the whole
+    /// tile grid, checksums on.
     pub fn plain() -> Page {
         Page {
             uuid: [0; 16],

@@ -132,7 +132,7 @@ fn sides(page: &mut Page, random: &mut Prng) {
     page.grid_columns = grid_side(tile_columns, across, random);
 }
 
-/// A grid side of at most 65,536 with so many tiles, or fewer. One tile may be larger than the grid.
+/// A grid side of at most 65,536 with so many tiles, or fewer. A tile may be larger than the grid.
 fn grid_side(tile_side: usize, tiles: usize, random: &mut Prng) -> u32 {
     let last = random.between(1, tile_side);
     ((tiles - 1) * tile_side + last).min(65536) as u32

@@ -57,9 +57,9 @@ fn has_least_length(record: &Record, without_checksum: usize) -> bool {
     record.length() == least_record_length(without_checksum)
 }
 
-/// Document 01, stage 8: "A metadata record has the fields of Table 14, a name that is an identifier
-/// of at most 32 characters, a data type from 0 to 9, a content length not negative, and the least
-/// such length too."
+/// Document 01, stage 8: "A metadata record has the fields of Table 14, a name that is an
+/// identifier of at most 32 characters, a data type from 0 to 9, a content length not negative, and
+/// the least such length too."
 pub fn metadata_body<'a>(record: &Record<'a>) -> Option<Metadata<'a>> {
     let mut reader = record.reader();
     let name = reader.string()?;

@@ -69,7 +69,7 @@ fn record_at(file: &[u8], start: usize) -> Option<Record<'_>> {
 }
 
 fn length_is_good(length: usize) -> bool {
-    length % 8 == 0 && length >= 16
+    length.is_multiple_of(8) && length >= 16
 }
 
 /// Document 01, stage 6: "Types are 0 to 5; a second header is a fault."

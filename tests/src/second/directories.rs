@@ -135,8 +135,8 @@ fn every_tile_is_listed(listed: &[Listed], stored: &[Listed]) -> bool {
 /// Position, name, record ID and type code (G Table 20, reading 18).
 type MetadataEntry<'a> = (u64, &'a [u8], u32, u8);
 
-/// Document 01, stage 9: "The other two may be zero; else they are the content of a record of type 4
-/// (metadata)".
+/// Document 01, stage 9: "The other two may be zero; else they are the content of a record of type
+/// 4 (metadata)".
 fn metadata_directory_is_good(header: &Header, records: &[Record]) -> bool {
     let stored = metadata_stored(records);
     let listed = if header.metadata_reference == 0 {
@@ -150,8 +150,8 @@ fn metadata_directory_is_good(header: &Header, records: &[Record]) -> bool {
     }
 }
 
-/// Document 01, stage 9: "Counts fit their record with 0 to 7 padding bytes." G Table 19: a count of
-/// 0 or larger.
+/// Document 01, stage 9: "Counts fit their record with 0 to 7 padding bytes." G Table 19: a count
+/// of 0 or larger.
 fn metadata_listed<'a>(record: &Record<'a>) -> Option<Vec<MetadataEntry<'a>>> {
     let mut reader = record.reader();
     let count = reader.count()?;

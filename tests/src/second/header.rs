@@ -94,7 +94,7 @@ fn header_record(file: &[u8]) -> Option<&[u8]> {
     let length = count_at(file, HEADER_START)?;
     let record_type = *file.get(HEADER_START + 4)?;
     let record = file.get(HEADER_START..HEADER_START + length)?;
-    (length % 8 == 0 && record_type == 6).then_some(record)
+    (length.is_multiple_of(8) && record_type == 6).then_some(record)
 }
 
 /// A field fits if it ends at or before the record's last four bytes.

@@ -139,8 +139,8 @@ fn short_of_four_bytes(page: &mut Page, random: &mut Prng) -> Option<At> {
     (uncompressed <= 4096).then_some(At::Record(number))
 }
 
-/// The last element of a tile is stored with one byte, then said to have up to U, which is more than
-/// the record holds.
+/// The last element of a tile is stored with one byte, then said to have up to U, more than the
+/// record holds.
 fn content_past_the_end(page: &mut Page, random: &mut Prng) -> Option<At> {
     let element = page.elements.len() - 1;
     let uncompressed = page.uncompressed_size(element);

@@ -8,6 +8,14 @@ use super::header::more_than_16;
 use crate::damage::{Aim, At};
 
 pub fn aims() -> Vec<Aim> {
+    let mut aims = file_aims();
+    aims.extend(side_aims());
+    aims.extend(count_aims());
+    aims
+}
+
+/// The file's length, and earlier faults of such a file.
+fn file_aims() -> Vec<Aim> {
     vec![
         Aim::length(4, "file above 16,777,216 bytes", long_file).times(3),
         Aim::length(1, "not identified and above 16,777,216 bytes", |built, random| {
@@ -25,6 +33,11 @@ pub fn aims() -> Vec<Aim> {
             long_file(built, random)
         })
         .times(1),
+    ]
+}
+
+fn side_aims() -> Vec<Aim> {
+    vec![
         Aim::bytes(4, "grid rows above 65,536", |built, random| {
             let side = above(65_536, random);
             sides(built, [side, 1], [4_096, 1])
@@ -41,6 +54,11 @@ pub fn aims() -> Vec<Aim> {
             let side = above(4_096, random);
             sides(built, [1, 1], [1, side])
         }),
+    ]
+}
+
+fn count_aims() -> Vec<Aim> {
+    vec![
         Aim::bytes(4, "tiles above 65,536", many_tiles),
         Aim::description(4, "elements above 16", many_elements),
         Aim::description(4, "elements above 16, faults behind the 16th", faults_behind_16),

@@ -51,7 +51,7 @@ fn length_not_a_multiple(built: &mut Built, random: &mut Prng) -> Option<At> {
     let less = random.between(1, 7) as u64;
     let length = built.length(number) as u64;
     let length = random.pick(&[length - less, length - 4, 20.min(length - 1)]);
-    if length % 8 == 0 {
+    if length.is_multiple_of(8) {
         return None;
     }
     set_length(built, number, length)

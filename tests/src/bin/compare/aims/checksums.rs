@@ -8,6 +8,15 @@ use gvrs_tests::second::crc32c::crc32c;
 use crate::damage::{Aim, At};
 
 pub fn aims() -> Vec<Aim> {
+    let mut aims = on_aims();
+    aims.extend(sum_aims());
+    aims.extend(off_aims());
+    aims.push(Aim::checksums("the first of two", first_of_two));
+    aims
+}
+
+/// One bit of the last four bytes, for each type of record.
+fn on_aims() -> Vec<Aim> {
     vec![
         Aim::checksums("on: the header's last four bytes", |built, random| {
             if_on(built)?;
@@ -31,12 +40,23 @@ pub fn aims() -> Vec<Aim> {
         Aim::checksums("on: a tile directory's last four bytes", |built, random| {
             flip_checksum_of_type(built, chain::TILE_DIRECTORY, random)
         }),
+    ]
+}
+
+/// What is summed, and how.
+fn sum_aims() -> Vec<Aim> {
+    vec![
         Aim::checksums("on: of all earlier bytes of the record", unjudged_byte_changed),
         Aim::checksums("on: zero is no checksum", checksum_zero),
         Aim::checksums("on: final exclusive-or", checksum_inverted),
         Aim::checksums("on: little-endian", checksum_big_endian),
         Aim::checksums("on: a free record's is of its first eight bytes only", free_over_content),
         Aim::checksums("on: the header's is of its own bytes only", header_from_byte_0),
+    ]
+}
+
+fn off_aims() -> Vec<Aim> {
+    vec![
         Aim::checksums("off: they are zero, the header's", |built, random| {
             if_off(built)?;
             flip_checksum_of(built, None, random)
@@ -48,7 +68,6 @@ pub fn aims() -> Vec<Aim> {
             off_but_not_zero(built, random.below(6) as u8, random)
         }),
         Aim::checksums("off, with the checksums of on", off_with_checksums_of_on),
-        Aim::checksums("the first of two", first_of_two),
     ]
 }
 
@@ -159,8 +178,7 @@ fn off_but_not_zero(built: &mut Built, record_type: u8, random: &mut Prng) -> Op
     flip_checksum_of(built, Some(record), random)
 }
 
-/// Every record's checksum as if on, but the flag is off. The header's, summed with the flag off, is
-/// the first.
+/// Every record's checksum as if on, but the flag is off. The header's is the first.
 fn off_with_checksums_of_on(built: &mut Built, _: &mut Prng) -> Option<At> {
     if_off(built)?;
     let mut start = 16;
