@@ -34,6 +34,7 @@ fn main() -> ExitCode {
     let without = measure("few large tiles, checksums off", &shapes::few_large_tiles(false));
     measure("65,536 small tiles", &shapes::many_small_tiles(true));
     measure("65,536 small tiles, checksums off", &shapes::many_small_tiles(false));
+    measure("65,536 small tiles in reverse", &shapes::tiles_in_reverse());
     measure("4,000 metadata records", &shapes::many_metadata(true));
     measure("4,000 metadata records, checksums off", &shapes::many_metadata(false));
     measure("directory of 65,536 tiles, none stored", &shapes::wide_directory());

@@ -29,6 +29,15 @@ pub fn many_small_tiles(checksums: bool) -> Vec<u8> {
     bytes_of(&page)
 }
 
+/// The same tiles with the last index first in the file.
+pub fn tiles_in_reverse() -> Vec<u8> {
+    let mut page = Page::of_sides([256 * 7, 256 * 8], [7, 8]);
+    for index in (0..65_536).rev() {
+        page.records.push(tile(index, 224));
+    }
+    bytes_of(&page)
+}
+
 /// 4,000 metadata records of 4,000 bytes, listed in file order.
 pub fn many_metadata(checksums: bool) -> Vec<u8> {
     let mut page = Page::plain();
