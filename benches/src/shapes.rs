@@ -1,0 +1,92 @@
+//! Files to measure, each of one shape that is costly in its own way.
+
+use gvrs_tests::build::bytes_of;
+use gvrs_tests::page::{Body, Metadata, Page, Record, Tile, TileDirectory};
+
+/// The longest file (document 01, house ceilings).
+pub const CEILING: usize = 16 * MEBIBYTE;
+pub const MEBIBYTE: usize = 1 << 20;
+
+/// Fifteen tiles of 1 MiB, uncompressed, and one compressed tile that fills the file.
+pub fn few_large_tiles(checksums: bool) -> Vec<u8> {
+    let mut page = Page::of_sides([65_536, 64], [4096, 64]);
+    page.checksums = checksums;
+    for index in 0..15 {
+        page.records.push(tile(index, MEBIBYTE));
+    }
+    let left = CEILING - bytes_of(&page).len();
+    page.records.push(tile(15, left - 24));
+    bytes_of(&page)
+}
+
+/// As many tiles as there may be, 65,536, of 56 Integer cells each.
+pub fn many_small_tiles(checksums: bool) -> Vec<u8> {
+    let mut page = Page::of_sides([256 * 7, 256 * 8], [7, 8]);
+    page.checksums = checksums;
+    for index in 0..65_536 {
+        page.records.push(tile(index, 224));
+    }
+    bytes_of(&page)
+}
+
+/// The same tiles with the last index first in the file.
+pub fn tiles_in_reverse() -> Vec<u8> {
+    let mut page = Page::of_sides([256 * 7, 256 * 8], [7, 8]);
+    for index in (0..65_536).rev() {
+        page.records.push(tile(index, 224));
+    }
+    bytes_of(&page)
+}
+
+/// 4,000 metadata records of 4,000 bytes, listed in file order.
+pub fn many_metadata(checksums: bool) -> Vec<u8> {
+    let mut page = Page::plain();
+    page.checksums = checksums;
+    let first = page.records.len();
+    for id in 0..4_000 {
+        let mut metadata = Metadata::new(b"Deed", id);
+        metadata.content = vec![0x5a; 4_000];
+        page.records.push(Record::new(Body::Metadata(metadata)));
+    }
+    let listed = (first..page.records.len()).collect();
+    page.records.push(Record::new(Body::MetadataDirectory(listed)));
+    bytes_of(&page)
+}
+
+/// As many free records of 16 bytes as fit, listed last one first. Each has an entry of 12 bytes.
+pub fn free_in_reverse(length: usize) -> Vec<u8> {
+    let mut page = Page::plain();
+    let first = page.records.len();
+    for _ in 0..(length - 1024) / 28 {
+        page.records.push(Record::new(Body::Free(16)));
+    }
+    let listed = (first..page.records.len()).rev().collect();
+    page.records.push(Record::new(Body::FileSpaceDirectory(listed)));
+    bytes_of(&page)
+}
+
+/// As many metadata records of 32 bytes as fit, each with a key of its own, listed last one first.
+/// Each has an entry of 16 bytes.
+pub fn metadata_in_reverse(length: usize) -> Vec<u8> {
+    let mut page = Page::plain();
+    let first = page.records.len();
+    for id in 0..(length - 1024) / 48 {
+        page.records.push(Record::new(Body::Metadata(Metadata::new(b"m", id as u32))));
+    }
+    let listed = (first..page.records.len()).rev().collect();
+    page.records.push(Record::new(Body::MetadataDirectory(listed)));
+    bytes_of(&page)
+}
+
+/// No tile record, and a directory that covers 65,536 tiles.
+pub fn wide_directory() -> Vec<u8> {
+    let mut page = Page::of_sides([256, 256], [1, 1]);
+    let directory = TileDirectory { standard: 1, ..TileDirectory::compact(0, 0, 256, 256) };
+    page.records[0].body = Body::TileDirectory(directory);
+    bytes_of(&page)
+}
+
+fn tile(index: u32, length: usize) -> Record {
+    let content = (0..length).map(|at| (at as u32 ^ index) as u8).collect();
+    Record::new(Body::Tile(Tile { index, contents: vec![content] }))
+}

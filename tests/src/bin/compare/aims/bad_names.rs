@@ -1,0 +1,38 @@
+//! Strings that are no identifiers (G section 3.6.1), each for one reason.
+
+use gvrs_tests::prng::Prng;
+
+#[derive(Clone, Copy)]
+pub enum BadName {
+    Empty,
+    TooLong,
+    Beginning,
+    Character,
+    NotAscii,
+}
+
+pub fn bad_name(bad: BadName, random: &mut Prng) -> Vec<u8> {
+    match bad {
+        BadName::Empty => Vec::new(),
+        BadName::TooLong => vec![b'a'; random.pick(&[33, 34, 64, 256, 257, 300])],
+        BadName::Beginning => {
+            let mut name = good(random);
+            name[0] = random.pick(b"0189_");
+            name
+        }
+        BadName::Character => with(random.pick(b"\0 -./:@[\\]^`{|}~\x7f"), random),
+        BadName::NotAscii => with(random.pick(&[0x80, 0xaa, 0xc3, 0xe9, 0xff]), random),
+    }
+}
+
+fn good(random: &mut Prng) -> Vec<u8> {
+    vec![b'b'; random.between(1, 32)]
+}
+
+/// A name with that byte anywhere.
+fn with(byte: u8, random: &mut Prng) -> Vec<u8> {
+    let mut name = good(random);
+    let at = random.below(name.len());
+    name[at] = byte;
+    name
+}

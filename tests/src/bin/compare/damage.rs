@@ -1,0 +1,124 @@
+//! Damages: each breaks one rule of a file that was good.
+
+use gvrs_tests::build::{build, make_checksums_good, Built};
+use gvrs_tests::page::Page;
+use gvrs_tests::prng::Prng;
+
+/// A sentence of document 01 and a damage that it refuses.
+pub struct Aim {
+    pub stage: u32,
+    pub sentence: &'static str,
+    pub damage: Damage,
+    /// How many files to damage in a whole run.
+    pub times: usize,
+}
+
+/// A damage gives the place that it is aimed at, or nothing where it can't be done to the file.
+#[derive(Clone, Copy)]
+pub enum Damage {
+    /// To the description; bytes and checksums are made of what it leaves.
+    Description(fn(&mut Page, &mut Prng) -> Option<At>),
+    /// To the bytes; checksums are made good behind it.
+    Bytes(fn(&mut Built, &mut Prng) -> Option<At>),
+    /// The same, where the file gets shorter or longer.
+    Length(fn(&mut Built, &mut Prng) -> Option<At>),
+    /// To the bytes, last of all.
+    Checksums(fn(&mut Built, &mut Prng) -> Option<At>),
+}
+
+/// The place of a refusal.
+#[derive(Clone, Copy)]
+pub enum At {
+    Zero,
+    /// Start of the header record.
+    Header,
+    /// Start of a record, by its number.
+    Record(usize),
+    /// This position.
+    Position(usize),
+}
+
+const TIMES: usize = 200;
+
+impl Aim {
+    pub fn description(
+        stage: u32,
+        sentence: &'static str,
+        damage: fn(&mut Page, &mut Prng) -> Option<At>,
+    ) -> Aim {
+        Aim { stage, sentence, damage: Damage::Description(damage), times: TIMES }
+    }
+
+    pub fn bytes(
+        stage: u32,
+        sentence: &'static str,
+        damage: fn(&mut Built, &mut Prng) -> Option<At>,
+    ) -> Aim {
+        Aim { stage, sentence, damage: Damage::Bytes(damage), times: TIMES }
+    }
+
+    pub fn length(
+        stage: u32,
+        sentence: &'static str,
+        damage: fn(&mut Built, &mut Prng) -> Option<At>,
+    ) -> Aim {
+        Aim { stage, sentence, damage: Damage::Length(damage), times: TIMES }
+    }
+
+    pub fn checksums(
+        sentence: &'static str,
+        damage: fn(&mut Built, &mut Prng) -> Option<At>,
+    ) -> Aim {
+        Aim { stage: 7, sentence, damage: Damage::Checksums(damage), times: TIMES }
+    }
+
+    /// So many files in a whole run, where files are long.
+    pub fn times(self, times: usize) -> Aim {
+        Aim { times, ..self }
+    }
+
+    pub fn has_long_files(&self) -> bool {
+        self.times < TIMES
+    }
+}
+
+/// The damaged file and the place aimed at by the first of the damages. What later stages judge is
+/// damaged first, while what it depends on is still whole.
+pub fn damaged(page: &Page, damages: &[Damage], random: &mut Prng) -> Option<(Vec<u8>, u64)> {
+    let mut page = page.clone();
+    let mut at = At::Zero;
+    for damage in damages.iter().rev() {
+        if let Damage::Description(change) = damage {
+            at = change(&mut page, random)?;
+        }
+    }
+    let mut built = build(&page);
+    for damage in damages.iter().rev() {
+        if let Damage::Bytes(change) = damage {
+            at = change(&mut built, random)?;
+        }
+    }
+    for damage in damages.iter().rev() {
+        if let Damage::Length(change) = damage {
+            at = change(&mut built, random)?;
+        }
+    }
+    make_checksums_good(&mut built.bytes);
+    for damage in damages.iter().rev() {
+        if let Damage::Checksums(change) = damage {
+            at = change(&mut built, random)?;
+        }
+    }
+    let place = place(at, &built);
+    Some((built.bytes, place))
+}
+
+fn place(at: At, built: &Built) -> u64 {
+    let position = match at {
+        At::Zero => 0,
+        At::Header => 16,
+        At::Record(number) => built.starts[number],
+        At::Position(position) => position,
+    };
+    position as u64
+}

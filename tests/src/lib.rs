@@ -1,0 +1,12 @@
+//! A second implementation of the page store's check, written from the papers, and what it takes
+//! to compare it with the library: a builder of files and the library's C interface.
+//!
+//! "Document 01" is the scope paper, "G" the GVRS format description 1.4, "reading N" the N-th of
+//! the readings that the project takes of them.
+
+pub mod build;
+pub mod library;
+pub mod page;
+pub mod prng;
+pub mod random_page;
+pub mod second;

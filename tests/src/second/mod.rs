@@ -1,0 +1,12 @@
+//! The second implementation: one file a subject, one function a rule.
+
+pub mod bodies;
+pub mod chain;
+pub mod check;
+pub mod checksums;
+pub mod crc32c;
+pub mod directories;
+pub mod fields;
+pub mod geometry;
+pub mod header;
+pub mod names;
