@@ -38,7 +38,7 @@ pub fn data_type(s: &[u8], at: usize) -> u32
     wire::byte_off(s, record_id_at(s, at), 4)
 }
 
-// The name, as that part of the slice itself.
+// The bytes of the name.
 pub fn metadata_name(s: &[u8], at: usize) -> &[u8]
     ensures { λ r. ⌜ now r ≡ metadataName (now (s .entry)) at ⌝ }
 {
