@@ -24,6 +24,10 @@ use Rattle.check_records.specs.TileBody.{tileIndex, sectionLength, elementConte
 unfoldable pub carries : List ℕ → ℕ → ℕ → Bool
 carries s i x = passes ((typeAt s x ≡? 2) ∷ (tileIndex s x ≡? i) ∷ [])
 
+-- a cell of an absent tile: the element's fill, as it stands
+unfoldable pub fillOf : List ℕ → ℕ → Cell
+fillOf s e = cell.Fill (valueOf (element s e .kind) (element s e .fill))
+
 -- element e of the tile record at x is compressed: its L is below U
 unfoldable pub packed : List ℕ → ℕ → ℕ → Bool
 packed s x e = passes ((sectionLength s x e + 1 ≤? elementBytes s e) ∷ [])
@@ -44,10 +48,6 @@ storedAt s e place = cell.Stored (valueOf (element s e .kind) (numberAt (cellSiz
 unfoldable pub cellIn : List ℕ → ℕ → ℕ → ℕ → ℕ → Cell
 cellIn s x row column e =
     pick (packed s x e) (cell.Refused (refusal.Compressed x)) (storedAt s e (placeIn s x row column e))
-
--- a cell of an absent tile: the element's fill, as it stands
-unfoldable pub fillOf : List ℕ → ℕ → Cell
-fillOf s e = cell.Fill (valueOf (element s e .kind) (element s e .fill))
 
 -- the uncompressed content of element e there: its U bytes
 unfoldable pub contentIn : List ℕ → ℕ → ℕ → Content
