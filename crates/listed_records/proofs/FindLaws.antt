@@ -14,13 +14,13 @@ use Rattle.record.specs.Record.{typeAt}
 use Rattle.record.specs.Chain.{starts, firstRecord}
 use Rattle.check_records.specs.Chain.{records}
 use Rattle.directory.specs.Lists.{every, some, countBelow, recordsOf}
-use Rattle.directory.proofs.SearchLaws.{isFound, some-found, every-found, type-is}
+use Rattle.directory.proofs.SearchLaws.{isFound, some-found}
 use Rattle.directory.proofs.CountLaws.{count-all, count-both, count-same, count-named}
 use Rattle.directory.proofs.OnlyLaws.{records-behind}
 use Rattle.listed_records.specs.declared.Listing.{Listing}
 use Rattle.listed_records.specs.Listed.{listedOnce, nothingElse}
-use Rattle.listed_records.specs.Metadata.{sameKey, keysDistinct}
-use Rattle.listed_records.specs.Search.{listedKind, listCount, listFits, listEntryIs, twinOf, hasTwin, repeats, listRight}
+use Rattle.listed_records.specs.Metadata.{sameKey}
+use Rattle.listed_records.specs.Search.{listedKind, listCount, listFits, listEntryIs, twinOf, hasTwin, listRight}
 use Rattle.listed_records.proofs.ListLaws.{entry-alone}
 
 -- another record with the same name and ID
@@ -48,17 +48,6 @@ twin-yes s x y f p e = ap isFound (sym p) ∙ twin-found s x f e
 pub twin-no : (s : List ℕ) (x : ℕ) (f : Found) → f ≡ Nothing → f ≡ firstRecord s (headerEnd s) (twinOf s x) → false ≡ hasTwin s x
 twin-no s x f p e = ap isFound (sym p) ∙ twin-found s x f e
 
--- a metadata record whose name and ID another one has
-
-module _ (s : List ℕ) (x k : ℕ) (p : k ≡ typeAt s x) where
-  pub repeated-type : (k ≡ 1 → ⊥) → false ≡ repeats s x
-  unfolding repeats
-  repeated-type h = no _ (λ z. h (p ∙ z .0))
-
-  pub repeated-is : (b : Bool) → k ≡ 1 → b ≡ hasTwin s x → b ≡ repeats s x
-  unfolding repeats
-  repeated-is b h e = either-way _ b (λ z. (sym p ∙ h, (sym e ∙ z, tt))) (λ z w. not-both (w .1 .0) (sym e ∙ z))
-
 -- no two metadata records have the same name and ID
 
 some-not : (p q : ℕ → Bool) → ((x : ℕ) → p x ≡ not (q x)) → (l : List ℕ) → some p l ≡ not (every q l)
@@ -71,7 +60,7 @@ some-not p q e (x ∷ xs) = go (q x) refl (every q xs) (some-not p q e xs)
     go true f false r = rw (e x, f, r)
     go false f b r = rw (e x, f)
 
-twin-not : (s : List ℕ) (x : ℕ) → hasTwin s x ≡ not (every (λ y. eqb x y || not (sameKey s x y)) (recordsOf s 1))
+pub twin-not : (s : List ℕ) (x : ℕ) → hasTwin s x ≡ not (every (λ y. eqb x y || not (sameKey s x y)) (recordsOf s 1))
 unfolding hasTwin passes
 twin-not s x = some-not _ _ (λ y. go (eqb x y) (sameKey s x y)) (recordsOf s 1)
   where
@@ -79,21 +68,6 @@ twin-not s x = some-not _ _ (λ y. go (eqb x y) (sameKey s x y)) (recordsOf s 1)
     go true b = refl
     go false true = refl
     go false false = refl
-
-distinct-found : (s : List ℕ) (f : Found) → f ≡ firstRecord s (headerEnd s) (repeats s) → not (isFound f) ≡ keysDistinct s
-unfolding keysDistinct recordsOf records firstRecord repeats passes
-distinct-found s f e =
-    ap (λ (g : Found). not (isFound g)) e
-    ∙ sym
-    (every-found (λ x. every (λ y. eqb x y || not (sameKey s x y)) (recordsOf s 1)) (λ x. eqb (typeAt s x) 1) (repeats s)
-    (λ x. rw (twin-not s x) (sym (type-is s 1 x (not (every (λ y. eqb x y || not (sameKey s x y)) (recordsOf s 1)))))) (starts s (headerEnd s)))
-
-module _ (s : List ℕ) (f : Found) (e : f ≡ firstRecord s (headerEnd s) (repeats s)) where
-  pub distinct-not : (x : ℕ) → f ≡ At x → false ≡ keysDistinct s
-  distinct-not x p = ap (λ (g : Found). not (isFound g)) (sym p) ∙ distinct-found s f e
-
-  pub distinct-all : f ≡ Nothing → true ≡ keysDistinct s
-  distinct-all p = ap (λ (g : Found). not (isFound g)) (sym p) ∙ distinct-found s f e
 
 -- where each record is listed once, nothing else is just where there are as many entries as records
 
