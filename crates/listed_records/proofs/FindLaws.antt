@@ -3,6 +3,7 @@ use Prim.Native.Nat.{ℕ}
 use mathlib.Core.Path.{_≡_, refl, sym, ap, _∙_}
 use mathlib.Core.List.{List, [], _∷_}
 use mathlib.Core.Bool.{Bool, true, false, not, _||_}
+use native.Mathlib.Omega.{arith}
 use lib.ListN.{length}
 use lib.Dec.{eqb}
 use Rattle.wire.specs.Tests.{both, passes}
@@ -87,6 +88,17 @@ module _ (s : List ℕ) (kind n : ℕ) (entryIs : ℕ → ℕ → Bool) (alone :
   unfolding nothingElse
   count-else e = below-all n named (λ k h. count-both (λ j. true) named (λ j g. refl) n (count-all n ∙ e ∙ sym named-count) k h refl)
 
+-- where there is no record, every one is
+
+none-every : (p : ℕ → Bool) (l : List ℕ) → length l ≡ 0 → every p l ≡ true
+unfolding every
+none-every p [] e = refl
+none-every p (x ∷ xs) e = absurd (omega arith)
+
+none-once : (s : List ℕ) (kind n : ℕ) (entryIs : ℕ → ℕ → Bool) → length (recordsOf s kind) ≡ 0 → true ≡ listedOnce s kind n entryIs
+unfolding listedOnce
+none-once s kind n entryIs e = sym (none-every _ (recordsOf s kind) e)
+
 -- a list, whole
 
 pub list-loose : (s : List ℕ) (l : Listing) (b : Bool) → b ≡ listFits s l → b ≡ false → false ≡ listRight s l
@@ -105,3 +117,6 @@ module _ (s : List ℕ) (l : Listing) (n m i : ℕ) (p : n ≡ listCount s l) (t
       either-way _ r
       (λ z. (sym f ∙ g, (sym e ∙ z, (count-else s (listedKind l) (listCount s l) (listEntryIs s l) (entry-alone s l) (sym e ∙ z) (sym p ∙ h ∙ q ∙ rw t), tt))))
       (λ z w. not-both (w .1 .0) (sym e ∙ z))
+
+  pub list-none : (b : Bool) → b ≡ listFits s l → b ≡ true → n ≡ m → m ≡ 0 → true ≡ listRight s l
+  list-none b f g h e = list-is b true f g h (none-once s (listedKind l) (listCount s l) (listEntryIs s l) (sym (q ∙ rw t) ∙ e))

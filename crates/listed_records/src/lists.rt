@@ -94,25 +94,25 @@ fn named_by(s: &[u8], list: Listing, p: usize) -> usize
     }
 }
 
-// Which of a window's counts the entry at a position adds to: that of the record that it is of, or 65536, which is none.
+// Which of a window's counts the entry at a position adds to: that of the record that it is of, or 262144, which is none.
 fn slot_of(s: &[u8], list: Listing, base: usize, p: usize) -> usize
     ensures { λ r. ⌜ r ≡ slotOf (now (s .entry)) list base p ⌝ }
 {
     let x = named_by(s, list, p);
     if x < base {
-        return 65536;
+        return 262144;
     }
     let d = x - base;
-    if 524287 < d {
-        return 65536;
+    if 2097151 < d {
+        return 262144;
     }
     if d % 8 != 0 {
-        return 65536;
+        return 262144;
     }
     if entry_of(s, list, x, p) {
         return d / 8;
     }
-    65536
+    262144
 }
 
 // One more, up to 2.
@@ -209,7 +209,7 @@ fn window_right(s: &[u8], list: Listing, base: usize) -> bool
     requires { ⌜ listFits (now s) list ≡ true ⌝ }
     ensures { λ r. ⌜ r ≡ windowRight (now (s .entry)) list base ⌝ }
 {
-    let mut counts = [0u8; 65536];
+    let mut counts = [0u8; 262144];
     tally(s, list, base, &mut counts);
     if let Found::At(_) = find_awry(s, list, base, &counts) {
         return false;
@@ -225,7 +225,7 @@ fn listed_once(s: &[u8], list: Listing) -> bool
     let mut base = fields::header_end(s);
     while base < s.len() {
         if window_right(s, list, base) {
-            base += 524288;
+            base += 2097152;
         } else {
             return false;
         }
@@ -242,6 +242,9 @@ pub fn list_right(s: &[u8], list: Listing) -> bool
         let records = references::record_count(s, listed_kind(list));
         if list_count(s, list) as usize != records {
             return false;
+        }
+        if records == 0 {
+            return true;
         }
         return listed_once(s, list);
     }
