@@ -3,6 +3,7 @@ use Prim.Native.Nat.{ℕ}
 use mathlib.Core.Path.{_≡_, refl, sym, ap, _∙_}
 use mathlib.Core.List.{List, [], _∷_}
 use mathlib.Core.Bool.{Bool, true, false, not, _||_}
+use native.Mathlib.Omega.{arith}
 use lib.ListN.{length}
 use lib.Dec.{eqb}
 use Rattle.wire.specs.Tests.{both, passes}
@@ -14,13 +15,13 @@ use Rattle.record.specs.Record.{typeAt}
 use Rattle.record.specs.Chain.{starts, firstRecord}
 use Rattle.check_records.specs.Chain.{records}
 use Rattle.directory.specs.Lists.{every, some, countBelow, recordsOf}
-use Rattle.directory.proofs.SearchLaws.{isFound, some-found, every-found, type-is}
+use Rattle.directory.proofs.SearchLaws.{isFound, some-found}
 use Rattle.directory.proofs.CountLaws.{count-all, count-both, count-same, count-named}
 use Rattle.directory.proofs.OnlyLaws.{records-behind}
 use Rattle.listed_records.specs.declared.Listing.{Listing}
 use Rattle.listed_records.specs.Listed.{listedOnce, nothingElse}
-use Rattle.listed_records.specs.Metadata.{sameKey, keysDistinct}
-use Rattle.listed_records.specs.Search.{listedKind, listCount, listFits, listEntryIs, twinOf, hasTwin, repeats, listRight}
+use Rattle.listed_records.specs.Metadata.{sameKey}
+use Rattle.listed_records.specs.Search.{listedKind, listCount, listFits, listEntryIs, twinOf, hasTwin, listRight}
 use Rattle.listed_records.proofs.ListLaws.{entry-alone}
 
 -- another record with the same name and ID
@@ -48,17 +49,6 @@ twin-yes s x y f p e = ap isFound (sym p) ∙ twin-found s x f e
 pub twin-no : (s : List ℕ) (x : ℕ) (f : Found) → f ≡ Nothing → f ≡ firstRecord s (headerEnd s) (twinOf s x) → false ≡ hasTwin s x
 twin-no s x f p e = ap isFound (sym p) ∙ twin-found s x f e
 
--- a metadata record whose name and ID another one has
-
-module _ (s : List ℕ) (x k : ℕ) (p : k ≡ typeAt s x) where
-  pub repeated-type : (k ≡ 1 → ⊥) → false ≡ repeats s x
-  unfolding repeats
-  repeated-type h = no _ (λ z. h (p ∙ z .0))
-
-  pub repeated-is : (b : Bool) → k ≡ 1 → b ≡ hasTwin s x → b ≡ repeats s x
-  unfolding repeats
-  repeated-is b h e = either-way _ b (λ z. (sym p ∙ h, (sym e ∙ z, tt))) (λ z w. not-both (w .1 .0) (sym e ∙ z))
-
 -- no two metadata records have the same name and ID
 
 some-not : (p q : ℕ → Bool) → ((x : ℕ) → p x ≡ not (q x)) → (l : List ℕ) → some p l ≡ not (every q l)
@@ -71,7 +61,7 @@ some-not p q e (x ∷ xs) = go (q x) refl (every q xs) (some-not p q e xs)
     go true f false r = rw (e x, f, r)
     go false f b r = rw (e x, f)
 
-twin-not : (s : List ℕ) (x : ℕ) → hasTwin s x ≡ not (every (λ y. eqb x y || not (sameKey s x y)) (recordsOf s 1))
+pub twin-not : (s : List ℕ) (x : ℕ) → hasTwin s x ≡ not (every (λ y. eqb x y || not (sameKey s x y)) (recordsOf s 1))
 unfolding hasTwin passes
 twin-not s x = some-not _ _ (λ y. go (eqb x y) (sameKey s x y)) (recordsOf s 1)
   where
@@ -79,21 +69,6 @@ twin-not s x = some-not _ _ (λ y. go (eqb x y) (sameKey s x y)) (recordsOf s 1)
     go true b = refl
     go false true = refl
     go false false = refl
-
-distinct-found : (s : List ℕ) (f : Found) → f ≡ firstRecord s (headerEnd s) (repeats s) → not (isFound f) ≡ keysDistinct s
-unfolding keysDistinct recordsOf records firstRecord repeats passes
-distinct-found s f e =
-    ap (λ (g : Found). not (isFound g)) e
-    ∙ sym
-    (every-found (λ x. every (λ y. eqb x y || not (sameKey s x y)) (recordsOf s 1)) (λ x. eqb (typeAt s x) 1) (repeats s)
-    (λ x. rw (twin-not s x) (sym (type-is s 1 x (not (every (λ y. eqb x y || not (sameKey s x y)) (recordsOf s 1)))))) (starts s (headerEnd s)))
-
-module _ (s : List ℕ) (f : Found) (e : f ≡ firstRecord s (headerEnd s) (repeats s)) where
-  pub distinct-not : (x : ℕ) → f ≡ At x → false ≡ keysDistinct s
-  distinct-not x p = ap (λ (g : Found). not (isFound g)) (sym p) ∙ distinct-found s f e
-
-  pub distinct-all : f ≡ Nothing → true ≡ keysDistinct s
-  distinct-all p = ap (λ (g : Found). not (isFound g)) (sym p) ∙ distinct-found s f e
 
 -- where each record is listed once, nothing else is just where there are as many entries as records
 
@@ -113,6 +88,17 @@ module _ (s : List ℕ) (kind n : ℕ) (entryIs : ℕ → ℕ → Bool) (alone :
   unfolding nothingElse
   count-else e = below-all n named (λ k h. count-both (λ j. true) named (λ j g. refl) n (count-all n ∙ e ∙ sym named-count) k h refl)
 
+-- where there is no record, every one is
+
+none-every : (p : ℕ → Bool) (l : List ℕ) → length l ≡ 0 → every p l ≡ true
+unfolding every
+none-every p [] e = refl
+none-every p (x ∷ xs) e = absurd (omega arith)
+
+none-once : (s : List ℕ) (kind n : ℕ) (entryIs : ℕ → ℕ → Bool) → length (recordsOf s kind) ≡ 0 → true ≡ listedOnce s kind n entryIs
+unfolding listedOnce
+none-once s kind n entryIs e = sym (none-every _ (recordsOf s kind) e)
+
 -- a list, whole
 
 pub list-loose : (s : List ℕ) (l : Listing) (b : Bool) → b ≡ listFits s l → b ≡ false → false ≡ listRight s l
@@ -131,3 +117,6 @@ module _ (s : List ℕ) (l : Listing) (n m i : ℕ) (p : n ≡ listCount s l) (t
       either-way _ r
       (λ z. (sym f ∙ g, (sym e ∙ z, (count-else s (listedKind l) (listCount s l) (listEntryIs s l) (entry-alone s l) (sym e ∙ z) (sym p ∙ h ∙ q ∙ rw t), tt))))
       (λ z w. not-both (w .1 .0) (sym e ∙ z))
+
+  pub list-none : (b : Bool) → b ≡ listFits s l → b ≡ true → n ≡ m → m ≡ 0 → true ≡ listRight s l
+  list-none b f g h e = list-is b true f g h (none-once s (listedKind l) (listCount s l) (listEntryIs s l) (sym (q ∙ rw t) ∙ e))

@@ -3,5 +3,6 @@ pub mod MetadataLaws
 pub mod ListLaws
 pub mod WindowLaws
 pub mod FindLaws
+pub mod KeyLaws
 pub mod StageLaws
 pub mod RearrangedLaws

@@ -3,5 +3,6 @@ pub mod FileSpace
 pub mod Metadata
 pub mod Search
 pub mod Windows
+pub mod Keys
 pub mod Stage
 pub mod Rearranged

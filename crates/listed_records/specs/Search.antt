@@ -48,10 +48,6 @@ twinOf s x y = passes ((typeAt s y ≡? 1) ∷ (x ≢? y) ∷ is (sameKey s x y)
 unfoldable pub hasTwin : List ℕ → ℕ → Bool
 hasTwin s x = some (λ y. passes ((x ≢? y) ∷ is (sameKey s x y) ∷ [])) (recordsOf s 1)
 
--- a metadata record whose pair another one has
-unfoldable pub repeats : List ℕ → ℕ → Bool
-repeats s x = passes ((typeAt s x ≡? 1) ∷ is (hasTwin s x) ∷ [])
-
 -- a list fits its record, every record of its type is listed once, and nothing else is
 unfoldable pub listRight : List ℕ → Listing → Bool
 listRight s list =

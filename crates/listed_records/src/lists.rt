@@ -2,6 +2,7 @@
 use crate::Listing;
 use crate::file_space;
 use crate::metadata;
+use check_records::metadata_body;
 use directory::entries;
 use directory::references;
 use header::fields;
@@ -14,9 +15,11 @@ ghost use Prim.Native.Nat.{_+_, _≤_, _<_};
 ghost use lib.ListN.{length};
 ghost use Rattle.header.specs.Fields.{headerEnd};
 ghost use Rattle.record.specs.Chain.{firstRecord};
+ghost use Rattle.check_records.specs.Chain.{records};
 ghost use Rattle.listed_records.specs.Listed.{listedOnce};
 ghost use Rattle.listed_records.specs.Metadata.{keysDistinct};
-ghost use Rattle.listed_records.specs.Search.{listedKind, listCount, listFits, listEntryAt, listEntryOf, listEntryIs, listEntrySize, listRight, twinOf, hasTwin, repeats};
+ghost use Rattle.listed_records.specs.Search.{listedKind, listCount, listFits, listEntryAt, listEntryOf, listEntryIs, listEntrySize, listRight, twinOf, hasTwin};
+ghost use Rattle.listed_records.specs.Keys.{keyHash, keySlot, keyFine, keySeen, allFine, partDistinct};
 ghost use Rattle.listed_records.specs.Windows.{namedBy, slotOf, oneMore, noted, tallied, awryIn, windowRight};
 
 // The type of the records that a list is of.
@@ -91,25 +94,25 @@ fn named_by(s: &[u8], list: Listing, p: usize) -> usize
     }
 }
 
-// Which of a window's counts the entry at a position adds to: that of the record that it is of, or 65536, which is none.
+// Which of a window's counts the entry at a position adds to: that of the record that it is of, or 262144, which is none.
 fn slot_of(s: &[u8], list: Listing, base: usize, p: usize) -> usize
     ensures { λ r. ⌜ r ≡ slotOf (now (s .entry)) list base p ⌝ }
 {
     let x = named_by(s, list, p);
     if x < base {
-        return 65536;
+        return 262144;
     }
     let d = x - base;
-    if 524287 < d {
-        return 65536;
+    if 2097151 < d {
+        return 262144;
     }
     if d % 8 != 0 {
-        return 65536;
+        return 262144;
     }
     if entry_of(s, list, x, p) {
         return d / 8;
     }
-    65536
+    262144
 }
 
 // One more, up to 2.
@@ -206,7 +209,7 @@ fn window_right(s: &[u8], list: Listing, base: usize) -> bool
     requires { ⌜ listFits (now s) list ≡ true ⌝ }
     ensures { λ r. ⌜ r ≡ windowRight (now (s .entry)) list base ⌝ }
 {
-    let mut counts = [0u8; 65536];
+    let mut counts = [0u8; 262144];
     tally(s, list, base, &mut counts);
     if let Found::At(_) = find_awry(s, list, base, &counts) {
         return false;
@@ -222,7 +225,7 @@ fn listed_once(s: &[u8], list: Listing) -> bool
     let mut base = fields::header_end(s);
     while base < s.len() {
         if window_right(s, list, base) {
-            base += 524288;
+            base += 2097152;
         } else {
             return false;
         }
@@ -239,6 +242,9 @@ pub fn list_right(s: &[u8], list: Listing) -> bool
         let records = references::record_count(s, listed_kind(list));
         if list_count(s, list) as usize != records {
             return false;
+        }
+        if records == 0 {
+            return true;
         }
         return listed_once(s, list);
     }
@@ -302,19 +308,55 @@ fn has_twin(s: &[u8], x: usize) -> bool
     false
 }
 
-// Whether a metadata record's pair of name and ID is another's too.
-fn repeated(s: &[u8], at: usize) -> bool
-    ensures { λ r. ⌜ r ≡ repeats (now (s .entry)) at ⌝ }
+// A hash of a metadata record's pair of name and ID.
+fn key_hash(s: &[u8], x: usize) -> u64
+    ensures { λ r. ⌜ r ≡ keyHash (now (s .entry)) x ⌝ }
 {
-    if wire::byte_off(s, at, 4) != 1 {
-        return false;
-    }
-    has_twin(s, at)
+    let name = crc32c::crc_of(metadata_body::metadata_name(s, x));
+    let id = metadata_body::record_id(s, x);
+    (name as u64) + (id as u64) * 2654435761
 }
 
-// The first record behind the header of which that is so.
-fn find_repeated(s: &[u8]) -> Found
-    ensures { λ r. ⌜ r ≡ firstRecord (now (s .entry)) (headerEnd (now (s .entry))) (repeats (now (s .entry))) ⌝ }
+// The place of a metadata record of a part of the hashes; 262144 where it is of another part, or of another type.
+fn key_slot(s: &[u8], parts: u64, part: u64, x: usize) -> usize
+    requires { ⌜ 0 < parts ⌝ }
+    ensures { λ r. ⌜ r ≡ keySlot (now (s .entry)) parts part x ⌝ }
+{
+    if wire::byte_off(s, x, 4) != 1 {
+        return 262144;
+    }
+    let h = key_hash(s, x);
+    if h % parts != part {
+        return 262144;
+    }
+    (h / parts % 262144) as usize
+}
+
+// A record takes its place. It is the first there, or no other has its pair.
+fn key_fine(s: &[u8], parts: u64, part: u64, seen: &mut [u8], x: usize) -> bool
+    requires { ⌜ 0 < parts ⌝ }
+    ensures fine { λ r. ⌜ r ≡ keyFine (now (s .entry)) parts part (now (seen .entry)) x ⌝ }
+    ensures seen { λ _. ⌜ now (seen .exit) ≡ keySeen (now (s .entry)) parts part (now (seen .entry)) x ⌝ }
+{
+    let j = key_slot(s, parts, part, x);
+    if seen.len() <= j {
+        return true;
+    }
+    let before = seen[j];
+    seen[j] = 1;
+    if before == 0 {
+        return true;
+    }
+    if has_twin(s, x) {
+        return false;
+    }
+    true
+}
+
+// Each record behind the header does so.
+fn all_fine(s: &[u8], parts: u64, part: u64, seen: &mut [u8]) -> bool
+    requires { ⌜ 0 < parts ⌝ }
+    ensures { λ r. ⌜ r ≡ allFine (now (s .entry)) parts part (now (seen .entry)) (records (now (s .entry))) ⌝ }
 {
     let mut c = Cursor {
         at: fields::header_end(s),
@@ -327,31 +369,45 @@ fn find_repeated(s: &[u8]) -> Found
                 length: _,
                 next,
             } => {
-                if repeated(s, start) {
-                    return Found::At(start);
+                if key_fine(s, parts, part, seen, start) {
+                    c = next;
+                } else {
+                    return false;
                 }
-                c = next;
             }
             Step::Bad => {
                 let start = c.at;
-                if repeated(s, start) {
-                    return Found::At(start);
-                }
-                return Found::Nothing;
+                return key_fine(s, parts, part, seen, start);
             }
             Step::End => {
-                return Found::Nothing;
+                return true;
             }
         }
     }
 }
 
-// No two metadata records have the same pair of name and ID.
+// No two metadata records of a part have the same pair.
+fn part_distinct(s: &[u8], parts: u64, part: u64) -> bool
+    requires { ⌜ 0 < parts ⌝ }
+    ensures { λ r. ⌜ r ≡ partDistinct (now (s .entry)) parts part ⌝ }
+{
+    let mut seen = [0u8; 262144];
+    all_fine(s, parts, part, &mut seen)
+}
+
+// No two metadata records have the same pair of name and ID. Those with the same pair have the same hash, so they are of one part,
+// and have one place there.
 pub fn keys_distinct(s: &[u8]) -> bool
     ensures { λ r. ⌜ r ≡ keysDistinct (now (s .entry)) ⌝ }
 {
-    if let Found::At(_) = find_repeated(s) {
-        return false;
+    let parts = (references::record_count(s, 1) as u64) / 2048 + 1;
+    let mut part = 0;
+    while part < parts {
+        if part_distinct(s, parts, part) {
+            part += 1;
+        } else {
+            return false;
+        }
     }
     true
 }
