@@ -1,10 +1,34 @@
 //! The library's C interface, as `include/gvrs.h` declares it.
 
+use crate::second::cells::Spot;
 use crate::second::check::Answer;
 
 extern "C" {
     fn gvrs_check(file: *const u8, n: u64, out: *mut u64, out_n: u64) -> u32;
+    fn gvrs_cell(
+        file: *const u8,
+        n: u64,
+        row: u64,
+        column: u64,
+        element: u64,
+        route: u32,
+        out: *mut u64,
+        out_n: u64,
+    ) -> u32;
+    fn gvrs_content(
+        file: *const u8,
+        n: u64,
+        tile: u64,
+        element: u64,
+        out: *mut u64,
+        out_n: u64,
+    ) -> u32;
 }
+
+/// The routes of `gvrs_cell`. Every other number is the directory too.
+pub const DIRECTORY: u32 = 0;
+pub const WALK: u32 = 1;
+pub const WALK_WITHOUT_STAGE_9: u32 = 2;
 
 /// The library's answer for the bytes of one file.
 pub fn check(file: &[u8]) -> Answer {
@@ -18,3 +42,33 @@ pub fn check_into(file: &[u8], out: &mut [u64]) -> u32 {
     // Both slices are alive for the whole call and do not overlap.
     unsafe { gvrs_check(file.as_ptr(), file.len() as u64, out.as_mut_ptr(), out.len() as u64) }
 }
+
+/// The number and all of `out`.
+pub fn cell(file: &[u8], spot: Spot, route: u32) -> (u32, [u64; 3]) {
+    let mut out = [UNWRITTEN; 3];
+    let number = cell_into(file, spot, route, &mut out);
+    (number, out)
+}
+
+pub fn cell_into(file: &[u8], spot: Spot, route: u32, out: &mut [u64]) -> u32 {
+    let Spot { row, column, element } = spot;
+    let (bytes, n) = (file.as_ptr(), file.len() as u64);
+    // Both slices are alive for the whole call and do not overlap.
+    unsafe { gvrs_cell(bytes, n, row, column, element, route, out.as_mut_ptr(), out.len() as u64) }
+}
+
+/// The number and all of `out`.
+pub fn content(file: &[u8], tile: u64, element: u64) -> (u32, [u64; 2]) {
+    let mut out = [UNWRITTEN; 2];
+    let number = content_into(file, tile, element, &mut out);
+    (number, out)
+}
+
+pub fn content_into(file: &[u8], tile: u64, element: u64, out: &mut [u64]) -> u32 {
+    let (bytes, n) = (file.as_ptr(), file.len() as u64);
+    // Both slices are alive for the whole call and do not overlap.
+    unsafe { gvrs_content(bytes, n, tile, element, out.as_mut_ptr(), out.len() as u64) }
+}
+
+/// What `out` holds before a call, so that a number left unwritten shows.
+const UNWRITTEN: u64 = 0xdead_beef_dead_beef;

@@ -1,6 +1,6 @@
 //! The identification block and the header record: refusals 1 to 5 (G Tables 6 to 12).
 
-use super::fields::{count_at, long_at, Reader};
+use super::fields::{count_at, integer_at, long_at, short_at, Reader};
 use super::geometry::{tile_bytes, tile_count};
 use super::names::{is_identifier, LONGEST_NAME};
 
@@ -39,6 +39,8 @@ pub struct Header {
 pub struct Element {
     pub type_code: u8,
     pub name: Vec<u8>,
+    /// The bits of the fill, as they are: 16 of a Short, else 32.
+    pub fill: u32,
 }
 
 impl Element {
@@ -136,14 +138,14 @@ fn element(reader: &mut Reader) -> Option<Element> {
     let type_code = reader.byte()?;
     let _continuous_and_reserved = reader.take(7)?;
     let name = reader.string()?;
-    let _range_and_fill = reader.take(range_block_length(type_code)?)?;
+    let fill = fill(type_code, reader.take(range_block_length(type_code)?)?)?;
     reader.fill_to_four()?;
     let _label = reader.string()?;
     let _description = reader.string()?;
     let _unit_of_measure = reader.string()?;
     reader.fill_to_four()?;
     let good = is_identifier(name, LONGEST_NAME);
-    good.then(|| Element { type_code, name: name.to_vec() })
+    good.then(|| Element { type_code, name: name.to_vec(), fill })
 }
 
 /// Document 01, stage 3: "each of a type of G's Table 2". Codes of G Table 8, lengths of G Tables 9
@@ -153,6 +155,16 @@ fn range_block_length(type_code: u8) -> Option<usize> {
         0 | 2 | 3 => Some(12),
         1 => Some(32),
         _ => None,
+    }
+}
+
+/// The fill of a range block (G Tables 9 to 12). An integer-coded element's is its integer fill, at
+/// 28 (reading 10).
+fn fill(type_code: u8, block: &[u8]) -> Option<u32> {
+    match type_code {
+        1 => integer_at(block, 28),
+        3 => short_at(block, 8).map(u32::from),
+        _ => integer_at(block, 8),
     }
 }
 

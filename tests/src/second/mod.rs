@@ -1,6 +1,7 @@
 //! The second implementation: one file a subject, one function a rule.
 
 pub mod bodies;
+pub mod cells;
 pub mod chain;
 pub mod check;
 pub mod checksums;

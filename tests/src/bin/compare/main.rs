@@ -13,6 +13,7 @@ mod hostile;
 mod lengths;
 mod made;
 mod out;
+mod reads;
 mod run;
 mod sample_sums;
 
@@ -47,7 +48,7 @@ fn main() -> ExitCode {
 
 /// Every section. Each has a generator of its own, so that one can change without the others.
 fn whole_run(seed: u64, small: bool) -> bool {
-    let sections: [fn(&mut Run, &mut Prng); 8] = [
+    let sections: [fn(&mut Run, &mut Prng); 9] = [
         sample_sums::section,
         made::section,
         allowed::section,
@@ -56,6 +57,7 @@ fn whole_run(seed: u64, small: bool) -> bool {
         bytes_changed::section,
         hostile::section,
         out::section,
+        reads::section,
     ];
     let mut run = Run::new(small);
     for (number, section) in sections.into_iter().enumerate() {

@@ -6,6 +6,8 @@ use std::path::PathBuf;
 use gvrs_tests::library;
 use gvrs_tests::second::check::{check, Answer};
 
+use crate::reads::tally::Tally;
+
 /// Faults printed in full and files kept; the rest is only counted.
 const MOST_SHOWN: usize = 20;
 
@@ -18,6 +20,7 @@ pub struct Run {
     aims: Vec<AimTally>,
     allowances: Vec<(&'static str, usize)>,
     pairs: Vec<PairTally>,
+    pub reads: Tally,
     faults: usize,
 }
 
@@ -43,6 +46,7 @@ impl Run {
             aims: Vec::new(),
             allowances: Vec::new(),
             pairs: Vec::new(),
+            reads: Tally::new(),
             faults: 0,
         }
     }
@@ -152,6 +156,7 @@ impl Run {
             println!("  {}  {:6}  {}", aim.stage, aim.hit, aim.sentence);
         }
         self.report_pairs();
+        self.reads.report();
         if !self.small {
             self.missed();
         }
@@ -195,6 +200,10 @@ impl Run {
         }
         if self.pairs.len() != 36 {
             println!("FAULT: {} pairs of stages of 36", self.pairs.len());
+            self.faults += 1;
+        }
+        for thing in self.reads.missed() {
+            println!("FAULT: reads: never or wrongly reached: {thing}");
             self.faults += 1;
         }
     }

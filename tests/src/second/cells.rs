@@ -1,0 +1,190 @@
+//! Cells and contents of elements (document 01, 'Finding a cell'), by their meaning: the records
+//! alone decide, and no directory is looked into.
+
+use super::chain::{Record, TILE};
+use super::check::{stages_1_to_8, stages_1_to_9, Answer, Passed};
+use super::fields::{integer_at, short_at};
+use super::geometry::{tile_count, tiles_across, uncompressed_size};
+use super::header::{Element, Header};
+
+/// A cell is a row, a column and an element number.
+#[derive(Clone, Copy, Debug, PartialEq)]
+pub struct Spot {
+    pub row: u64,
+    pub column: u64,
+    pub element: u64,
+}
+
+/// The answer of a cell read. Bits are 16 for a Short, else 32.
+#[derive(Clone, Copy, Debug, PartialEq)]
+pub enum Cell {
+    Stored { type_code: u8, bits: u32, place: u64 },
+    Fill { type_code: u8, bits: u32 },
+    Refused(Answer),
+}
+
+/// The answer for the content of one element in one tile.
+#[derive(Clone, Copy, Debug, PartialEq)]
+pub enum Content {
+    Present { start: u64, length: u64 },
+    Absent,
+    Refused(Answer),
+}
+
+pub const STORED: u32 = 32;
+pub const FILL: u32 = 33;
+
+impl Cell {
+    /// As `gvrs_cell` gives it.
+    pub fn as_numbers(&self) -> (u32, [u64; 3]) {
+        match *self {
+            Cell::Stored { type_code, bits, place } => {
+                (STORED, [u64::from(type_code), u64::from(bits), place])
+            }
+            Cell::Fill { type_code, bits } => (FILL, [u64::from(type_code), u64::from(bits), 0]),
+            Cell::Refused((number, place)) => (number, [0, 0, place]),
+        }
+    }
+}
+
+impl Content {
+    /// As `gvrs_content` gives it.
+    pub fn as_numbers(&self) -> (u32, [u64; 2]) {
+        match *self {
+            Content::Present { start, length } => (STORED, [start, length]),
+            Content::Absent => (FILL, [0, 0]),
+            Content::Refused((number, place)) => (number, [place, 0]),
+        }
+    }
+}
+
+/// What reads start from: the records, or the refusal that comes before everything else.
+pub struct Opened<'a> {
+    file: &'a [u8],
+    passed: Result<Passed<'a>, Answer>,
+}
+
+impl<'a> Opened<'a> {
+    /// Document 01: "A cell read answers with the check's refusal if there is one".
+    pub fn checked(file: &'a [u8]) -> Opened<'a> {
+        Opened { file, passed: stages_1_to_9(file) }
+    }
+
+    /// Document 01: without stage 9 "its refusal of the check is then that of stages 1 to 8".
+    pub fn without_stage_9(file: &'a [u8]) -> Opened<'a> {
+        Opened { file, passed: stages_1_to_8(file) }
+    }
+
+    pub fn cell(&self, spot: Spot) -> Cell {
+        match &self.passed {
+            Ok(passed) => cell(self.file, passed, spot),
+            Err(refusal) => Cell::Refused(*refusal),
+        }
+    }
+
+    pub fn content(&self, tile: u64, element: u64) -> Content {
+        match &self.passed {
+            Ok(passed) => content(passed, tile, element),
+            Err(refusal) => Content::Refused(*refusal),
+        }
+    }
+}
+
+/// Document 01: "Outside the grid it is 10, place 0. If no record after the header is a tile record
+/// with the cell's tile index, it is fill [..] Otherwise the record that is one decides."
+fn cell(file: &[u8], passed: &Passed, spot: Spot) -> Cell {
+    let header = &passed.header;
+    let Some(element) = element(header, spot.element) else {
+        return Cell::Refused((10, 0));
+    };
+    if spot.row >= header.grid_rows || spot.column >= header.grid_columns {
+        return Cell::Refused((10, 0));
+    }
+    let type_code = element.type_code;
+    let Some(record) = tile_record(passed, tile_of(header, spot)) else {
+        return Cell::Fill { type_code, bits: element.fill };
+    };
+    let part = part_of(header, record, spot.element as usize);
+    if is_compressed(header, element, &part) {
+        return Cell::Refused((11, record.start as u64));
+    }
+    let place = part.start as u64 + number_inside(header, spot) * element.cell_size();
+    Cell::Stored { type_code, bits: bits_at(file, element, place as usize), place }
+}
+
+/// Document 01: "The uncompressed content of one element, by tile index and element number [..]
+/// refused as a cell read is". Its U bytes, without padding (reading 21).
+fn content(passed: &Passed, tile: u64, element_number: u64) -> Content {
+    let header = &passed.header;
+    let Some(element) = element(header, element_number) else {
+        return Content::Refused((10, 0));
+    };
+    if tile >= tile_count(header) {
+        return Content::Refused((10, 0));
+    }
+    let Some(record) = tile_record(passed, tile) else {
+        return Content::Absent;
+    };
+    let part = part_of(header, record, element_number as usize);
+    if is_compressed(header, element, &part) {
+        return Content::Refused((11, record.start as u64));
+    }
+    Content::Present { start: part.start as u64, length: part.length as u64 }
+}
+
+fn element(header: &Header, number: u64) -> Option<&Element> {
+    header.elements.get(usize::try_from(number).ok()?)
+}
+
+/// Document 01: "Cell (r, c) is in tile (r / tile rows) × across + (c / tile columns)."
+fn tile_of(header: &Header, spot: Spot) -> u64 {
+    spot.row / header.tile_rows * tiles_across(header) + spot.column / header.tile_columns
+}
+
+/// Document 01: "Its number inside is (r mod tile rows) × tile columns + (c mod tile columns)."
+fn number_inside(header: &Header, spot: Spot) -> u64 {
+    spot.row % header.tile_rows * header.tile_columns + spot.column % header.tile_columns
+}
+
+/// The first tile record with that index (reading 19). An accepted file has no second.
+fn tile_record<'r, 'a>(passed: &'r Passed<'a>, index: u64) -> Option<&'r Record<'a>> {
+    let carries_index = |record: &&Record| {
+        record.record_type == TILE && record.reader().count() == Some(index as usize)
+    };
+    passed.records.iter().find(carries_index)
+}
+
+/// What a tile record stores of one element: the position of its L bytes in the file, and L.
+struct Part {
+    start: usize,
+    length: usize,
+}
+
+/// Document 01: content begins 4 bytes after the start of its length field; the next length stands
+/// behind 0 to 3 bytes of padding. Stage 8 has passed, so every field is there.
+fn part_of(header: &Header, record: &Record, element: usize) -> Part {
+    let mut reader = record.reader();
+    let mut part = Part { start: 0, length: 0 };
+    reader.integer().expect("a tile index");
+    for _ in &header.elements[..=element] {
+        part.length = reader.count().expect("a length");
+        part.start = record.start + reader.at();
+        reader.take(part.length).expect("L bytes");
+        reader.fill_to_four().expect("padding");
+    }
+    part
+}
+
+/// Document 01: "L equal to U means uncompressed, less means compressed."
+fn is_compressed(header: &Header, element: &Element, part: &Part) -> bool {
+    (part.length as u128) < uncompressed_size(header, element.cell_size())
+}
+
+/// Document 01: "the 2 or 4 bytes from there are its bytes and give its bits", little-endian.
+fn bits_at(file: &[u8], element: &Element, place: usize) -> u32 {
+    let bits = match element.cell_size() {
+        2 => short_at(file, place).map(u32::from),
+        _ => integer_at(file, place),
+    };
+    bits.expect("a stored cell lies inside its record")
+}
