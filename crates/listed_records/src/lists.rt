@@ -1,8 +1,8 @@
 // Stage 9: the records that a list names, each once, and metadata records with the same name and ID.
 use crate::Listing;
-use crate::Want;
 use crate::file_space;
 use crate::metadata;
+use directory::entries;
 use directory::references;
 use header::fields;
 use record::Cursor;
@@ -14,10 +14,10 @@ ghost use Prim.Native.Nat.{_+_, _≤_, _<_};
 ghost use lib.ListN.{length};
 ghost use Rattle.header.specs.Fields.{headerEnd};
 ghost use Rattle.record.specs.Chain.{firstRecord};
-ghost use Rattle.directory.specs.Lists.{oneIf, countBelow};
 ghost use Rattle.listed_records.specs.Listed.{listedOnce};
 ghost use Rattle.listed_records.specs.Metadata.{keysDistinct};
-ghost use Rattle.listed_records.specs.Search.{listedKind, listCount, listFits, listEntryAt, listEntryOf, listEntryIs, listEntrySize, listRight, twinOf, hasTwin, wants, askable};
+ghost use Rattle.listed_records.specs.Search.{listedKind, listCount, listFits, listEntryAt, listEntryOf, listEntryIs, listEntrySize, listRight, twinOf, hasTwin, repeats};
+ghost use Rattle.listed_records.specs.Windows.{namedBy, slotOf, oneMore, noted, tallied, awryIn, windowRight};
 
 // The type of the records that a list is of.
 fn listed_kind(list: Listing) -> u32
@@ -81,32 +81,168 @@ fn entry_of(s: &[u8], list: Listing, x: usize, p: usize) -> bool
     }
 }
 
-// 1 where it is, else 0.
-fn listed_at(s: &[u8], list: Listing, x: usize, p: usize) -> u32
-    ensures is { λ r. ⌜ r ≡ oneIf (listEntryOf (now (s .entry)) list x p) ⌝ }
-    ensures small { λ r. ⌜ r ≤ 1 ⌝ }
+// The start of the record that the entry at a position names.
+fn named_by(s: &[u8], list: Listing, p: usize) -> usize
+    ensures { λ r. ⌜ r ≡ namedBy (now (s .entry)) list p ⌝ }
 {
-    if entry_of(s, list, x, p) {
-        return 1;
+    match list {
+        Listing::FreeSpace => wire::u64_at(s, p) as usize,
+        Listing::Metadata => entries::record_of(wire::u64_at(s, p)),
     }
-    0
 }
 
-// How many entries are those of the record at a position.
-fn times_listed(s: &[u8], list: Listing, x: usize) -> u32
+// Which of a window's counts the entry at a position adds to: that of the record that it is of, or 65536, which is none.
+fn slot_of(s: &[u8], list: Listing, base: usize, p: usize) -> usize
+    ensures { λ r. ⌜ r ≡ slotOf (now (s .entry)) list base p ⌝ }
+{
+    let x = named_by(s, list, p);
+    if x < base {
+        return 65536;
+    }
+    let d = x - base;
+    if 524287 < d {
+        return 65536;
+    }
+    if d % 8 != 0 {
+        return 65536;
+    }
+    if entry_of(s, list, x, p) {
+        return d / 8;
+    }
+    65536
+}
+
+// One more, up to 2.
+fn one_more(count: u8) -> u8
+    ensures { λ r. ⌜ r ≡ oneMore count ⌝ }
+{
+    if count < 2 {
+        return count + 1;
+    }
+    2
+}
+
+// One more at a place; past the end nothing.
+fn note(counts: &mut [u8], j: usize)
+    ensures { λ _. ⌜ now (counts .exit) ≡ noted (now (counts .entry)) j ⌝ }
+{
+    if j < counts.len() {
+        counts[j] = one_more(counts[j]);
+    }
+}
+
+// Every entry of the list, added to a window's counts.
+fn tally(s: &[u8], list: Listing, base: usize, counts: &mut [u8])
     requires { ⌜ listFits (now s) list ≡ true ⌝ }
-    ensures { λ r. ⌜ r ≡ countBelow (listCount (now (s .entry)) list) (listEntryIs (now (s .entry)) list x) ⌝ }
+    ensures { λ _. ⌜ now (counts .exit) ≡ tallied (now (s .entry)) list base (now (counts .entry)) (listCount (now (s .entry)) list) ⌝ }
 {
     let n = list_count(s, list);
     let mut p = first_entry(s, list);
     let mut k = 0;
-    let mut found = 0;
     while k < n {
-        found += listed_at(s, list, x, p);
+        let j = slot_of(s, list, base, p);
+        note(counts, j);
         p += entry_size(s, list, p);
         k += 1;
     }
-    found
+}
+
+// Whether a record is of the list's type, in the window and not counted once.
+fn is_awry(s: &[u8], list: Listing, base: usize, counts: &[u8], at: usize) -> bool
+    ensures { λ r. ⌜ r ≡ awryIn (now (s .entry)) list base (now (counts .entry)) at ⌝ }
+{
+    if wire::byte_off(s, at, 4) != listed_kind(list) {
+        return false;
+    }
+    if at < base {
+        return false;
+    }
+    let j = (at - base) / 8;
+    if j < counts.len() {
+        if counts[j] == 1 {
+            return false;
+        }
+        return true;
+    }
+    false
+}
+
+// The first such record.
+fn find_awry(s: &[u8], list: Listing, base: usize, counts: &[u8]) -> Found
+    ensures { λ r. ⌜ r ≡ firstRecord (now (s .entry)) (headerEnd (now (s .entry))) (awryIn (now (s .entry)) list base (now (counts .entry))) ⌝ }
+{
+    let mut c = Cursor {
+        at: fields::header_end(s),
+    };
+    loop {
+        match c.step(s) {
+            Step::Record {
+                kind: _,
+                start,
+                length: _,
+                next,
+            } => {
+                if is_awry(s, list, base, counts, start) {
+                    return Found::At(start);
+                }
+                c = next;
+            }
+            Step::Bad => {
+                let start = c.at;
+                if is_awry(s, list, base, counts, start) {
+                    return Found::At(start);
+                }
+                return Found::Nothing;
+            }
+            Step::End => {
+                return Found::Nothing;
+            }
+        }
+    }
+}
+
+// Every record of the list's type that starts in the window is listed once.
+fn window_right(s: &[u8], list: Listing, base: usize) -> bool
+    requires { ⌜ listFits (now s) list ≡ true ⌝ }
+    ensures { λ r. ⌜ r ≡ windowRight (now (s .entry)) list base ⌝ }
+{
+    let mut counts = [0u8; 65536];
+    tally(s, list, base, &mut counts);
+    if let Found::At(_) = find_awry(s, list, base, &counts) {
+        return false;
+    }
+    true
+}
+
+// Every record of the list's type is listed once. The file is judged a window at a time.
+fn listed_once(s: &[u8], list: Listing) -> bool
+    requires { ⌜ listFits (now s) list ≡ true ⌝ }
+    ensures { λ r. ⌜ r ≡ listedOnce (now (s .entry)) (listedKind list) (listCount (now (s .entry)) list) (listEntryIs (now (s .entry)) list) ⌝ }
+{
+    let mut base = fields::header_end(s);
+    while base < s.len() {
+        if window_right(s, list, base) {
+            base += 524288;
+        } else {
+            return false;
+        }
+    }
+    true
+}
+
+// A list fits its record, and names every record of its type once and nothing else. Where every record is listed once, nothing
+// else is just where there are as many entries as records.
+pub fn list_right(s: &[u8], list: Listing) -> bool
+    ensures { λ r. ⌜ r ≡ listRight (now (s .entry)) list ⌝ }
+{
+    if list_fits(s, list) {
+        let records = references::record_count(s, listed_kind(list));
+        if list_count(s, list) as usize != records {
+            return false;
+        }
+        return listed_once(s, list);
+    }
+    false
 }
 
 // Whether the record at y is a metadata record other than the one at x and has its pair of name and ID.
@@ -166,23 +302,9 @@ fn has_twin(s: &[u8], x: usize) -> bool
     false
 }
 
-// Whether a record is of a list's type and not listed once.
-fn miscounted(s: &[u8], list: Listing, at: usize) -> bool
-    requires { ⌜ listFits (now s) list ≡ true ⌝ }
-    ensures { λ r. ⌜ r ≡ wants (now (s .entry)) (Want.Miscounted list) at ⌝ }
-{
-    if wire::byte_off(s, at, 4) != listed_kind(list) {
-        return false;
-    }
-    if times_listed(s, list, at) == 1 {
-        return false;
-    }
-    true
-}
-
 // Whether a metadata record's pair of name and ID is another's too.
 fn repeated(s: &[u8], at: usize) -> bool
-    ensures { λ r. ⌜ r ≡ wants (now (s .entry)) Want.Repeated at ⌝ }
+    ensures { λ r. ⌜ r ≡ repeats (now (s .entry)) at ⌝ }
 {
     if wire::byte_off(s, at, 4) != 1 {
         return false;
@@ -190,21 +312,9 @@ fn repeated(s: &[u8], at: usize) -> bool
     has_twin(s, at)
 }
 
-// Whether a record is what is looked for.
-fn is_wanted(s: &[u8], want: Want, at: usize) -> bool
-    requires { ⌜ askable (now s) want ≡ true ⌝ }
-    ensures { λ r. ⌜ r ≡ wants (now (s .entry)) want at ⌝ }
-{
-    match want {
-        Want::Miscounted { list } => miscounted(s, list, at),
-        Want::Repeated => repeated(s, at),
-    }
-}
-
-// The first record behind the header that is.
-fn find_record(s: &[u8], want: Want) -> Found
-    requires { ⌜ askable (now s) want ≡ true ⌝ }
-    ensures { λ r. ⌜ r ≡ firstRecord (now (s .entry)) (headerEnd (now (s .entry))) (wants (now (s .entry)) want) ⌝ }
+// The first record behind the header of which that is so.
+fn find_repeated(s: &[u8]) -> Found
+    ensures { λ r. ⌜ r ≡ firstRecord (now (s .entry)) (headerEnd (now (s .entry))) (repeats (now (s .entry))) ⌝ }
 {
     let mut c = Cursor {
         at: fields::header_end(s),
@@ -217,14 +327,14 @@ fn find_record(s: &[u8], want: Want) -> Found
                 length: _,
                 next,
             } => {
-                if is_wanted(s, want, start) {
+                if repeated(s, start) {
                     return Found::At(start);
                 }
                 c = next;
             }
             Step::Bad => {
                 let start = c.at;
-                if is_wanted(s, want, start) {
+                if repeated(s, start) {
                     return Found::At(start);
                 }
                 return Found::Nothing;
@@ -236,37 +346,11 @@ fn find_record(s: &[u8], want: Want) -> Found
     }
 }
 
-// Every record of a list's type is listed once.
-fn listed_once(s: &[u8], list: Listing) -> bool
-    requires { ⌜ listFits (now s) list ≡ true ⌝ }
-    ensures { λ r. ⌜ r ≡ listedOnce (now (s .entry)) (listedKind list) (listCount (now (s .entry)) list) (listEntryIs (now (s .entry)) list) ⌝ }
-{
-    if let Found::At(_) = find_record(s, Want::Miscounted { list }) {
-        return false;
-    }
-    true
-}
-
-// A list fits its record, and names every record of its type once and nothing else. Where every record is listed once, nothing
-// else is just where there are as many entries as records.
-pub fn list_right(s: &[u8], list: Listing) -> bool
-    ensures { λ r. ⌜ r ≡ listRight (now (s .entry)) list ⌝ }
-{
-    if list_fits(s, list) {
-        let records = references::record_count(s, listed_kind(list));
-        if list_count(s, list) as usize != records {
-            return false;
-        }
-        return listed_once(s, list);
-    }
-    false
-}
-
 // No two metadata records have the same pair of name and ID.
 pub fn keys_distinct(s: &[u8]) -> bool
     ensures { λ r. ⌜ r ≡ keysDistinct (now (s .entry)) ⌝ }
 {
-    if let Found::At(_) = find_record(s, Want::Repeated) {
+    if let Found::At(_) = find_repeated(s) {
         return false;
     }
     true
