@@ -4,6 +4,7 @@
 //!
 //! `--full` takes the lists in reverse order at 16 MiB too.
 
+mod look_up;
 mod shapes;
 
 use std::env;
@@ -47,6 +48,7 @@ fn main() -> ExitCode {
         measure("metadata in reverse", &shapes::metadata_in_reverse(length));
     }
     checksum_speed(with_checksums, without);
+    look_up::measure();
     ExitCode::SUCCESS
 }
 

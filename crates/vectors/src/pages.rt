@@ -35,11 +35,10 @@ fn put_page(file: &mut [u8]) {
 fn cell(file: &[u8], row: u64, column: u64, e: u64) {
     show::text(b"cell ");
     show::three(row, column, e);
-    show::cell(reads::read_by_directory(file, row, column, e));
-    show::cell(reads::read_by_walk(file, row, column, e));
-    show::cell(reads::read_by_records(file, row, column, e));
-    show::cell(reads::cell_of_accepted(file, row, column, e));
-    show::text(b"\n");
+    show::cell(reads::read_by_directory(file, row, column, e), b", ");
+    show::cell(reads::read_by_walk(file, row, column, e), b", ");
+    show::cell(reads::read_by_records(file, row, column, e), b", ");
+    show::cell(reads::cell_of_accepted(file, row, column, e), b"\n");
 }
 
 fn content(file: &[u8], tile: u64, e: u64) {

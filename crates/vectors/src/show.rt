@@ -60,8 +60,8 @@ pub fn records(s: &[u8], n: usize) {
     verdict(page_check::check_to_bodies(wire::part_of(s, 0, n)));
 }
 
-// A cell's kind, type code, bits and place.
-pub fn cell(x: answer::Cell) {
+// A cell's kind, type code, bits and place, and what ends it.
+pub fn cell(x: answer::Cell, end: &[u8]) {
     text(b"gives ");
     number(answer::cell_kind(x) as u64);
     text(b" type ");
@@ -70,7 +70,7 @@ pub fn cell(x: answer::Cell) {
     number(answer::cell_bits(x) as u64);
     text(b" at ");
     number(answer::cell_place(x) as u64);
-    text(b", ");
+    text(end);
 }
 
 // A content's kind, place and length.
