@@ -9,11 +9,12 @@ use lib.ListN.{length}
 use lib.Dec.{leb, eqb}
 use borrow.Author.Tests.{leb-true, leb-false, eqb-true, eqb-false, ne-eqb}
 use Rattle.wire.specs.Pick.{pick}
-use Rattle.wire.proofs.TestLaws.{means, yes, not-both}
+use Rattle.wire.proofs.TestLaws.{means, yes, fails, not-both}
 use Rattle.answer.specs.declared.Refusal.{Refusal}
-use Rattle.answer.specs.declared.Refusal.the-variants.{Directory, OutsideGrid}
+use Rattle.answer.specs.declared.Refusal.the-variants.{Compressed, Directory, OutsideGrid}
 use Rattle.answer.specs.declared.Verdict.{Verdict}
 use Rattle.answer.specs.declared.Verdict.the-variants.{Accepted, Refused}
+use Rattle.answer.specs.declared.Value.{Value}
 use Rattle.answer.specs.declared.Cell.{Cell}
 use Rattle.answer.specs.declared.Cell.the-variants as cell
 use Rattle.answer.specs.declared.Content.{Content}
@@ -27,9 +28,11 @@ use Rattle.record.specs.Record.{lengthAt, recordOk}
 use Rattle.record.specs.Chain.{starts, find, firstRecord}
 use Rattle.record.proofs.ChainLaws.{starts-end, starts-bad, starts-record, ok-means, whole-extent}
 use Rattle.geometry.specs.Tiles.{cellTile, tileCount}
+use Rattle.geometry.specs.Sizes.{elementBytes}
 use Rattle.check_header.specs.HeaderRecord.{sidesRight, headerRight}
 use Rattle.check_header.specs.Ceilings.{sidesWithin, withinCeilings}
 use Rattle.check_records.specs.Chain.{records}
+use Rattle.check_records.specs.TileBody.{sectionLength, elementContentAt}
 use Rattle.directory.specs.Lists.{recordsOf}
 use Rattle.directory.specs.TileDirectory.{tileReference}
 use Rattle.directory.specs.Correspondence.{TileRecord, OneToOne}
@@ -38,17 +41,17 @@ use Rattle.page_check.specs.Stages.{after, checkToBodies, check}
 use Rattle.page_check.specs.Accepted.{ObeysBy, Obeys}
 use Rattle.page_check.proofs.AcceptedLaws.{accepted-obeys, after-passed, headed-if}
 use Rattle.page_check.proofs.StageLaws.{bodies-then}
-use Rattle.page_check.proofs.GivenLaws.{obeys-one}
+use Rattle.page_check.proofs.GivenLaws.{obeys-one, obeys-tile}
 use Rattle.cells.specs.Asked.{inGrid, inTiles}
-use Rattle.cells.specs.TileCells.{carries, cellIn, fillOf, contentIn, sidesLawful, withinReach, cellWithin, contentWithin}
-use Rattle.cells.specs.Meaning.{meaning, contentMeaning}
+use Rattle.cells.specs.TileCells.{carries, packed, cellIn, fillOf, contentIn, sidesLawful, withinReach, cellWithin, contentWithin}
+use Rattle.cells.specs.Meaning.{recordsWith, meaning, contentMeaning}
 use Rattle.cells.specs.DirectoryRoute.{referredCell, directoryCell, referredContent, directoryContent, lookedInside, lookedUp, lookedUpContent}
 use Rattle.cells.specs.Walk.{walkedTo, found, walkCell}
-use Rattle.cells.specs.Reads.{unlessRefused, contentUnless, readByDirectory, readByWalk, readByRecords, readMeaning, readContent}
-use Rattle.cells.specs.Demand3.{OneAnswer, Demand3}
+use Rattle.cells.specs.Reads.{unlessRefused, contentUnless, readByDirectory, readByWalk, readByRecords, readMeaning, recordsMeaning, readContent}
+use Rattle.cells.specs.Demand3.{bytesOfCell, OneAnswer, Demand3, ContentInside}
 use Rattle.cells.proofs.CellLaws.{sides-mean, reach-is, grid-means, tiles-mean}
 use Rattle.cells.proofs.RouteLaws.{walk-means, directory-means, content-means, tile-less}
-use Rattle.cells.proofs.ApartLaws.{cells-apart}
+use Rattle.cells.proofs.ApartLaws.{content-extent, carries-tile, stored-as, cell-extent, cells-apart}
 
 -- what a look-up answers, by its tests
 
@@ -290,13 +293,58 @@ unfolding readByRecords unlessRefused
 records-mean s row column e a = rw (bodies-passed s a) (walk-means s row column e)
 
 module _ (s : List ℕ) (v : Verdict) (p : v ≡ checkToBodies s) (row column e : ℕ) where
-  pub records-refused : (x : Refusal) → v ≡ Refused x → (cell.Refused x ≡ readByRecords s row column e) × (check s ≡ Accepted → cell.Refused x ≡ meaning s row column e)
-  unfolding readByRecords unlessRefused
-  records-refused x f = let r : cell.Refused x ≡ unlessRefused (checkToBodies s) (walkCell s row column e) = rw (← p, f) in (r, (λ a. r ∙ records-mean s row column e a))
+  pub records-refused : (x : Refusal) → v ≡ Refused x → (cell.Refused x ≡ readByRecords s row column e) × (cell.Refused x ≡ recordsMeaning s row column e)
+  unfolding readByRecords recordsMeaning unlessRefused
+  records-refused x f = (rw (← p, f), rw (← p, f))
 
-  pub records-answer : (x : Cell) → v ≡ Accepted → x ≡ walkCell s row column e → (x ≡ readByRecords s row column e) × (check s ≡ Accepted → x ≡ meaning s row column e)
-  unfolding readByRecords unlessRefused
-  records-answer x f g = let r : x ≡ unlessRefused (checkToBodies s) (walkCell s row column e) = rw (← p, f) g in (r, (λ a. r ∙ records-mean s row column e a))
+  pub records-answer : (x : Cell) → v ≡ Accepted → x ≡ walkCell s row column e → (x ≡ readByRecords s row column e) × (x ≡ recordsMeaning s row column e)
+  unfolding readByRecords recordsMeaning unlessRefused
+  records-answer x f g = (rw (← p, f) g, rw (← p, f) (g ∙ walk-means s row column e))
+
+-- what is stored lies in the file
+
+stored-inside : (s : List ℕ) → Obeys s → (row column e place : ℕ) (v : Value) → meaning s row column e ≡ cell.Stored v place → place + bytesOfCell s e ≤ length s
+stored-inside s o row column e place v q =
+    let c = stored-as s row column e place v q in
+    let x = cell-extent s o row column e place c in
+    let w = whole-extent s (headerEnd s) (records s) (o .chain) (of-type s 2 (c .among) .0) in
+    omega (arith, x .inside, w .inside)
+
+-- where it is not packed, L is not below U
+whole-long : (s : List ℕ) (x e : ℕ) → packed s x e ≡ false → elementBytes s e ≤ sectionLength s x e
+unfolding packed
+whole-long s x e f = by-not (sectionLength s x e) (elementBytes s e) (λ h. fails _ f (h, tt))
+  where
+    by-not : (a b : ℕ) → (a + 1 ≤ b → ⊥) → b ≤ a
+    by-not a b k = omega (arith, k)
+
+present-in : (s : List ℕ) (x e at n : ℕ) → contentIn s x e ≡ content.Present at n → (packed s x e ≡ false) × ((at ≡ elementContentAt s x e) × (n ≡ elementBytes s e))
+unfolding contentIn
+present-in s x e at n q = go (packed s x e) refl q
+  where
+    go :
+        (b : Bool) → packed s x e ≡ b → pick b (content.Refused (Compressed x)) (content.Present (elementContentAt s x e) (elementBytes s e)) ≡ content.Present at n →
+        (packed s x e ≡ false) × ((at ≡ elementContentAt s x e) × (n ≡ elementBytes s e))
+    go true f g = let z : _≡_ {A = ℕ} 0 1 = cc in absurd (omega arith)
+    go false f g = (f, (cc, cc))
+
+pub content-inside : ContentInside
+unfolding contentMeaning
+content-inside s a tile e at n q = go (inTiles s tile e) refl (recordsWith s tile) refl
+  where
+    o : Obeys s
+    o = accepted-obeys s a
+
+    go : (b : Bool) → inTiles s tile e ≡ b → (l : List ℕ) → recordsWith s tile ≡ l → at + n ≤ length s
+    go false f l g = let h : content.Refused OutsideGrid ≡ content.Present at n = rw f at q in let z : _≡_ {A = ℕ} 0 1 = cc in absurd (omega arith)
+    go true f [] g = let h : content.Absent ≡ content.Present at n = rw (f, g) at q in let z : _≡_ {A = ℕ} 0 1 = cc in absurd (omega arith)
+    go true f (x ∷ xs) g =
+        let m : List·Memᴰ x (recordsWith s tile) = rw g (List·Memᴰ·head refl) in
+        let t = carries-tile s tile m in
+        let p = present-in s x e at n (rw (f, g) at q) in
+        let c = content-extent s x e (obeys-tile s o (t .0)) (tiles-mean s tile e f .1) in
+        let w = whole-extent s (headerEnd s) (records s) (o .chain) (of-type s 2 (t .0) .0) in
+        omega (arith, p .1 .0, p .1 .1, whole-long s x e (p .0), c .next, c .inside, w .inside)
 
 -- demand 3
 
@@ -308,6 +356,7 @@ demand-3 s a =
       by-directory = λ row column e. rw a (routes-one s o row column e);
       by-walk = λ row column e. rw a (walk-means s row column e);
       by-records = λ row column e. records-mean s row column e a;
+      inside = stored-inside s o;
       apart = cells-apart s o;
     }
 

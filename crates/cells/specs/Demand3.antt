@@ -4,12 +4,14 @@ use Prim.Native.Nat.{ℕ, _+_, _≤_}
 use mathlib.Core.Path.{_≡_}
 use mathlib.Core.List.{List}
 use mathlib.Core.Logic.{_⊎_}
+use lib.ListN.{length}
 use Rattle.answer.specs.declared.Value.{Value}
 use Rattle.answer.specs.declared.Verdict.the-variants.{Accepted}
 use Rattle.answer.specs.declared.Cell.the-variants.{Stored}
+use Rattle.answer.specs.declared.Content.the-variants.{Present}
 use Rattle.header.specs.Element.{cellSize, element}
 use Rattle.page_check.specs.Stages.{check}
-use Rattle.cells.specs.Meaning.{meaning}
+use Rattle.cells.specs.Meaning.{meaning, contentMeaning}
 use Rattle.cells.specs.Reads.{readByDirectory, readByWalk, readByRecords}
 
 -- the bytes of a stored cell of element e
@@ -20,6 +22,8 @@ pub record OneAnswer (s : List ℕ) : Type 0 where
   pub by-directory : (row column e : ℕ) → readByDirectory s row column e ≡ meaning s row column e
   pub by-walk : (row column e : ℕ) → readByWalk s row column e ≡ meaning s row column e
   pub by-records : (row column e : ℕ) → readByRecords s row column e ≡ meaning s row column e
+  -- a stored cell's bytes lie in the file
+  pub inside : (row column e place : ℕ) (v : Value) → meaning s row column e ≡ Stored v place → place + bytesOfCell s e ≤ length s
   -- two stored cells are one cell, or one ends before the other starts
   pub apart :
       (row column e place : ℕ) (v : Value) (row2 column2 e2 place2 : ℕ) (v2 : Value) →
@@ -29,3 +33,7 @@ pub record OneAnswer (s : List ℕ) : Type 0 where
 
 abbrev pub Demand3 : Type 0
 Demand3 = (s : List ℕ) → check s ≡ Accepted → OneAnswer s
+
+-- beside it, of an element's content: where it is present, its bytes lie in the file
+abbrev pub ContentInside : Type 0
+ContentInside = (s : List ℕ) → check s ≡ Accepted → (tile e at n : ℕ) → contentMeaning s tile e ≡ Present at n → at + n ≤ length s

@@ -35,6 +35,10 @@ readByRecords s row column e = unlessRefused (checkToBodies s) (walkCell s row c
 unfoldable pub readMeaning : List ℕ → ℕ → ℕ → ℕ → Cell
 readMeaning s row column e = unlessRefused (check s) (meaning s row column e)
 
+-- and of the walk without stage 9: the refusal of stages 1 to 8, or the meaning, which only the records decide
+unfoldable pub recordsMeaning : List ℕ → ℕ → ℕ → ℕ → Cell
+recordsMeaning s row column e = unlessRefused (checkToBodies s) (meaning s row column e)
+
 -- an element's content: where it starts and how long it is. As that part of the file itself it has `contentLength` bytes from
 -- `contentPlace` on, none where it is refused or absent
 unfoldable pub readContent : List ℕ → ℕ → ℕ → Content

@@ -58,10 +58,11 @@ contentIn s x e =
 unfoldable pub sidesLawful : List ℕ → Bool
 sidesLawful s = passes (is (sidesRight s) ∷ is (sidesWithin s) ∷ [])
 
--- the same where nothing was checked: 9 where no record can start at x, which an accepted file shows nowhere
+-- a record can start at x, in a file with such sides
 unfoldable pub withinReach : List ℕ → ℕ → Bool
 withinReach s x = passes ((x + 1 ≤? length s) ∷ is (sidesLawful s) ∷ [])
 
+-- the same where nothing was checked: 9 where no record can start at x, which an accepted file shows nowhere
 unfoldable pub cellWithin : List ℕ → ℕ → ℕ → ℕ → ℕ → Cell
 cellWithin s x row column e = pick (withinReach s x) (cellIn s x row column e) (cell.Refused refusal.Directory)
 

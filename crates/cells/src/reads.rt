@@ -24,7 +24,7 @@ ghost use Rattle.cells.specs.Meaning.{meaning};
 ghost use Rattle.cells.specs.TileCells.{sidesLawful};
 ghost use Rattle.cells.specs.DirectoryRoute.{lookedInside, lookedUp, lookedUpContent};
 ghost use Rattle.cells.specs.Walk.{walkedTo, found, walkCell};
-ghost use Rattle.cells.specs.Reads.{readByDirectory, readByWalk, readByRecords, readMeaning, readContent};
+ghost use Rattle.cells.specs.Reads.{readByDirectory, readByWalk, readByRecords, readMeaning, recordsMeaning, readContent};
 
 // What the directory gives for the tile of a cell of the grid.
 fn cell_reference(s: &[u8], row: u32, column: u32) -> u64
@@ -49,8 +49,8 @@ fn look_up(s: &[u8], row: u32, column: u32, e: u32) -> Cell
     Cell::Refused(Refusal::Directory)
 }
 
-// The cell by the directory, without the check. On an accepted file it is the cell's meaning; on other bytes it is only what
-// the directory's entries give.
+// The cell by the directory, without the check. On an accepted file it is the cell's meaning; on other bytes it is what the
+// directory's entries give, and 9 where no accepted file has such sides or such a reference.
 pub fn cell_of_accepted(s: &[u8], row: u64, column: u64, e: u64) -> Cell
     ensures looked { λ r. ⌜ r ≡ lookedUp (now (s .entry)) row column e ⌝ }
     ensures accepted { λ r. ⌜ (check (now (s .entry)) ≡ Accepted → r ≡ meaning (now (s .entry)) row column e) ⌝ }
@@ -107,7 +107,7 @@ pub fn read_by_walk(s: &[u8], row: u64, column: u64, e: u64) -> Cell
 // The read by the walk without stage 9: from the records alone, whatever the directories hold.
 pub fn read_by_records(s: &[u8], row: u64, column: u64, e: u64) -> Cell
     ensures route { λ r. ⌜ r ≡ readByRecords (now (s .entry)) row column e ⌝ }
-    ensures meaning { λ r. ⌜ (check (now (s .entry)) ≡ Accepted → r ≡ meaning (now (s .entry)) row column e) ⌝ }
+    ensures meaning { λ r. ⌜ r ≡ recordsMeaning (now (s .entry)) row column e ⌝ }
 {
     match page_check::check_to_bodies(s) {
         Verdict::Refused(r) => Cell::Refused(r),

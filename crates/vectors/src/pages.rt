@@ -5,12 +5,13 @@ use crate::show;
 use cells::reads;
 use wire::writing;
 
-// The tile record: length, type, index, L, and a Short at content byte 10.
+// The tile record: length, type, index, L, a Short at content byte 0 whose bits are the fill's, and one at 10.
 fn put_tile(file: &mut [u8]) {
     writing::put_u32(file, 344, 32);
     writing::put_byte(file, 348, 2);
     writing::put_u32(file, 352, 4);
     writing::put_u32(file, 356, 12);
+    writing::put_u16(file, 360, 7);
     writing::put_u16(file, 370, 0x1234);
 }
 
