@@ -1,4 +1,4 @@
--- The entries of a list, counted by the records that they are of, a window of the file at a time. A window has 262144 places, the
+-- The entries of a list, counted by the records that they are of, a window of the file at a time. A window has 131072 places, the
 -- first at its base, each eight bytes behind the one before it.
 use Prim.Native.Nat.{ℕ, zero, suc, _+_, _-_, _/_, _%_}
 use mathlib.Core.List.{List, [], _∷_}
@@ -19,12 +19,12 @@ unfoldable pub namedBy : List ℕ → Listing → ℕ → ℕ
 namedBy s FreeSpace p = u64At s p
 namedBy s Metadata p = u64At s p - 8
 
--- the entry at p is that of the record at x, which is a place of the window at base; the number of the place, or 262144
+-- the entry at p is that of the record at x, which is a place of the window at base; the number of the place, or 131072
 unfoldable pub entryIn : List ℕ → Listing → ℕ → ℕ → ℕ → Bool
-entryIn s l base p x = passes ((base ≤? x) ∷ ((x - base) ≤? 2097151) ∷ ((x - base) % 8 ≡? 0) ∷ is (listEntryOf s l x p) ∷ [])
+entryIn s l base p x = passes ((base ≤? x) ∷ ((x - base) ≤? 1048575) ∷ ((x - base) % 8 ≡? 0) ∷ is (listEntryOf s l x p) ∷ [])
 
 unfoldable pub slotOf : List ℕ → Listing → ℕ → ℕ → ℕ
-slotOf s l base p = pick (entryIn s l base p (namedBy s l p)) ((namedBy s l p - base) / 8) 262144
+slotOf s l base p = pick (entryIn s l base p (namedBy s l p)) ((namedBy s l p - base) / 8) 131072
 
 -- a count goes no further than 2
 unfoldable pub oneMore : ℕ → ℕ
@@ -48,7 +48,7 @@ awryIn s l base cs x = passes ((typeAt s x ≡? listedKind l) ∷ is (oddIn base
 
 -- the counts of the window at base, whole
 unfoldable pub windowCounts : List ℕ → Listing → ℕ → List ℕ
-windowCounts s l base = tallied s l base (replicate 262144 0) (listCount s l)
+windowCounts s l base = tallied s l base (replicate 131072 0) (listCount s l)
 
 -- no record of the list's type is one
 unfoldable pub windowRight : List ℕ → Listing → ℕ → Bool

@@ -94,25 +94,25 @@ fn named_by(s: &[u8], list: Listing, p: usize) -> usize
     }
 }
 
-// Which of a window's counts the entry at a position adds to: that of the record that it is of, or 262144, which is none.
+// Which of a window's counts the entry at a position adds to: that of the record that it is of, or 131072, which is none.
 fn slot_of(s: &[u8], list: Listing, base: usize, p: usize) -> usize
     ensures { λ r. ⌜ r ≡ slotOf (now (s .entry)) list base p ⌝ }
 {
     let x = named_by(s, list, p);
     if x < base {
-        return 262144;
+        return 131072;
     }
     let d = x - base;
-    if 2097151 < d {
-        return 262144;
+    if 1048575 < d {
+        return 131072;
     }
     if d % 8 != 0 {
-        return 262144;
+        return 131072;
     }
     if entry_of(s, list, x, p) {
         return d / 8;
     }
-    262144
+    131072
 }
 
 // One more, up to 2.
@@ -209,7 +209,7 @@ fn window_right(s: &[u8], list: Listing, base: usize) -> bool
     requires { ⌜ listFits (now s) list ≡ true ⌝ }
     ensures { λ r. ⌜ r ≡ windowRight (now (s .entry)) list base ⌝ }
 {
-    let mut counts = [0u8; 262144];
+    let mut counts = [0u8; 131072];
     tally(s, list, base, &mut counts);
     if let Found::At(_) = find_awry(s, list, base, &counts) {
         return false;
@@ -225,7 +225,7 @@ fn listed_once(s: &[u8], list: Listing) -> bool
     let mut base = fields::header_end(s);
     while base < s.len() {
         if window_right(s, list, base) {
-            base += 2097152;
+            base += 1048576;
         } else {
             return false;
         }
@@ -317,19 +317,19 @@ fn key_hash(s: &[u8], x: usize) -> u64
     (name as u64) + (id as u64) * 2654435761
 }
 
-// The place of a metadata record of a part of the hashes; 262144 where it is of another part, or of another type.
+// The place of a metadata record of a part of the hashes; 131072 where it is of another part, or of another type.
 fn key_slot(s: &[u8], parts: u64, part: u64, x: usize) -> usize
     requires { ⌜ 0 < parts ⌝ }
     ensures { λ r. ⌜ r ≡ keySlot (now (s .entry)) parts part x ⌝ }
 {
     if wire::byte_off(s, x, 4) != 1 {
-        return 262144;
+        return 131072;
     }
     let h = key_hash(s, x);
     if h % parts != part {
-        return 262144;
+        return 131072;
     }
-    (h / parts % 262144) as usize
+    (h / parts % 131072) as usize
 }
 
 // A record takes its place. It is the first there, or no other has its pair.
@@ -391,7 +391,7 @@ fn part_distinct(s: &[u8], parts: u64, part: u64) -> bool
     requires { ⌜ 0 < parts ⌝ }
     ensures { λ r. ⌜ r ≡ partDistinct (now (s .entry)) parts part ⌝ }
 {
-    let mut seen = [0u8; 262144];
+    let mut seen = [0u8; 131072];
     all_fine(s, parts, part, &mut seen)
 }
 
