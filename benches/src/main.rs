@@ -4,6 +4,7 @@
 //!
 //! `--full` takes the lists in reverse order at 16 MiB too.
 
+mod look_up;
 mod reads;
 mod shapes;
 
@@ -49,6 +50,7 @@ fn main() -> ExitCode {
     }
     checksum_speed(with_checksums, without);
     reads::measure();
+    look_up::measure();
     ExitCode::SUCCESS
 }
 

@@ -21,9 +21,15 @@ pub fn few_large_tiles(checksums: bool) -> Vec<u8> {
 
 /// As many tiles as there may be, 65,536, of 56 Integer cells each.
 pub fn many_small_tiles(checksums: bool) -> Vec<u8> {
-    let mut page = Page::of_sides([256 * 7, 256 * 8], [7, 8]);
+    small_tiles(256, checksums)
+}
+
+/// So many rows of 256 such tiles.
+pub fn small_tiles(rows: u64, checksums: bool) -> Vec<u8> {
+    let rows = rows as u32;
+    let mut page = Page::of_sides([rows * 7, 256 * 8], [7, 8]);
     page.checksums = checksums;
-    for index in 0..65_536 {
+    for index in 0..rows * 256 {
         page.records.push(tile(index, 224));
     }
     bytes_of(&page)

@@ -1,26 +1,65 @@
--- A number written at the front of a list. Assumes nothing.
-use Prim.Native.Nat.{ℕ, _≤_, _<_}
-use mathlib.Core.Path.{_≡_, refl, ap, _∙_}
+-- Numbers written at the front of a list, one after the other. Assumes nothing.
+use Prim.Native.Nat.{ℕ, _≤_}
+use mathlib.Core.Path.{_≡_, refl, sym, ap, _∙_}
 use mathlib.Core.List.{List, [], _∷_}
-use native.Mathlib.Omega.{arith}
 use lib.ListN.{length, set}
+use borrow.Author.Tests.{ne-eqb}
 use Rattle.answer.specs.declared.Verdict.{Verdict}
+use Rattle.answer.specs.declared.Cell.{Cell}
+use Rattle.answer.specs.declared.Content.{Content}
 use Rattle.answer.specs.Refusals.{verdictNumber, verdictPlace}
+use Rattle.answer.specs.Answers.{cellKind, cellType, cellBits, cellPlace, contentKind, contentPlace, contentLength}
 use Rattle.page_check.specs.Stages.{check}
+use Rattle.cells.specs.Reads.{readByDirectory, readByWalk, readByRecords, readContent}
 use Rattle.gvrs_c.specs.Report.{reported}
+use Rattle.gvrs_c.specs.Route.{readBy}
 
-pub report-in : (out : List ℕ) (v : ℕ) → 0 < length out → set out 0 v ≡ reported (v ∷ []) out
+one-reported : (out : List ℕ) (a : ℕ) → set out 0 a ≡ reported (a ∷ []) out
 unfolding reported
-report-in [] v h = absurd (omega arith)
-report-in (x ∷ xs) v h = refl
+one-reported [] a = refl
+one-reported (x ∷ xs) a = refl
 
-pub report-out : (out : List ℕ) (v : ℕ) → length out ≤ 0 → out ≡ reported (v ∷ []) out
+two-reported : (out : List ℕ) (a b : ℕ) → set (set out 0 a) 1 b ≡ reported (a ∷ b ∷ []) out
 unfolding reported
-report-out [] v h = refl
-report-out (x ∷ xs) v h = absurd (omega arith)
+two-reported [] a b = refl
+two-reported (x ∷ []) a b = refl
+two-reported (x ∷ y ∷ ys) a b = refl
 
--- a check's number and place, from the verdict that the functions below it answer
+three-reported : (out : List ℕ) (a b c : ℕ) → set (set (set out 0 a) 1 b) 2 c ≡ reported (a ∷ b ∷ c ∷ []) out
+unfolding reported
+three-reported [] a b c = refl
+three-reported (x ∷ []) a b c = refl
+three-reported (x ∷ y ∷ []) a b c = refl
+three-reported (x ∷ y ∷ z ∷ zs) a b c = refl
+
+-- a check's number and place, from what the functions below answer
 pub checked :
-    (s o p : List ℕ) (v : Verdict) (n m k : ℕ) → v ≡ check s → k ≡ verdictPlace v → m ≡ k → p ≡ reported (m ∷ []) o → n ≡ verdictNumber v →
+    (s o p : List ℕ) (v : Verdict) (n a : ℕ) → v ≡ check s → a ≡ verdictPlace v → p ≡ set o 0 a → n ≡ verdictNumber v →
     (n ≡ verdictNumber (check s)) × (p ≡ reported (verdictPlace (check s) ∷ []) o)
-checked s o p v n m k e a b c d = (d ∙ ap verdictNumber e, c ∙ rw (b, a, e))
+checked s o p v n a e f g h = (h ∙ ap verdictNumber e, g ∙ one-reported o a ∙ rw (f, e))
+
+-- a cell's, by a route
+
+module _ (s : List ℕ) (row column e route : ℕ) (r : Cell) where
+  pub by-walk : route ≡ 1 → r ≡ readByWalk s row column e → r ≡ readBy route s row column e
+  unfolding readBy
+  by-walk h q = rw h q
+
+  pub by-records : route ≡ 2 → r ≡ readByRecords s row column e → r ≡ readBy route s row column e
+  unfolding readBy
+  by-records h q = rw h q
+
+  pub by-directory : (route ≡ 1 → ⊥) → (route ≡ 2 → ⊥) → r ≡ readByDirectory s row column e → r ≡ readBy route s row column e
+  unfolding readBy
+  by-directory h k q = rw (ne-eqb route 1 h, ne-eqb route 2 k) q
+
+pub cell-told :
+    (o p q t : List ℕ) (x y : Cell) (n a b c : ℕ) → x ≡ y → a ≡ cellType x → p ≡ set o 0 a → b ≡ cellBits x → q ≡ set p 1 b → c ≡ cellPlace x →
+    t ≡ set q 2 c → n ≡ cellKind x → (n ≡ cellKind y) × (t ≡ reported (cellType y ∷ cellBits y ∷ cellPlace y ∷ []) o)
+cell-told o p q t x y n a b c e f g h i j k l = (l ∙ ap cellKind e, k ∙ rw (i, g) (three-reported o a b c ∙ rw (f, h, j, e)))
+
+-- an element's content
+pub content-told :
+    (o p q : List ℕ) (x y : Content) (n a b : ℕ) → x ≡ y → a ≡ contentPlace x → p ≡ set o 0 a → b ≡ contentLength x → q ≡ set p 1 b →
+    n ≡ contentKind x → (n ≡ contentKind y) × (q ≡ reported (contentPlace y ∷ contentLength y ∷ []) o)
+content-told o p q x y n a b e f g h i l = (l ∙ ap contentKind e, i ∙ rw g (two-reported o a b ∙ rw (f, h, e)))

@@ -1,16 +1,22 @@
 // The C interface: what a C program calls, declared in include/gvrs.h. A slice is a pointer and a count of elements.
+use answer::Cell;
+use cells::reads;
 ghost use mathlib.Core.Path.{_≡_};
 ghost use mathlib.Core.List.{[], _∷_};
+ghost use lib.ListN.{set};
 ghost use Rattle.answer.specs.Refusals.{verdictNumber, verdictPlace};
+ghost use Rattle.answer.specs.Answers.{cellKind, cellType, cellBits, cellPlace, contentKind, contentPlace, contentLength};
 ghost use Rattle.page_check.specs.Stages.{check};
+ghost use Rattle.cells.specs.Reads.{readContent};
 ghost use Rattle.gvrs_c.specs.Report.{reported};
+ghost use Rattle.gvrs_c.specs.Route.{readBy};
 
-// A number of an answer, at its place in `out`, if `out` is long enough.
-fn report(out: &mut [u64], v: u64)
-    ensures { λ _. ⌜ now (out .exit) ≡ reported (v ∷ []) (now (out .entry)) ⌝ }
+// A number of an answer at its place in `out`, if `out` is long enough.
+fn report(out: &mut [u64], k: usize, v: u64)
+    ensures { λ _. ⌜ now (out .exit) ≡ set (now (out .entry)) k v ⌝ }
 {
-    if 0 < out.len() {
-        out[0] = v;
+    if k < out.len() {
+        out[k] = v;
     }
 }
 
@@ -21,6 +27,52 @@ pub extern "C" fn gvrs_check(file: &[u8], out: &mut [u64]) -> u32
     ensures place { λ _. ⌜ now (out .exit) ≡ reported (verdictPlace (check (now (file .entry))) ∷ []) (now (out .entry)) ⌝ }
 {
     let verdict = page_check::check(file);
-    report(out, answer::verdict_place(verdict) as u64);
+    report(out, 0, answer::verdict_place(verdict) as u64);
     answer::verdict_number(verdict)
+}
+
+// A cell by a route: 1 the walk, 2 the walk without stage 9, every other number the directory.
+fn read_by(file: &[u8], row: u64, column: u64, element: u64, route: u32) -> Cell
+    ensures { λ r. ⌜ r ≡ readBy route (now (file .entry)) row column element ⌝ }
+{
+    if route == 1 {
+        return reads::read_by_walk(file, row, column, element);
+    }
+    if route == 2 {
+        return reads::read_by_records(file, row, column, element);
+    }
+    reads::read_by_directory(file, row, column, element)
+}
+
+// 32 where the cell is stored, 33 where it is fill, else the refusal's number; `out` takes the type code, the bits and the place.
+#[no_mangle]
+pub extern "C" fn gvrs_cell(
+    file: &[u8],
+    row: u64,
+    column: u64,
+    element: u64,
+    route: u32,
+    out: &mut [u64],
+) -> u32
+    ensures kind { λ r. ⌜ r ≡ cellKind (readBy route (now (file .entry)) row column element) ⌝ }
+    ensures value { λ _. ⌜ now (out .exit) ≡ reported (cellType (readBy route (now (file .entry)) row column element) ∷ cellBits (readBy route (now (file .entry)) row column element) ∷ cellPlace (readBy route (now (file .entry)) row column element) ∷ []) (now (out .entry)) ⌝ }
+{
+    let cell = read_by(file, row, column, element, route);
+    report(out, 0, answer::cell_type(cell) as u64);
+    report(out, 1, answer::cell_bits(cell) as u64);
+    report(out, 2, answer::cell_place(cell) as u64);
+    answer::cell_kind(cell)
+}
+
+// 32 where the content is present, 33 where the tile is absent, else the refusal's number; `out` takes the start or the
+// refusal's place, and the length.
+#[no_mangle]
+pub extern "C" fn gvrs_content(file: &[u8], tile: u64, element: u64, out: &mut [u64]) -> u32
+    ensures kind { λ r. ⌜ r ≡ contentKind (readContent (now (file .entry)) tile element) ⌝ }
+    ensures part { λ _. ⌜ now (out .exit) ≡ reported (contentPlace (readContent (now (file .entry)) tile element) ∷ contentLength (readContent (now (file .entry)) tile element) ∷ []) (now (out .entry)) ⌝ }
+{
+    let content = reads::content(file, tile, element);
+    report(out, 0, answer::content_place(content) as u64);
+    report(out, 1, answer::content_length(content) as u64);
+    answer::content_kind(content)
 }

@@ -1,30 +1,27 @@
 -- Rules over the records that a list names, by a search for a record that breaks them. Assumes nothing.
-use Prim.Native.Nat.{ℕ, _≤_}
+use Prim.Native.Nat.{ℕ}
 use mathlib.Core.Path.{_≡_, refl, sym, ap, _∙_}
 use mathlib.Core.List.{List, [], _∷_}
 use mathlib.Core.Bool.{Bool, true, false, not, _||_}
 use native.Mathlib.Omega.{arith}
 use lib.ListN.{length}
 use lib.Dec.{eqb}
-use borrow.Author.Tests.{eqb-true, eq-eqb, ne-eqb}
-use Rattle.wire.specs.Tests.{both, passes, allBelow}
-use Rattle.wire.proofs.TestLaws.{means, yes, no, not-both, either-way, below-each, below-all}
+use Rattle.wire.specs.Tests.{both, passes}
+use Rattle.wire.proofs.TestLaws.{no, not-both, either-way, below-each, below-all}
 use Rattle.header.specs.Fields.{headerEnd}
 use Rattle.record.specs.declared.Found.{Found}
 use Rattle.record.specs.declared.Found.the-variants.{At, Nothing}
 use Rattle.record.specs.Record.{typeAt}
-use Rattle.record.specs.Chain.{starts, find, firstRecord}
+use Rattle.record.specs.Chain.{starts, firstRecord}
 use Rattle.check_records.specs.Chain.{records}
-use Rattle.directory.specs.Lists.{select, every, some, countBelow, recordsOf}
-use Rattle.directory.proofs.SearchLaws.{isFound, some-found, every-found, type-is}
+use Rattle.directory.specs.Lists.{every, some, countBelow, recordsOf}
+use Rattle.directory.proofs.SearchLaws.{isFound, some-found}
 use Rattle.directory.proofs.CountLaws.{count-all, count-both, count-same, count-named}
 use Rattle.directory.proofs.OnlyLaws.{records-behind}
 use Rattle.listed_records.specs.declared.Listing.{Listing}
-use Rattle.listed_records.specs.declared.Want.{Want}
-use Rattle.listed_records.specs.declared.Want.the-variants.{Miscounted, Repeated}
 use Rattle.listed_records.specs.Listed.{listedOnce, nothingElse}
-use Rattle.listed_records.specs.Metadata.{sameKey, keysDistinct}
-use Rattle.listed_records.specs.Search.{listedKind, listCount, listFits, listEntryIs, twinOf, hasTwin, wants, askable, listRight}
+use Rattle.listed_records.specs.Metadata.{sameKey}
+use Rattle.listed_records.specs.Search.{listedKind, listCount, listFits, listEntryIs, twinOf, hasTwin, listRight}
 use Rattle.listed_records.proofs.ListLaws.{entry-alone}
 
 -- another record with the same name and ID
@@ -52,66 +49,6 @@ twin-yes s x y f p e = ap isFound (sym p) ∙ twin-found s x f e
 pub twin-no : (s : List ℕ) (x : ℕ) (f : Found) → f ≡ Nothing → f ≡ firstRecord s (headerEnd s) (twinOf s x) → false ≡ hasTwin s x
 twin-no s x f p e = ap isFound (sym p) ∙ twin-found s x f e
 
--- a record is what is looked for
-
-module _ (s : List ℕ) (l : Listing) (x k i : ℕ) (p : k ≡ typeAt s x) (q : i ≡ listedKind l) where
-  pub miscounted-type : (k ≡ i → ⊥) → false ≡ wants s (Miscounted l) x
-  unfolding wants
-  miscounted-type h = no _ (λ z. h (p ∙ z .0 ∙ sym q))
-
-  module _ (n : ℕ) (t : n ≡ countBelow (listCount s l) (listEntryIs s l x)) where
-    pub miscounted-yes : k ≡ i → (n ≡ 1 → ⊥) → true ≡ wants s (Miscounted l) x
-    unfolding wants
-    miscounted-yes h m = yes _ (sym p ∙ h ∙ q, ((λ z. m (t ∙ z)), tt))
-
-    pub miscounted-no : n ≡ 1 → false ≡ wants s (Miscounted l) x
-    unfolding wants
-    miscounted-no m = no _ (λ z. z .1 .0 (sym t ∙ m))
-
-module _ (s : List ℕ) (x k : ℕ) (p : k ≡ typeAt s x) where
-  pub repeated-type : (k ≡ 1 → ⊥) → false ≡ wants s Repeated x
-  unfolding wants
-  repeated-type h = no _ (λ z. h (p ∙ z .0))
-
-  pub repeated-is : (b : Bool) → k ≡ 1 → b ≡ hasTwin s x → b ≡ wants s Repeated x
-  unfolding wants
-  repeated-is b h e = either-way _ b (λ z. (sym p ∙ h, (sym e ∙ z, tt))) (λ z w. not-both (w .1 .0) (sym e ∙ z))
-
-pub wanted-miscounted : (s : List ℕ) (w : Want) (l : Listing) (x : ℕ) (b : Bool) → w ≡ Miscounted l → b ≡ wants s (Miscounted l) x → b ≡ wants s w x
-wanted-miscounted s w l x b p e = rw p e
-
-pub wanted-repeated : (s : List ℕ) (w : Want) (x : ℕ) (b : Bool) → w ≡ Repeated → b ≡ wants s Repeated x → b ≡ wants s w x
-wanted-repeated s w x b p e = rw p e
-
-pub ask-fits : (s : List ℕ) (w : Want) (l : Listing) → w ≡ Miscounted l → askable s w ≡ true → listFits s l ≡ true
-unfolding askable
-ask-fits s w l p e = rw p at e
-
-pub fits-ask : (s : List ℕ) (l : Listing) → listFits s l ≡ true → askable s (Miscounted l) ≡ true
-unfolding askable
-fits-ask s l e = e
-
-pub ask-repeated : (s : List ℕ) → askable s Repeated ≡ true
-unfolding askable
-ask-repeated s = refl
-
--- every record of the type is listed once
-
-once-found : (s : List ℕ) (l : Listing) (f : Found) → f ≡ firstRecord s (headerEnd s) (wants s (Miscounted l)) → not (isFound f) ≡ listedOnce s (listedKind l) (listCount s l) (listEntryIs s l)
-unfolding listedOnce recordsOf records firstRecord wants passes
-once-found s l f e =
-    ap (λ (g : Found). not (isFound g)) e
-    ∙ sym
-    (every-found (λ x. eqb (countBelow (listCount s l) (listEntryIs s l x)) 1) (λ x. eqb (typeAt s x) (listedKind l)) (wants s (Miscounted l))
-    (λ x. sym (type-is s (listedKind l) x (not (eqb (countBelow (listCount s l) (listEntryIs s l x)) 1)))) (starts s (headerEnd s)))
-
-module _ (s : List ℕ) (l : Listing) (f : Found) (e : f ≡ firstRecord s (headerEnd s) (wants s (Miscounted l))) where
-  pub once-not : (x : ℕ) → f ≡ At x → false ≡ listedOnce s (listedKind l) (listCount s l) (listEntryIs s l)
-  once-not x p = ap (λ (g : Found). not (isFound g)) (sym p) ∙ once-found s l f e
-
-  pub once-all : f ≡ Nothing → true ≡ listedOnce s (listedKind l) (listCount s l) (listEntryIs s l)
-  once-all p = ap (λ (g : Found). not (isFound g)) (sym p) ∙ once-found s l f e
-
 -- no two metadata records have the same name and ID
 
 some-not : (p q : ℕ → Bool) → ((x : ℕ) → p x ≡ not (q x)) → (l : List ℕ) → some p l ≡ not (every q l)
@@ -124,7 +61,7 @@ some-not p q e (x ∷ xs) = go (q x) refl (every q xs) (some-not p q e xs)
     go true f false r = rw (e x, f, r)
     go false f b r = rw (e x, f)
 
-twin-not : (s : List ℕ) (x : ℕ) → hasTwin s x ≡ not (every (λ y. eqb x y || not (sameKey s x y)) (recordsOf s 1))
+pub twin-not : (s : List ℕ) (x : ℕ) → hasTwin s x ≡ not (every (λ y. eqb x y || not (sameKey s x y)) (recordsOf s 1))
 unfolding hasTwin passes
 twin-not s x = some-not _ _ (λ y. go (eqb x y) (sameKey s x y)) (recordsOf s 1)
   where
@@ -132,21 +69,6 @@ twin-not s x = some-not _ _ (λ y. go (eqb x y) (sameKey s x y)) (recordsOf s 1)
     go true b = refl
     go false true = refl
     go false false = refl
-
-distinct-found : (s : List ℕ) (f : Found) → f ≡ firstRecord s (headerEnd s) (wants s Repeated) → not (isFound f) ≡ keysDistinct s
-unfolding keysDistinct recordsOf records firstRecord wants passes
-distinct-found s f e =
-    ap (λ (g : Found). not (isFound g)) e
-    ∙ sym
-    (every-found (λ x. every (λ y. eqb x y || not (sameKey s x y)) (recordsOf s 1)) (λ x. eqb (typeAt s x) 1) (wants s Repeated)
-    (λ x. rw (twin-not s x) (sym (type-is s 1 x (not (every (λ y. eqb x y || not (sameKey s x y)) (recordsOf s 1)))))) (starts s (headerEnd s)))
-
-module _ (s : List ℕ) (f : Found) (e : f ≡ firstRecord s (headerEnd s) (wants s Repeated)) where
-  pub distinct-not : (x : ℕ) → f ≡ At x → false ≡ keysDistinct s
-  distinct-not x p = ap (λ (g : Found). not (isFound g)) (sym p) ∙ distinct-found s f e
-
-  pub distinct-all : f ≡ Nothing → true ≡ keysDistinct s
-  distinct-all p = ap (λ (g : Found). not (isFound g)) (sym p) ∙ distinct-found s f e
 
 -- where each record is listed once, nothing else is just where there are as many entries as records
 
@@ -166,6 +88,17 @@ module _ (s : List ℕ) (kind n : ℕ) (entryIs : ℕ → ℕ → Bool) (alone :
   unfolding nothingElse
   count-else e = below-all n named (λ k h. count-both (λ j. true) named (λ j g. refl) n (count-all n ∙ e ∙ sym named-count) k h refl)
 
+-- where there is no record, every one is
+
+none-every : (p : ℕ → Bool) (l : List ℕ) → length l ≡ 0 → every p l ≡ true
+unfolding every
+none-every p [] e = refl
+none-every p (x ∷ xs) e = absurd (omega arith)
+
+none-once : (s : List ℕ) (kind n : ℕ) (entryIs : ℕ → ℕ → Bool) → length (recordsOf s kind) ≡ 0 → true ≡ listedOnce s kind n entryIs
+unfolding listedOnce
+none-once s kind n entryIs e = sym (none-every _ (recordsOf s kind) e)
+
 -- a list, whole
 
 pub list-loose : (s : List ℕ) (l : Listing) (b : Bool) → b ≡ listFits s l → b ≡ false → false ≡ listRight s l
@@ -184,3 +117,6 @@ module _ (s : List ℕ) (l : Listing) (n m i : ℕ) (p : n ≡ listCount s l) (t
       either-way _ r
       (λ z. (sym f ∙ g, (sym e ∙ z, (count-else s (listedKind l) (listCount s l) (listEntryIs s l) (entry-alone s l) (sym e ∙ z) (sym p ∙ h ∙ q ∙ rw t), tt))))
       (λ z w. not-both (w .1 .0) (sym e ∙ z))
+
+  pub list-none : (b : Bool) → b ≡ listFits s l → b ≡ true → n ≡ m → m ≡ 0 → true ≡ listRight s l
+  list-none b f g h e = list-is b true f g h (none-once s (listedKind l) (listCount s l) (listEntryIs s l) (sym (q ∙ rw t) ∙ e))

@@ -1,21 +1,19 @@
--- The two lists by their names, and a loop over the entries of one. Assumes nothing.
-use Prim.Native.Nat.{ℕ, _+_, _*_, _-_, _≤_, _<_}
-use mathlib.Core.Path.{_≡_, refl, sym, ap, _∙_}
+-- The two lists by their names, and where the entries of one stand. Assumes nothing.
+use Prim.Native.Nat.{ℕ, _+_, _-_, _≤_, _<_}
+use mathlib.Core.Path.{_≡_, refl, sym, _∙_}
 use mathlib.Core.List.{List}
 use mathlib.Core.Bool.{Bool, true, false}
 use native.Mathlib.Omega.{arith}
 use lib.ListN.{length}
 use lib.Dec.{eqb}
-use borrow.Author.Tests.{eqb-true, eqb-false, le-leb, eq-eqb, ne-eqb}
+use borrow.Author.Tests.{eqb-true, eqb-false, le-leb, ne-eqb}
 use Rattle.wire.specs.Bytes.{u32At, u64At}
-use Rattle.wire.proofs.TestLaws.{means, yes, no, not-both}
+use Rattle.wire.proofs.TestLaws.{means, yes, no}
 use Rattle.wire.proofs.ItemLaws.{advance-none, advance-more, advance-mono}
 use Rattle.header.specs.Fields.{fileSpaceReference, metadataReference}
 use Rattle.record.specs.Record.{lengthAt}
 use Rattle.check_records.specs.Chain.{recordLimit}
-use Rattle.directory.specs.Lists.{oneIf, countBelow}
 use Rattle.directory.specs.References.{entryCount, padded}
-use Rattle.directory.proofs.CountLaws.{Counted, counted-none, counted-more, counted-all}
 use Rattle.listed_records.specs.declared.Listing.{Listing}
 use Rattle.listed_records.specs.declared.Listing.the-variants.{FreeSpace, Metadata}
 use Rattle.listed_records.specs.FileSpace.{fileSpaceAt, freeCount, freeEntryAt, freeEntryOf, freeEntryIs, freeFits}
@@ -194,26 +192,3 @@ pub entry-alone : (s : List ℕ) (l : Listing) (x y k : ℕ) → listEntryIs s l
 unfolding listEntryIs freeEntryIs freeEntryOf metadataEntryIs metadataEntryOf
 entry-alone s FreeSpace x y k e f = omega (arith, means _ e .0, means _ f .0)
 entry-alone s Metadata x y k e f = omega (arith, means _ e .0, means _ f .0)
-
--- a loop over the entries that counts those of the record at x
-
-pub record Going (s : List ℕ) (l : Listing) (x n p k found : ℕ) : Type 0 where
-  pub counted : Counted n (listEntryIs s l x) k found
-  pub at : p ≡ listEntryAt s l k
-
-pub going-begin : (s : List ℕ) (l : Listing) (x n p : ℕ) → p ≡ listEntryAt s l 0 → Going s l x n p 0 0
-going-begin s l x n p e = record { counted = counted-none n (listEntryIs s l x); at = e }
-
-module _ (s : List ℕ) (l : Listing) (x n p k found : ℕ) (g : Going s l x n p k found) (q : n ≡ listCount s l) where
-  pub going-room : listFits s l ≡ true → k < n → p ≤ length s + 12
-  going-room f h = omega (arith, g .at, list-room s l k f (omega arith))
-
-  pub going-more : (r z : ℕ) → r ≡ oneIf (listEntryOf s l x p) → z ≡ listEntrySize s l p → listFits s l ≡ true → k < n → Going s l x n (p + z) (k + 1) (found + r)
-  going-more r z a b f h =
-      record {
-        counted = counted-more n (listEntryIs s l x) k found r (g .counted) (a ∙ ap oneIf (ap (listEntryOf s l x) (g .at) ∙ sym (entry-is s l x k))) h;
-        at = rw (b, g .at) (list-step s l k f (omega arith));
-      }
-
-  pub going-all : n ≤ k → found ≡ countBelow (listCount s l) (listEntryIs s l x)
-  going-all h = counted-all n (listEntryIs s l x) k found (listCount s l) (g .counted) h (sym q)

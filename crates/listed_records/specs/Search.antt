@@ -1,14 +1,12 @@
--- The two lists by their names, and what is looked for among the records.
+-- The two lists by their names, and metadata records with the same name and ID.
 use Prim.Native.Nat.{ℕ}
 use mathlib.Core.List.{List, [], _∷_}
-use mathlib.Core.Bool.{Bool, true}
+use mathlib.Core.Bool.{Bool}
 use Rattle.wire.specs.Tests.{_≡?_, _≢?_, is, passes}
 use Rattle.record.specs.Record.{typeAt}
-use Rattle.directory.specs.Lists.{some, countBelow, recordsOf}
+use Rattle.directory.specs.Lists.{some, recordsOf}
 use Rattle.listed_records.specs.declared.Listing.{Listing}
 use Rattle.listed_records.specs.declared.Listing.the-variants.{FreeSpace, Metadata}
-use Rattle.listed_records.specs.declared.Want.{Want}
-use Rattle.listed_records.specs.declared.Want.the-variants.{Miscounted, Repeated}
 use Rattle.listed_records.specs.Listed.{listedOnce, nothingElse}
 use Rattle.listed_records.specs.FileSpace.{freeCount, freeEntryAt, freeEntryOf, freeEntryIs, freeFits}
 use Rattle.listed_records.specs.Metadata.{metadataCount, metadataEntryAt, metadataEntrySize, metadataEntryOf, metadataEntryIs, metadataFits, sameKey}
@@ -49,16 +47,6 @@ twinOf s x y = passes ((typeAt s y ≡? 1) ∷ (x ≢? y) ∷ is (sameKey s x y)
 
 unfoldable pub hasTwin : List ℕ → ℕ → Bool
 hasTwin s x = some (λ y. passes ((x ≢? y) ∷ is (sameKey s x y) ∷ [])) (recordsOf s 1)
-
--- a record that is not listed once; a metadata record whose pair another one has
-unfoldable pub wants : List ℕ → Want → ℕ → Bool
-wants s (Miscounted list) x = passes ((typeAt s x ≡? listedKind list) ∷ (countBelow (listCount s list) (listEntryIs s list x) ≢? 1) ∷ [])
-wants s Repeated x = passes ((typeAt s x ≡? 1) ∷ is (hasTwin s x) ∷ [])
-
--- an entry is looked for only where the list fits its record
-unfoldable pub askable : List ℕ → Want → Bool
-askable s (Miscounted list) = listFits s list
-askable s Repeated = true
 
 -- a list fits its record, every record of its type is listed once, and nothing else is
 unfoldable pub listRight : List ℕ → Listing → Bool

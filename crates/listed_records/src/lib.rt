@@ -9,10 +9,3 @@ pub enum Listing {
     FreeSpace,
     Metadata,
 }
-
-// What is looked for among the records: one that is not listed once, or a metadata record whose pair of name and ID
-// another one has.
-pub enum Want {
-    Miscounted { list: Listing },
-    Repeated,
-}

@@ -1,8 +1,9 @@
 // Stage 9: the records that a list names, each once, and metadata records with the same name and ID.
 use crate::Listing;
-use crate::Want;
 use crate::file_space;
 use crate::metadata;
+use check_records::metadata_body;
+use directory::entries;
 use directory::references;
 use header::fields;
 use record::Cursor;
@@ -14,10 +15,12 @@ ghost use Prim.Native.Nat.{_+_, _≤_, _<_};
 ghost use lib.ListN.{length};
 ghost use Rattle.header.specs.Fields.{headerEnd};
 ghost use Rattle.record.specs.Chain.{firstRecord};
-ghost use Rattle.directory.specs.Lists.{oneIf, countBelow};
+ghost use Rattle.check_records.specs.Chain.{records};
 ghost use Rattle.listed_records.specs.Listed.{listedOnce};
 ghost use Rattle.listed_records.specs.Metadata.{keysDistinct};
-ghost use Rattle.listed_records.specs.Search.{listedKind, listCount, listFits, listEntryAt, listEntryOf, listEntryIs, listEntrySize, listRight, twinOf, hasTwin, wants, askable};
+ghost use Rattle.listed_records.specs.Search.{listedKind, listCount, listFits, listEntryAt, listEntryOf, listEntryIs, listEntrySize, listRight, twinOf, hasTwin};
+ghost use Rattle.listed_records.specs.Keys.{keyHash, keySlot, keyFine, keySeen, allFine, partDistinct};
+ghost use Rattle.listed_records.specs.Windows.{namedBy, slotOf, oneMore, noted, tallied, awryIn, windowRight};
 
 // The type of the records that a list is of.
 fn listed_kind(list: Listing) -> u32
@@ -81,32 +84,171 @@ fn entry_of(s: &[u8], list: Listing, x: usize, p: usize) -> bool
     }
 }
 
-// 1 where it is, else 0.
-fn listed_at(s: &[u8], list: Listing, x: usize, p: usize) -> u32
-    ensures is { λ r. ⌜ r ≡ oneIf (listEntryOf (now (s .entry)) list x p) ⌝ }
-    ensures small { λ r. ⌜ r ≤ 1 ⌝ }
+// The start of the record that the entry at a position names.
+fn named_by(s: &[u8], list: Listing, p: usize) -> usize
+    ensures { λ r. ⌜ r ≡ namedBy (now (s .entry)) list p ⌝ }
 {
-    if entry_of(s, list, x, p) {
-        return 1;
+    match list {
+        Listing::FreeSpace => wire::u64_at(s, p) as usize,
+        Listing::Metadata => entries::record_of(wire::u64_at(s, p)),
     }
-    0
 }
 
-// How many entries are those of the record at a position.
-fn times_listed(s: &[u8], list: Listing, x: usize) -> u32
+// Which of a window's counts the entry at a position adds to: that of the record that it is of, or 262144, which is none.
+fn slot_of(s: &[u8], list: Listing, base: usize, p: usize) -> usize
+    ensures { λ r. ⌜ r ≡ slotOf (now (s .entry)) list base p ⌝ }
+{
+    let x = named_by(s, list, p);
+    if x < base {
+        return 262144;
+    }
+    let d = x - base;
+    if 2097151 < d {
+        return 262144;
+    }
+    if d % 8 != 0 {
+        return 262144;
+    }
+    if entry_of(s, list, x, p) {
+        return d / 8;
+    }
+    262144
+}
+
+// One more, up to 2.
+fn one_more(count: u8) -> u8
+    ensures { λ r. ⌜ r ≡ oneMore count ⌝ }
+{
+    if count < 2 {
+        return count + 1;
+    }
+    2
+}
+
+// One more at a place; past the end nothing.
+fn note(counts: &mut [u8], j: usize)
+    ensures { λ _. ⌜ now (counts .exit) ≡ noted (now (counts .entry)) j ⌝ }
+{
+    if j < counts.len() {
+        counts[j] = one_more(counts[j]);
+    }
+}
+
+// Every entry of the list, added to a window's counts.
+fn tally(s: &[u8], list: Listing, base: usize, counts: &mut [u8])
     requires { ⌜ listFits (now s) list ≡ true ⌝ }
-    ensures { λ r. ⌜ r ≡ countBelow (listCount (now (s .entry)) list) (listEntryIs (now (s .entry)) list x) ⌝ }
+    ensures { λ _. ⌜ now (counts .exit) ≡ tallied (now (s .entry)) list base (now (counts .entry)) (listCount (now (s .entry)) list) ⌝ }
 {
     let n = list_count(s, list);
     let mut p = first_entry(s, list);
     let mut k = 0;
-    let mut found = 0;
     while k < n {
-        found += listed_at(s, list, x, p);
+        let j = slot_of(s, list, base, p);
+        note(counts, j);
         p += entry_size(s, list, p);
         k += 1;
     }
-    found
+}
+
+// Whether a record is of the list's type, in the window and not counted once.
+fn is_awry(s: &[u8], list: Listing, base: usize, counts: &[u8], at: usize) -> bool
+    ensures { λ r. ⌜ r ≡ awryIn (now (s .entry)) list base (now (counts .entry)) at ⌝ }
+{
+    if wire::byte_off(s, at, 4) != listed_kind(list) {
+        return false;
+    }
+    if at < base {
+        return false;
+    }
+    let j = (at - base) / 8;
+    if j < counts.len() {
+        if counts[j] == 1 {
+            return false;
+        }
+        return true;
+    }
+    false
+}
+
+// The first such record.
+fn find_awry(s: &[u8], list: Listing, base: usize, counts: &[u8]) -> Found
+    ensures { λ r. ⌜ r ≡ firstRecord (now (s .entry)) (headerEnd (now (s .entry))) (awryIn (now (s .entry)) list base (now (counts .entry))) ⌝ }
+{
+    let mut c = Cursor {
+        at: fields::header_end(s),
+    };
+    loop {
+        match c.step(s) {
+            Step::Record {
+                kind: _,
+                start,
+                length: _,
+                next,
+            } => {
+                if is_awry(s, list, base, counts, start) {
+                    return Found::At(start);
+                }
+                c = next;
+            }
+            Step::Bad => {
+                let start = c.at;
+                if is_awry(s, list, base, counts, start) {
+                    return Found::At(start);
+                }
+                return Found::Nothing;
+            }
+            Step::End => {
+                return Found::Nothing;
+            }
+        }
+    }
+}
+
+// Every record of the list's type that starts in the window is listed once.
+fn window_right(s: &[u8], list: Listing, base: usize) -> bool
+    requires { ⌜ listFits (now s) list ≡ true ⌝ }
+    ensures { λ r. ⌜ r ≡ windowRight (now (s .entry)) list base ⌝ }
+{
+    let mut counts = [0u8; 262144];
+    tally(s, list, base, &mut counts);
+    if let Found::At(_) = find_awry(s, list, base, &counts) {
+        return false;
+    }
+    true
+}
+
+// Every record of the list's type is listed once. The file is judged a window at a time.
+fn listed_once(s: &[u8], list: Listing) -> bool
+    requires { ⌜ listFits (now s) list ≡ true ⌝ }
+    ensures { λ r. ⌜ r ≡ listedOnce (now (s .entry)) (listedKind list) (listCount (now (s .entry)) list) (listEntryIs (now (s .entry)) list) ⌝ }
+{
+    let mut base = fields::header_end(s);
+    while base < s.len() {
+        if window_right(s, list, base) {
+            base += 2097152;
+        } else {
+            return false;
+        }
+    }
+    true
+}
+
+// A list fits its record, and names every record of its type once and nothing else. Where every record is listed once, nothing
+// else is just where there are as many entries as records.
+pub fn list_right(s: &[u8], list: Listing) -> bool
+    ensures { λ r. ⌜ r ≡ listRight (now (s .entry)) list ⌝ }
+{
+    if list_fits(s, list) {
+        let records = references::record_count(s, listed_kind(list));
+        if list_count(s, list) as usize != records {
+            return false;
+        }
+        if records == 0 {
+            return true;
+        }
+        return listed_once(s, list);
+    }
+    false
 }
 
 // Whether the record at y is a metadata record other than the one at x and has its pair of name and ID.
@@ -166,45 +308,55 @@ fn has_twin(s: &[u8], x: usize) -> bool
     false
 }
 
-// Whether a record is of a list's type and not listed once.
-fn miscounted(s: &[u8], list: Listing, at: usize) -> bool
-    requires { ⌜ listFits (now s) list ≡ true ⌝ }
-    ensures { λ r. ⌜ r ≡ wants (now (s .entry)) (Want.Miscounted list) at ⌝ }
+// A hash of a metadata record's pair of name and ID.
+fn key_hash(s: &[u8], x: usize) -> u64
+    ensures { λ r. ⌜ r ≡ keyHash (now (s .entry)) x ⌝ }
 {
-    if wire::byte_off(s, at, 4) != listed_kind(list) {
-        return false;
+    let name = crc32c::crc_of(metadata_body::metadata_name(s, x));
+    let id = metadata_body::record_id(s, x);
+    (name as u64) + (id as u64) * 2654435761
+}
+
+// The place of a metadata record of a part of the hashes; 262144 where it is of another part, or of another type.
+fn key_slot(s: &[u8], parts: u64, part: u64, x: usize) -> usize
+    requires { ⌜ 0 < parts ⌝ }
+    ensures { λ r. ⌜ r ≡ keySlot (now (s .entry)) parts part x ⌝ }
+{
+    if wire::byte_off(s, x, 4) != 1 {
+        return 262144;
     }
-    if times_listed(s, list, at) == 1 {
+    let h = key_hash(s, x);
+    if h % parts != part {
+        return 262144;
+    }
+    (h / parts % 262144) as usize
+}
+
+// A record takes its place. It is the first there, or no other has its pair.
+fn key_fine(s: &[u8], parts: u64, part: u64, seen: &mut [u8], x: usize) -> bool
+    requires { ⌜ 0 < parts ⌝ }
+    ensures fine { λ r. ⌜ r ≡ keyFine (now (s .entry)) parts part (now (seen .entry)) x ⌝ }
+    ensures seen { λ _. ⌜ now (seen .exit) ≡ keySeen (now (s .entry)) parts part (now (seen .entry)) x ⌝ }
+{
+    let j = key_slot(s, parts, part, x);
+    if seen.len() <= j {
+        return true;
+    }
+    let before = seen[j];
+    seen[j] = 1;
+    if before == 0 {
+        return true;
+    }
+    if has_twin(s, x) {
         return false;
     }
     true
 }
 
-// Whether a metadata record's pair of name and ID is another's too.
-fn repeated(s: &[u8], at: usize) -> bool
-    ensures { λ r. ⌜ r ≡ wants (now (s .entry)) Want.Repeated at ⌝ }
-{
-    if wire::byte_off(s, at, 4) != 1 {
-        return false;
-    }
-    has_twin(s, at)
-}
-
-// Whether a record is what is looked for.
-fn is_wanted(s: &[u8], want: Want, at: usize) -> bool
-    requires { ⌜ askable (now s) want ≡ true ⌝ }
-    ensures { λ r. ⌜ r ≡ wants (now (s .entry)) want at ⌝ }
-{
-    match want {
-        Want::Miscounted { list } => miscounted(s, list, at),
-        Want::Repeated => repeated(s, at),
-    }
-}
-
-// The first record behind the header that is.
-fn find_record(s: &[u8], want: Want) -> Found
-    requires { ⌜ askable (now s) want ≡ true ⌝ }
-    ensures { λ r. ⌜ r ≡ firstRecord (now (s .entry)) (headerEnd (now (s .entry))) (wants (now (s .entry)) want) ⌝ }
+// Each record behind the header does so.
+fn all_fine(s: &[u8], parts: u64, part: u64, seen: &mut [u8]) -> bool
+    requires { ⌜ 0 < parts ⌝ }
+    ensures { λ r. ⌜ r ≡ allFine (now (s .entry)) parts part (now (seen .entry)) (records (now (s .entry))) ⌝ }
 {
     let mut c = Cursor {
         at: fields::header_end(s),
@@ -217,57 +369,45 @@ fn find_record(s: &[u8], want: Want) -> Found
                 length: _,
                 next,
             } => {
-                if is_wanted(s, want, start) {
-                    return Found::At(start);
+                if key_fine(s, parts, part, seen, start) {
+                    c = next;
+                } else {
+                    return false;
                 }
-                c = next;
             }
             Step::Bad => {
                 let start = c.at;
-                if is_wanted(s, want, start) {
-                    return Found::At(start);
-                }
-                return Found::Nothing;
+                return key_fine(s, parts, part, seen, start);
             }
             Step::End => {
-                return Found::Nothing;
+                return true;
             }
         }
     }
 }
 
-// Every record of a list's type is listed once.
-fn listed_once(s: &[u8], list: Listing) -> bool
-    requires { ⌜ listFits (now s) list ≡ true ⌝ }
-    ensures { λ r. ⌜ r ≡ listedOnce (now (s .entry)) (listedKind list) (listCount (now (s .entry)) list) (listEntryIs (now (s .entry)) list) ⌝ }
+// No two metadata records of a part have the same pair.
+fn part_distinct(s: &[u8], parts: u64, part: u64) -> bool
+    requires { ⌜ 0 < parts ⌝ }
+    ensures { λ r. ⌜ r ≡ partDistinct (now (s .entry)) parts part ⌝ }
 {
-    if let Found::At(_) = find_record(s, Want::Miscounted { list }) {
-        return false;
-    }
-    true
+    let mut seen = [0u8; 262144];
+    all_fine(s, parts, part, &mut seen)
 }
 
-// A list fits its record, and names every record of its type once and nothing else. Where every record is listed once, nothing
-// else is just where there are as many entries as records.
-pub fn list_right(s: &[u8], list: Listing) -> bool
-    ensures { λ r. ⌜ r ≡ listRight (now (s .entry)) list ⌝ }
-{
-    if list_fits(s, list) {
-        let records = references::record_count(s, listed_kind(list));
-        if list_count(s, list) as usize != records {
-            return false;
-        }
-        return listed_once(s, list);
-    }
-    false
-}
-
-// No two metadata records have the same pair of name and ID.
+// No two metadata records have the same pair of name and ID. Those with the same pair have the same hash, so they are of one part,
+// and have one place there.
 pub fn keys_distinct(s: &[u8]) -> bool
     ensures { λ r. ⌜ r ≡ keysDistinct (now (s .entry)) ⌝ }
 {
-    if let Found::At(_) = find_record(s, Want::Repeated) {
-        return false;
+    let parts = (references::record_count(s, 1) as u64) / 2048 + 1;
+    let mut part = 0;
+    while part < parts {
+        if part_distinct(s, parts, part) {
+            part += 1;
+        } else {
+            return false;
+        }
     }
     true
 }

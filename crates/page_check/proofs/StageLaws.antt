@@ -67,7 +67,7 @@ records-then s v = go (chainFault s) (checksumFault s) (bodyFault s)
     go Nothing Nothing (At x) = refl
     go Nothing Nothing Nothing = refl
 
-bodies-then : (s : List ℕ) → check s ≡ after (checkToBodies s) (checkDirectories s)
+pub bodies-then : (s : List ℕ) → check s ≡ after (checkToBodies s) (checkDirectories s)
 unfolding check checkToBodies checkFromRecords after
 bodies-then s = go (checkHeader s (length s))
   where

@@ -1,7 +1,8 @@
-// Runs outside vectors and header files that are built here, and writes what each gives, a line for each.
+// Runs outside vectors, and files that are built here, and writes what each gives, a line for each.
 mod build;
 mod crc;
 mod headers;
+mod pages;
 mod records;
 mod show;
 mod tables;
@@ -12,4 +13,5 @@ fn main() {
     values::run();
     headers::run();
     records::run();
+    pages::run();
 }

@@ -59,3 +59,27 @@ pub fn element(x: header::Element) {
 pub fn records(s: &[u8], n: usize) {
     verdict(page_check::check_to_bodies(wire::part_of(s, 0, n)));
 }
+
+// A cell's kind, type code, bits and place, and what ends it.
+pub fn cell(x: answer::Cell, end: &[u8]) {
+    text(b"gives ");
+    number(answer::cell_kind(x) as u64);
+    text(b" type ");
+    number(answer::cell_type(x) as u64);
+    text(b" bits ");
+    number(answer::cell_bits(x) as u64);
+    text(b" at ");
+    number(answer::cell_place(x) as u64);
+    text(end);
+}
+
+// A content's kind, place and length.
+pub fn content(x: answer::Content) {
+    text(b"gives ");
+    number(answer::content_kind(x) as u64);
+    text(b" at ");
+    number(answer::content_place(x) as u64);
+    text(b" length ");
+    number(answer::content_length(x) as u64);
+    text(b", ");
+}

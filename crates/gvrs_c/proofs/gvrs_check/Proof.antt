@@ -1,5 +1,4 @@
 -- `gvrs_c::gvrs_check` meets its contract. Assumes nothing.
-use mathlib.Core.Path.{refl}
 use Rattle.gvrs_c.proofs.ReportLaws.{checked}
 use borrow.Author.Needs.{needs}
 use Rattle.gvrs_c.proofs.gvrs_check.Statement.{statement}
@@ -14,4 +13,4 @@ gvrs-check-spec =
     (λ c κs. search needs)
     (λ c κs. search needs)
     (λ c. search needs)
-    (λ c. checked _ _ _ _ _ _ _ (c .before .before .before .before .before .before .check .ensures) (c .before .before .before .before .verdict-place .ensures) refl (c .before .before .before .report .ensures) (c .verdict-number .ensures)))
+    (λ c. checked _ _ _ _ _ _ (c .before .before .before .before .before .before .check .ensures) (c .before .before .before .before .verdict-place .ensures) (c .before .before .before .report .ensures) (c .verdict-number .ensures)))

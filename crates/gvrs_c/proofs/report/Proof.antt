@@ -1,6 +1,7 @@
 -- `gvrs_c::report` meets its contract. Assumes nothing.
+use mathlib.Core.Path.{sym}
 use native.Mathlib.Omega.{arith}
-use Rattle.gvrs_c.proofs.ReportLaws.{report-in, report-out}
+use lib.Seq.{set-out}
 use borrow.Author.Needs.{needs}
 use Rattle.gvrs_c.proofs.report.Statement.{statement}
 use Rattle.gvrs_c.proofs.report.Tie as tie
@@ -11,5 +12,6 @@ report-spec =
     (tie.spec
     (λ c. search needs)
     (λ c. search needs)
-    (λ c. report-in _ _ (omega arith))
-    (λ c. report-out _ _ (omega arith)))
+    (λ c. search needs)
+    (λ c. search needs)
+    (λ c. sym (set-out _ _ _ (omega arith))))

@@ -1,6 +1,6 @@
 -- `listed_records::lists::list_right` meets its contract. Assumes nothing.
 use mathlib.Core.Path.{sym, _∙_}
-use Rattle.listed_records.proofs.FindLaws.{list-loose, list-other, list-is}
+use Rattle.listed_records.proofs.FindLaws.{list-loose, list-other, list-none, list-is}
 use borrow.Author.Needs.{needs}
 use Rattle.listed_records.proofs.lists.list_right.Statement.{statement}
 use Rattle.listed_records.proofs.lists.list_right.Tie as tie
@@ -15,6 +15,7 @@ list-right-spec =
     (λ c κs. search needs)
     (λ c. search needs)
     (λ c. search (needs, list-other))
-    (λ c κs. sym (c .before .before .before .before .before .list-fits .ensures) ∙ c .before .before .before .before .if1 .taken)
+    (λ c. search (needs, list-none))
+    (λ c κs. sym (c .before .before .before .before .before .before .list-fits .ensures) ∙ c .before .before .before .before .before .if1 .taken)
     (λ c. search (needs, list-is))
     (λ c. search (needs, list-loose)))

@@ -1,15 +1,28 @@
 -- `listed_records::lists::listed_once` meets its contract. Assumes nothing.
-use Rattle.listed_records.proofs.FindLaws.{fits-ask, once-not, once-all}
 use borrow.Author.Needs.{needs}
+use lib.ListN.{length}
+use Prim.Native.Nat.{_-_}
+use Rattle.listed_records.proofs.WindowLaws.{Passed, passed-begin, passed-more, passed-not, passed-all}
 use Rattle.listed_records.proofs.lists.listed_once.Statement.{statement}
 use Rattle.listed_records.proofs.lists.listed_once.Tie as tie
+
+abbrev Inv-loop : tie.InvT-loop
+Inv-loop s list base₀ base = Passed s list base
+
+abbrev μ-loop : tie.MeasureT-loop
+μ-loop s list base₀ base = length s - base
 
 pub listed-once-spec : {M : Type 1} → statement M
 listed-once-spec =
     tie.close
     (tie.spec
-    (λ c κs. search (needs, fits-ask))
+    Inv-loop
+    μ-loop
+    (λ c κs. search needs)
+    (λ c. search (needs, passed-begin))
+    (λ c κs. search needs)
     (λ c. search needs)
-    (λ c. search (needs, once-not))
     (λ c. search needs)
-    (λ c. search (needs, once-all)))
+    (λ c. search (needs, passed-more))
+    (λ c. search (needs, passed-not))
+    (λ c. search (needs, passed-all)))

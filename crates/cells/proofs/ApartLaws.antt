@@ -1,0 +1,269 @@
+-- Two stored cells of an accepted file are one cell, or share no byte. Assumes nothing.
+use Prim.Native.Nat.{ℕ, _+_, _*_, _/_, _%_, _-_, _≤_, _<_}
+use mathlib.Core.Path.{_≡_, refl, sym, ap, _∙_}
+use mathlib.Core.List.{List, [], _∷_, List·Memᴰ, List·Memᴰ·head}
+use mathlib.Core.Logic.{_⊎_, inl, inr, ⊎-elim, by-cases}
+use mathlib.Core.Bool.{Bool, true, false}
+use native.Mathlib.Decide.{decLe}
+use native.Mathlib.Omega.{arith}
+use native.Mathlib.Nat.{div-add-mod', mod-lt, mul-le-mul-right, div-lt-iff-lt-mul}
+use borrow.Author.Tests.{le-leb}
+use Rattle.wire.specs.Bytes.{u32At}
+use Rattle.wire.proofs.TestLaws.{means, fails}
+use Rattle.wire.proofs.ItemLaws.{advance-more, advance-mono, advance-grows}
+use Rattle.answer.specs.declared.Refusal.{Refusal}
+use Rattle.answer.specs.declared.Value.{Value}
+use Rattle.answer.specs.declared.Cell.the-variants.{Stored, Fill, Refused}
+use Rattle.answer.specs.Answers.{cellPlace}
+use Rattle.header.specs.Fields.{headerEnd, gridRows, gridColumns, tileRows, tileColumns, elementCount}
+use Rattle.header.specs.Element.{cellSize, element}
+use Rattle.record.specs.Record.{lengthAt}
+use Rattle.record.proofs.ChainLaws.{whole-apart}
+use Rattle.geometry.specs.Tiles.{tilesAlong, tileOf, insideOf, tileIn, cellTile, cellInside}
+use Rattle.geometry.specs.Sizes.{uncompressed, cellOffset, storedSize, elementBytes}
+use Rattle.check_records.specs.Chain.{records, recordLimit, endRight}
+use Rattle.check_records.specs.TileBody.{tileIndex, sectionEnd, sectionAt, sectionLength, elementContentAt, tileEnd, tileRight}
+use Rattle.check_records.proofs.RecordLaws.{section-grows}
+use Rattle.directory.specs.Lists.{recordsOf}
+use Rattle.directory.proofs.OnlyLaws.{row-of, column-of, grid-less, same-index}
+use Rattle.directory.proofs.MemberLaws.{select-member, of-type, type-of}
+use Rattle.page_check.specs.Accepted.{Obeys}
+use Rattle.page_check.proofs.GivenLaws.{obeys-range, obeys-tile}
+use Rattle.cells.specs.Asked.{inGrid}
+use Rattle.cells.specs.TileCells.{carries, packed, offsetIn, placeIn, storedAt, cellIn, fillOf}
+use Rattle.cells.specs.Meaning.{recordsWith, meaning}
+use Rattle.cells.specs.Demand3.{bytesOfCell}
+
+-- items of one size, by their numbers
+
+pub item-within : (n k z : ℕ) → k < n → k * z + z ≤ n * z
+item-within n k z h = let m : (k + 1) * z ≤ n * z = mul-le-mul-right z (omega arith) in omega arith
+
+pub items-apart : (j k z : ℕ) → (j ≡ k) ⊎ ((j * z + z ≤ k * z) ⊎ (k * z + z ≤ j * z))
+items-apart j k z =
+    by-cases (decLe (j + 1) k) (λ h. inr (inl (item-within k j z (omega arith))))
+    (λ h. by-cases (decLe (k + 1) j) (λ i. inr (inr (item-within j k z (omega arith)))) (λ i. inl (omega arith)))
+
+-- cells and tiles
+
+-- a place inside the grid stands in one of the tiles along its side
+pub along-less : (side tile i : ℕ) → 0 < tile → i < side → i / tile < tilesAlong side tile
+unfolding tilesAlong
+along-less side tile i p h =
+    let e = div-add-mod' (side + (tile - 1)) tile in
+    let m = mod-lt (side + (tile - 1)) p in
+    div-lt-iff-lt-mul p .1 (omega arith)
+
+-- a cell's number inside its tile is below the tile's cells
+pub inside-less : (h w r c : ℕ) → 0 < h → 0 < w → insideOf h w r c < h * w
+unfolding insideOf
+inside-less h w r c p q = grid-less w (r % h) (c % w) (mod-lt c q) h (mod-lt r p)
+
+-- the tile and the number inside it fix the cell
+pub one-cell :
+    (columns h w r c r2 c2 : ℕ) → 0 < w → c < columns → c2 < columns → tileIn columns h w r c ≡ tileIn columns h w r2 c2 →
+    insideOf h w r c ≡ insideOf h w r2 c2 → (r ≡ r2) × (c ≡ c2)
+unfolding tileIn tileOf insideOf
+one-cell columns h w r c r2 c2 p k l e f =
+    let n = tilesAlong columns w in
+    let a = along-less columns w c p k in
+    let b = along-less columns w c2 p l in
+    let rq : r / h ≡ r2 / h = sym (row-of n _ _ a) ∙ ap (λ (x : ℕ). x / n) e ∙ row-of n _ _ b in
+    let cq : c / w ≡ c2 / w = sym (column-of n _ _ a) ∙ ap (λ (x : ℕ). x % n) e ∙ column-of n _ _ b in
+    let i = mod-lt c p in
+    let j = mod-lt c2 p in
+    let rr : r % h ≡ r2 % h = sym (row-of w _ _ i) ∙ ap (λ (x : ℕ). x / w) f ∙ row-of w _ _ j in
+    let cr : c % w ≡ c2 % w = sym (column-of w _ _ i) ∙ ap (λ (x : ℕ). x % w) f ∙ column-of w _ _ j in
+    (same-index h r r2 rq rr, same-index w c c2 cq cr)
+
+-- the sections of a tile record
+
+pub section-holds : (s : List ℕ) (p : ℕ) → p + 4 + u32At s p ≤ sectionEnd s p
+unfolding sectionEnd storedSize
+section-holds s p = omega arith
+
+pub section-mono : (s : List ℕ) (at e f : ℕ) → e ≤ f → sectionAt s at e ≤ sectionAt s at f
+unfolding sectionAt
+section-mono s at e f h =
+    let q : e + (f - e) ≡ f = omega arith in
+    rw q at (advance-mono (sectionEnd s) (recordLimit s at) (λ p. omega (arith, section-grows s p)) e (f - e) (at + 12))
+
+pub section-next : (s : List ℕ) (at e : ℕ) → sectionAt s at e ≤ recordLimit s at → sectionAt s at (e + 1) ≡ sectionEnd s (sectionAt s at e)
+unfolding sectionAt
+section-next s at e h = advance-more (sectionEnd s) (recordLimit s at) e (at + 12) ∙ rw (le-leb _ _ h)
+
+pub section-behind : (s : List ℕ) (at e : ℕ) → at + 12 ≤ sectionAt s at e
+unfolding sectionAt
+section-behind s at e = advance-grows (sectionEnd s) (recordLimit s at) (λ p. omega (arith, section-grows s p)) e (at + 12)
+
+limit-inside : (s : List ℕ) (at : ℕ) → recordLimit s at ≤ at + lengthAt s at
+unfolding recordLimit
+limit-inside s at = omega arith
+
+sections-end : (s : List ℕ) (at : ℕ) → tileRight s at ≡ true → sectionAt s at (elementCount s) ≤ recordLimit s at
+unfolding tileRight endRight tileEnd
+sections-end s at t = means _ (means _ t .1 .0) .0
+
+-- where an element's content lies: behind the record's start, up to the next section, which starts inside the record
+pub record ContentExtent (s : List ℕ) (at e : ℕ) : Type 0 where
+  pub behind : at ≤ elementContentAt s at e
+  pub own : sectionAt s at e ≤ elementContentAt s at e
+  pub next : elementContentAt s at e + sectionLength s at e ≤ sectionAt s at (e + 1)
+  pub inside : sectionAt s at (e + 1) ≤ at + lengthAt s at
+
+pub content-extent : (s : List ℕ) (at e : ℕ) → tileRight s at ≡ true → e < elementCount s → ContentExtent s at e
+unfolding elementContentAt sectionLength
+content-extent s at e t h =
+    let z = sections-end s at t in
+    let l = limit-inside s at in
+    let a = section-mono s at e (elementCount s) (omega arith) in
+    let b = section-mono s at (e + 1) (elementCount s) (omega arith) in
+    let n = section-next s at e (omega arith) in
+    let k = section-holds s (sectionAt s at e) in
+    let g = section-behind s at e in
+    record { behind = omega arith; own = omega arith; next = omega arith; inside = omega arith }
+
+-- a cell that is stored: the tile record that has it, uncompressed, and its place there
+
+pub record StoredAs (s : List ℕ) (row column e place : ℕ) : Type 0 where
+  pub start : ℕ
+  pub among : List·Memᴰ start (recordsOf s 2)
+  pub index : tileIndex s start ≡ cellTile s row column
+  pub whole : packed s start e ≡ false
+  pub here : place ≡ placeIn s start row column e
+  pub row-in : row < gridRows s
+  pub column-in : column < gridColumns s
+  pub element-in : e < elementCount s
+
+refused-not-stored : {C : Type 0} {r : Refusal} {v : Value} {p : ℕ} → Refused r ≡ Stored v p → C
+refused-not-stored q = let z : _≡_ {A = ℕ} 0 1 = cc in absurd (omega arith)
+
+fill-not-stored : {C : Type 0} {w v : Value} {p : ℕ} → Fill w ≡ Stored v p → C
+fill-not-stored q = let z : _≡_ {A = ℕ} 0 1 = cc in absurd (omega arith)
+
+-- a record that carries an index is a tile record with that index
+pub carries-tile : (s : List ℕ) (i : ℕ) {x : ℕ} → List·Memᴰ x (recordsWith s i) → List·Memᴰ x (recordsOf s 2) × (tileIndex s x ≡ i)
+unfolding recordsWith carries
+carries-tile s i m =
+    let h = select-member _ (records s) m in
+    let c = means _ (h .1) in
+    (type-of s 2 (h .0) (c .0), c .1 .0)
+
+stored-in : (s : List ℕ) (x row column e place : ℕ) (v : Value) → cellIn s x row column e ≡ Stored v place → (packed s x e ≡ false) × (place ≡ placeIn s x row column e)
+unfolding cellIn storedAt
+stored-in s x row column e place v q = go (packed s x e) refl
+  where
+    go : (b : Bool) → packed s x e ≡ b → (packed s x e ≡ false) × (place ≡ placeIn s x row column e)
+    go true i = refused-not-stored (rw i at q)
+    go false i = (i, sym (ap cellPlace (rw i at q)))
+
+pub stored-as : (s : List ℕ) (row column e place : ℕ) (v : Value) → meaning s row column e ≡ Stored v place → StoredAs s row column e place
+unfolding meaning inGrid fillOf
+stored-as s row column e place v q = go (inGrid s row column e) refl (recordsWith s (cellTile s row column)) refl
+  where
+    go : (b : Bool) → inGrid s row column e ≡ b → (l : List ℕ) → recordsWith s (cellTile s row column) ≡ l → StoredAs s row column e place
+    go false i l j = refused-not-stored (rw i at q)
+    go true i [] j = fill-not-stored (rw (i, j) at q)
+    go true i (x ∷ xs) j =
+        let g = means _ i in
+        let m : List·Memᴰ x (recordsWith s (cellTile s row column)) = rw j (List·Memᴰ·head refl) in
+        let t = carries-tile s (cellTile s row column) m in
+        let c = stored-in s x row column e place v (rw (i, j) at q) in
+        record {
+          start = x;
+          among = t .0;
+          index = t .1;
+          whole = c .0;
+          here = c .1;
+          row-in = omega (arith, g .0);
+          column-in = omega (arith, g .1 .0);
+          element-in = omega (arith, g .1 .1 .0);
+        }
+
+-- its bytes lie in its element's uncompressed content
+
+offset-within : (s : List ℕ) (row column e : ℕ) → 0 < tileRows s → 0 < tileColumns s → offsetIn s row column e + bytesOfCell s e ≤ elementBytes s e
+unfolding offsetIn cellOffset elementBytes uncompressed cellInside
+offset-within s row column e p q =
+    item-within (tileRows s * tileColumns s) _ (cellSize (element s e .kind)) (inside-less (tileRows s) (tileColumns s) row column p q)
+
+whole-least : (s : List ℕ) (x e : ℕ) → packed s x e ≡ false → elementBytes s e ≤ sectionLength s x e
+unfolding packed
+whole-least s x e q =
+    by-cases (decLe (sectionLength s x e + 1) (elementBytes s e)) (λ h. absurd (fails _ q (h, tt))) (λ h. omega arith)
+
+-- where a stored cell lies in its tile record, whose start is x
+pub record CellExtent (s : List ℕ) (x e place : ℕ) : Type 0 where
+  pub behind : x ≤ place
+  pub inside : place + bytesOfCell s e ≤ x + lengthAt s x
+  pub own : sectionAt s x e ≤ place
+  pub next : place + bytesOfCell s e ≤ sectionAt s x (e + 1)
+
+pub cell-extent : (s : List ℕ) → Obeys s → (row column e place : ℕ) (c : StoredAs s row column e place) → CellExtent s (c .start) e place
+unfolding placeIn
+cell-extent s o row column e place c =
+    let r = obeys-range s (records s) o in
+    let t = content-extent s (c .start) e (obeys-tile s o (c .among)) (c .element-in) in
+    let w = offset-within s row column e (omega (arith, r .tile-rows .0)) (omega (arith, r .tile-columns .0)) in
+    let l = whole-least s (c .start) e (c .whole) in
+    let h : place ≡ elementContentAt s (c .start) e + offsetIn s row column e = c .here in
+    record {
+      behind = omega (arith, t .behind);
+      inside = omega (arith, t .next, t .inside);
+      own = omega (arith, t .own);
+      next = omega (arith, t .next);
+    }
+
+-- two of them
+
+module _ (s : List ℕ) (o : Obeys s) (row column e place : ℕ) (c : StoredAs s row column e place) (row2 column2 e2 place2 : ℕ) (d : StoredAs s row2 column2 e2 place2) where
+  abbrev Apart : Type 0
+  Apart =
+      ((row ≡ row2) × ((column ≡ column2) × (e ≡ e2)))
+      ⊎ ((place + bytesOfCell s e ≤ place2) ⊎ (place2 + bytesOfCell s e2 ≤ place))
+
+  -- in one element of one record: by their numbers inside the tile
+  same-element : c .start ≡ d .start → e ≡ e2 → Apart
+  unfolding placeIn offsetIn cellOffset cellTile cellInside
+  same-element p q =
+      let z = cellSize (element s e .kind) in
+      let r = obeys-range s (records s) o in
+      let a : place ≡ elementContentAt s (c .start) e + cellInside s row column * z = c .here in
+      let b : place2 ≡ elementContentAt s (c .start) e + cellInside s row2 column2 * z = rw (p, q) (d .here) in
+      let k : cellTile s row column ≡ cellTile s row2 column2 = sym (c .index) ∙ ap (tileIndex s) p ∙ d .index in
+      let u : bytesOfCell s e2 ≡ z = rw q in
+      ⊎-elim
+      (λ i.
+      let x = one-cell (gridColumns s) (tileRows s) (tileColumns s) row column row2 column2 (omega (arith, r .tile-columns .0)) (c .column-in) (d .column-in) k i in
+      inl (x .0, (x .1, q)))
+      (λ i. inr (⊎-elim (λ j. inl (omega arith)) (λ j. inr (omega arith)) i))
+      (items-apart (cellInside s row column) (cellInside s row2 column2) z)
+
+  -- in one record: by their sections
+  same-record : c .start ≡ d .start → Apart
+  same-record p =
+      let a = cell-extent s o row column e place c in
+      let b : CellExtent s (c .start) e2 place2 = rw p (cell-extent s o row2 column2 e2 place2 d) in
+      by-cases (decLe (e + 1) e2)
+      (λ h. let m = section-mono s (c .start) (e + 1) e2 h in inr (inl (omega (arith, a .next, b .own))))
+      (λ h.
+      by-cases (decLe (e2 + 1) e)
+      (λ k. let m = section-mono s (c .start) (e2 + 1) e k in inr (inr (omega (arith, b .next, a .own))))
+      (λ k. same-element p (omega arith)))
+
+  stored-apart : Apart
+  stored-apart =
+      let a = cell-extent s o row column e place c in
+      let b = cell-extent s o row2 column2 e2 place2 d in
+      ⊎-elim same-record
+      (λ i.
+      inr
+      (⊎-elim (λ j. inl (omega (arith, a .inside, b .behind))) (λ j. inr (omega (arith, b .inside, a .behind))) i))
+      (whole-apart s (headerEnd s) (records s) (o .chain) (of-type s 2 (c .among) .0) (of-type s 2 (d .among) .0))
+
+pub cells-apart :
+    (s : List ℕ) → Obeys s → (row column e place : ℕ) (v : Value) (row2 column2 e2 place2 : ℕ) (v2 : Value) →
+    meaning s row column e ≡ Stored v place → meaning s row2 column2 e2 ≡ Stored v2 place2 →
+    ((row ≡ row2) × ((column ≡ column2) × (e ≡ e2))) ⊎ ((place + bytesOfCell s e ≤ place2) ⊎ (place2 + bytesOfCell s e2 ≤ place))
+cells-apart s o row column e place v row2 column2 e2 place2 v2 p q =
+    stored-apart s o row column e place (stored-as s row column e place v p) row2 column2 e2 place2 (stored-as s row2 column2 e2 place2 v2 q)

@@ -1,0 +1,238 @@
+-- What is asked for, and what a tile record says of it, from what the functions below answer. Assumes nothing.
+use Prim.Native.Nat.{ℕ, min, _+_, _*_, _%_, _-_, _≤_, _<_}
+use mathlib.Core.Path.{_≡_, sym, ap, _∙_}
+use mathlib.Core.List.{List}
+use mathlib.Core.Bool.{Bool, true, false}
+use native.Mathlib.Omega.{arith}
+use native.Mathlib.Nat.{mod-lt, mul-le-mul}
+use lib.ListN.{length}
+use borrow.Author.Tests.{lt-leb, ne-eqb}
+use Rattle.wire.specs.Bytes.{u32At, numberAt}
+use Rattle.wire.proofs.TestLaws.{means, yes, no, not-both, either-way}
+use Rattle.answer.specs.declared.Value.{Value}
+use Rattle.answer.specs.declared.Refusal.the-variants as refusal
+use Rattle.answer.specs.declared.Cell.{Cell}
+use Rattle.answer.specs.declared.Cell.the-variants as cell
+use Rattle.answer.specs.declared.Content.{Content}
+use Rattle.answer.specs.declared.Content.the-variants as content
+use Rattle.answer.specs.Values.{valueOf}
+use Rattle.header.specs.declared.Element.{Element}
+use Rattle.header.specs.Fields.{gridRows, gridColumns, tileRows, tileColumns, elementCount}
+use Rattle.header.specs.Element.{cellSize, element}
+use Rattle.record.specs.Record.{typeAt}
+use Rattle.geometry.specs.Tiles.{tileCount, insideOf, cellInside}
+use Rattle.geometry.specs.Sizes.{cap, cellOffset, uncompressed, elementBytes}
+use Rattle.geometry.proofs.SizeLaws.{size-range}
+use Rattle.check_header.specs.HeaderRecord.{positive, sidesRight}
+use Rattle.check_header.specs.Ceilings.{sidesWithin}
+use Rattle.check_records.specs.TileBody.{tileIndex, sectionAt, sectionStart, sectionLength, elementContentAt}
+use Rattle.directory.proofs.OnlyLaws.{grid-less}
+use Rattle.cells.specs.Asked.{inGrid, inTiles}
+use Rattle.cells.specs.TileCells.{carries, packed, offsetIn, placeIn, storedAt, cellIn, fillOf, contentIn, sidesLawful, withinReach, cellWithin, contentWithin}
+
+-- what is asked for
+
+module _ (s : List ℕ) (row column e : ℕ) where
+  pub row-out : (n : ℕ) → n ≡ gridRows s → n ≤ row → false ≡ inGrid s row column e
+  unfolding inGrid
+  row-out n p h = no _ (λ y. omega (arith, y .0))
+
+  pub column-out : (n : ℕ) → n ≡ gridColumns s → n ≤ column → false ≡ inGrid s row column e
+  unfolding inGrid
+  column-out n p h = no _ (λ y. omega (arith, y .1 .0))
+
+  pub element-out : (n : ℕ) → n ≡ elementCount s → n ≤ e → false ≡ inGrid s row column e
+  unfolding inGrid
+  element-out n p h = no _ (λ y. omega (arith, y .1 .1 .0))
+
+  pub grid-in : (a b c : ℕ) → a ≡ gridRows s → b ≡ gridColumns s → c ≡ elementCount s → row < a → column < b → e < c → true ≡ inGrid s row column e
+  unfolding inGrid
+  grid-in a b c p q t h k l = yes _ (omega arith, (omega arith, (omega arith, tt)))
+
+  pub grid-means : inGrid s row column e ≡ true → (row < gridRows s) × ((column < gridColumns s) × (e < elementCount s))
+  unfolding inGrid
+  grid-means f = let y = means _ f in (omega (arith, y .0), (omega (arith, y .1 .0), omega (arith, y .1 .1 .0)))
+
+module _ (s : List ℕ) (tile e : ℕ) where
+  pub tile-out : (n : ℕ) → n ≡ tileCount s → n ≤ tile → false ≡ inTiles s tile e
+  unfolding inTiles
+  tile-out n p h = no _ (λ y. omega (arith, y .0))
+
+  pub tile-element-out : (n : ℕ) → n ≡ elementCount s → n ≤ e → false ≡ inTiles s tile e
+  unfolding inTiles
+  tile-element-out n p h = no _ (λ y. omega (arith, y .1 .0))
+
+  pub tiles-in : (a c : ℕ) → a ≡ tileCount s → c ≡ elementCount s → tile < a → e < c → true ≡ inTiles s tile e
+  unfolding inTiles
+  tiles-in a c p q h k = yes _ (omega arith, (omega arith, tt))
+
+  pub tiles-mean : inTiles s tile e ≡ true → (tile < tileCount s) × (e < elementCount s)
+  unfolding inTiles
+  tiles-mean f = let y = means _ f in (omega (arith, y .0), omega (arith, y .1 .0))
+
+-- lawful sides
+
+pub sides-is : (s : List ℕ) (a b : Bool) → a ≡ sidesRight s → a ≡ true → b ≡ sidesWithin s → b ≡ sidesLawful s
+unfolding sidesLawful
+sides-is s a b p e q = either-way _ b (λ z. (sym p ∙ e, (sym q ∙ z, tt))) (λ z w. not-both (w .1 .0) (sym q ∙ z))
+
+pub sides-not : (s : List ℕ) (a : Bool) → a ≡ sidesRight s → a ≡ false → false ≡ sidesLawful s
+unfolding sidesLawful
+sides-not s a p e = no _ (λ y. not-both (y .0) (sym p ∙ e))
+
+pub record Sides (s : List ℕ) : Type 0 where
+  pub rows : gridRows s ≤ 65536
+  pub columns : gridColumns s ≤ 65536
+  pub tile-rows : (1 ≤ tileRows s) × (tileRows s ≤ 4096)
+  pub tile-columns : (1 ≤ tileColumns s) × (tileColumns s ≤ 4096)
+
+pub sides-mean : (s : List ℕ) → sidesLawful s ≡ true → Sides s
+unfolding sidesLawful sidesRight positive sidesWithin
+sides-mean s e =
+    let y = means _ e in
+    let a = means _ (y .0) in
+    let b = means _ (y .1 .0) in
+    record {
+      rows = b .0;
+      columns = b .1 .0;
+      tile-rows = (means _ (a .1 .1 .0) .0, b .1 .1 .0);
+      tile-columns = (means _ (a .1 .1 .1 .0) .0, b .1 .1 .1 .0);
+    }
+
+pub reach-past : (s : List ℕ) (x : ℕ) → length s ≤ x → false ≡ withinReach s x
+unfolding withinReach
+reach-past s x h = no _ (λ y. omega (arith, y .0))
+
+pub reach-is : (s : List ℕ) (x : ℕ) (b : Bool) → x < length s → b ≡ sidesLawful s → b ≡ withinReach s x
+unfolding withinReach
+reach-is s x b h e = either-way _ b (λ z. (omega arith, (sym e ∙ z, tt))) (λ z w. not-both (w .1 .0) (sym e ∙ z))
+
+pub reach-means : (s : List ℕ) (x : ℕ) → withinReach s x ≡ true → (x < length s) × (sidesLawful s ≡ true)
+unfolding withinReach
+reach-means s x e = let y = means _ e in (omega (arith, y .0), y .1 .0)
+
+-- numbers inside a tile and bytes of an element are small
+
+product-small : (h w : ℕ) → h ≤ 4096 → w ≤ 4096 → h * w ≤ 16777216
+product-small h w p q = let m : h * w ≤ 4096 * 4096 = mul-le-mul p q in omega arith
+
+pub inside-small : (s : List ℕ) (row column : ℕ) → sidesLawful s ≡ true → cellInside s row column < 16777216
+unfolding cellInside insideOf
+inside-small s row column e =
+    let a = sides-mean s e in
+    let b : row % tileRows s < tileRows s = mod-lt row (omega (arith, a .tile-rows .0)) in
+    let c : column % tileColumns s < tileColumns s = mod-lt column (omega (arith, a .tile-columns .0)) in
+    let g = grid-less (tileColumns s) (row % tileRows s) (column % tileColumns s) c (tileRows s) b in
+    omega (arith, product-small (tileRows s) (tileColumns s) (a .tile-rows .1) (a .tile-columns .1))
+
+offset-small : (k i : ℕ) → i < 16777216 → cellOffset k i ≤ 67108864
+unfolding cellOffset
+offset-small k i h =
+    let l : i ≤ 16777216 = omega arith in
+    let m : i * cellSize k ≤ 16777216 * 4 = mul-le-mul l (size-range k .1) in
+    omega arith
+
+pub offset-is :
+    (s : List ℕ) (row column e k i r : ℕ) → sidesLawful s ≡ true → k ≡ element s e .kind → i ≡ cellInside s row column → r ≡ cellOffset k i →
+    (r ≡ offsetIn s row column e) × (r ≤ 67108864)
+unfolding offsetIn
+offset-is s row column e k i r l p q f =
+    (f ∙ rw (p, q), omega (arith, offset-small k i (omega (arith, inside-small s row column l))))
+
+pub bytes-small : (s : List ℕ) (e n : ℕ) → sidesLawful s ≡ true → n ≡ min (elementBytes s e) cap → n ≡ elementBytes s e
+unfolding elementBytes uncompressed
+bytes-small s e n l p =
+    let a = sides-mean s l in
+    let m : tileRows s * tileColumns s * cellSize (element s e .kind) ≤ 16777216 * 4 =
+    mul-le-mul (product-small (tileRows s) (tileColumns s) (a .tile-rows .1) (a .tile-columns .1)) (size-range (element s e .kind) .1) in
+    omega arith
+
+-- a section
+
+pub section-told : (s : List ℕ) (x e r : ℕ) → x < length s → r ≡ sectionStart s x e → r ≡ sectionAt s x e
+unfolding sectionStart
+section-told s x e r h p = rw (lt-leb (length s) x h) at p
+
+module _ (s : List ℕ) (x e p l u : ℕ) (a : p ≡ sectionAt s x e) (b : l ≡ u32At s p) (c : u ≡ min (elementBytes s e) cap) where
+  length-is : l ≡ sectionLength s x e
+  unfolding sectionLength
+  length-is = b ∙ rw a
+
+  pub packed-yes : l < u → true ≡ packed s x e
+  unfolding packed
+  packed-yes h = yes _ (omega (arith, length-is), tt)
+
+  pub packed-no : l < cap → u ≤ l → false ≡ packed s x e
+  unfolding packed
+  packed-no h k = no _ (λ y. omega (arith, y .0, length-is))
+
+pub place-is : (s : List ℕ) (x row column e p o : ℕ) → p ≡ sectionAt s x e → o ≡ offsetIn s row column e → p + 4 + o ≡ placeIn s x row column e
+unfolding placeIn elementContentAt
+place-is s x row column e p o a b = rw (a, b)
+
+-- values
+
+pub bits-short : (s : List ℕ) (k at r : ℕ) → k ≡ 3 → r ≡ numberAt 2 s at → r ≡ numberAt (cellSize k) s at
+unfolding cellSize
+bits-short s k at r h e = rw h e
+
+pub bits-other : (s : List ℕ) (k at r : ℕ) → (k ≡ 3 → ⊥) → r ≡ numberAt 4 s at → r ≡ numberAt (cellSize k) s at
+unfolding cellSize
+bits-other s k at r h e = rw (ne-eqb k 3 h) e
+
+pub stored-is :
+    (s : List ℕ) (e at k b : ℕ) (v : Value) → k ≡ element s e .kind → b ≡ numberAt (cellSize k) s at → v ≡ valueOf k b → cell.Stored v at ≡ storedAt s e at
+unfolding storedAt
+stored-is s e at k b v p q f = ap (λ (x : Value). cell.Stored x at) (f ∙ rw (q, p))
+
+pub fill-is : (s : List ℕ) (e : ℕ) (x : Element) (v : Value) → x ≡ element s e → v ≡ valueOf (x .kind) (x .fill) → cell.Fill v ≡ fillOf s e
+unfolding fillOf
+fill-is s e x v p f = ap (λ (y : Value). cell.Fill y) (f ∙ rw p)
+
+-- a cell and an element's content in a tile record
+
+pub carries-not : (s : List ℕ) (i x k : ℕ) → k ≡ typeAt s x → (k ≡ 2 → ⊥) → false ≡ carries s i x
+unfolding carries
+carries-not s i x k p h = no _ (λ y. h (p ∙ y .0))
+
+pub carries-other : (s : List ℕ) (i x j : ℕ) → j ≡ u32At s (x + 8) → (j ≡ i → ⊥) → false ≡ carries s i x
+unfolding carries tileIndex
+carries-other s i x j p h = no _ (λ y. h (p ∙ y .1 .0))
+
+pub carries-yes : (s : List ℕ) (i x k j : ℕ) → k ≡ typeAt s x → k ≡ 2 → j ≡ u32At s (x + 8) → j ≡ i → true ≡ carries s i x
+unfolding carries tileIndex
+carries-yes s i x k j p h q m = yes _ (sym p ∙ h, (sym q ∙ m, tt))
+
+module _ (s : List ℕ) (x e : ℕ) (b : Bool) (p : b ≡ packed s x e) where
+  pub cell-packed : (row column : ℕ) → b ≡ true → cell.Refused (refusal.Compressed x) ≡ cellIn s x row column e
+  unfolding cellIn
+  cell-packed row column f = rw (← p, f)
+
+  pub cell-whole : (row column at : ℕ) (r : Cell) → b ≡ false → at ≡ placeIn s x row column e → r ≡ storedAt s e at → r ≡ cellIn s x row column e
+  unfolding cellIn
+  cell-whole row column at r f q t = rw (← p, f) (t ∙ rw q)
+
+  pub content-packed : b ≡ true → content.Refused (refusal.Compressed x) ≡ contentIn s x e
+  unfolding contentIn
+  content-packed f = rw (← p, f)
+
+  pub content-whole : (at n m : ℕ) → b ≡ false → at ≡ sectionAt s x e → n ≡ elementBytes s e → m ≡ n → content.Present (at + 4) m ≡ contentIn s x e
+  unfolding contentIn elementContentAt
+  content-whole at n m f q t u = rw (← p, f, q, u, t)
+
+module _ (s : List ℕ) (x e : ℕ) (b : Bool) (p : b ≡ withinReach s x) where
+  pub cell-reached : (row column : ℕ) (r : Cell) → b ≡ true → r ≡ cellIn s x row column e → r ≡ cellWithin s x row column e
+  unfolding cellWithin
+  cell-reached row column r f q = rw (← p, f) q
+
+  pub cell-unreached : (row column : ℕ) → b ≡ false → cell.Refused refusal.Directory ≡ cellWithin s x row column e
+  unfolding cellWithin
+  cell-unreached row column f = rw (← p, f)
+
+  pub content-reached : (r : Content) → b ≡ true → r ≡ contentIn s x e → r ≡ contentWithin s x e
+  unfolding contentWithin
+  content-reached r f q = rw (← p, f) q
+
+  pub content-unreached : b ≡ false → content.Refused refusal.Directory ≡ contentWithin s x e
+  unfolding contentWithin
+  content-unreached f = rw (← p, f)

@@ -1,0 +1,4 @@
+pub mod CellLaws
+pub mod ApartLaws
+pub mod RouteLaws
+pub mod ReadLaws

@@ -1,0 +1,31 @@
+-- Demand 3, whole: on every accepted file both routes, and the walk without stage 9, give the one answer that the cell's meaning
+-- fixes; two different stored cells never share a byte.
+use Prim.Native.Nat.{ℕ, _+_, _≤_}
+use mathlib.Core.Path.{_≡_}
+use mathlib.Core.List.{List}
+use mathlib.Core.Logic.{_⊎_}
+use Rattle.answer.specs.declared.Value.{Value}
+use Rattle.answer.specs.declared.Verdict.the-variants.{Accepted}
+use Rattle.answer.specs.declared.Cell.the-variants.{Stored}
+use Rattle.header.specs.Element.{cellSize, element}
+use Rattle.page_check.specs.Stages.{check}
+use Rattle.cells.specs.Meaning.{meaning}
+use Rattle.cells.specs.Reads.{readByDirectory, readByWalk, readByRecords}
+
+-- the bytes of a stored cell of element e
+abbrev pub bytesOfCell : List ℕ → ℕ → ℕ
+bytesOfCell s e = cellSize (element s e .kind)
+
+pub record OneAnswer (s : List ℕ) : Type 0 where
+  pub by-directory : (row column e : ℕ) → readByDirectory s row column e ≡ meaning s row column e
+  pub by-walk : (row column e : ℕ) → readByWalk s row column e ≡ meaning s row column e
+  pub by-records : (row column e : ℕ) → readByRecords s row column e ≡ meaning s row column e
+  -- two stored cells are one cell, or one ends before the other starts
+  pub apart :
+      (row column e place : ℕ) (v : Value) (row2 column2 e2 place2 : ℕ) (v2 : Value) →
+      meaning s row column e ≡ Stored v place → meaning s row2 column2 e2 ≡ Stored v2 place2 →
+      ((row ≡ row2) × ((column ≡ column2) × (e ≡ e2)))
+      ⊎ ((place + bytesOfCell s e ≤ place2) ⊎ (place2 + bytesOfCell s e2 ≤ place))
+
+abbrev pub Demand3 : Type 0
+Demand3 = (s : List ℕ) → check s ≡ Accepted → OneAnswer s

@@ -1,0 +1,159 @@
+// What a tile record says of a cell or of an element, and the fill of an absent tile.
+use answer::Cell;
+use answer::Content;
+use answer::Refusal;
+use check_header::ceilings;
+use check_header::header_record;
+use check_records::tile_body;
+use geometry::sizes;
+use geometry::tiles;
+use header::entries;
+ghost use mathlib.Core.Path.{_≡_};
+ghost use mathlib.Core.Bool.{true};
+ghost use Prim.Native.Nat.{_+_, _≤_, _<_};
+ghost use lib.ListN.{length};
+ghost use Rattle.wire.specs.Bytes.{numberAt};
+ghost use Rattle.header.specs.Element.{cellSize};
+ghost use Rattle.check_records.specs.TileBody.{sectionAt};
+ghost use Rattle.cells.specs.TileCells.{packed, offsetIn, placeIn, storedAt, cellIn, fillOf, contentIn, sidesLawful, withinReach, cellWithin, contentWithin};
+
+// The sides keep stages 3 and 4.
+pub fn sides_lawful(s: &[u8]) -> bool
+    ensures { λ r. ⌜ r ≡ sidesLawful (now (s .entry)) ⌝ }
+{
+    if header_record::sides_right(s) {
+        return ceilings::sides_within(s);
+    }
+    false
+}
+
+// Whether a record can start at a position, in a file whose sides are lawful.
+fn within_reach(s: &[u8], x: usize) -> bool
+    ensures { λ r. ⌜ r ≡ withinReach (now (s .entry)) x ⌝ }
+{
+    if s.len() <= x {
+        return false;
+    }
+    sides_lawful(s)
+}
+
+// Where the section of element e of the tile record at x starts.
+fn section(s: &[u8], x: usize, e: u32) -> usize
+    requires { ⌜ x < length (now s) ⌝ }
+    ensures is { λ r. ⌜ r ≡ sectionAt (now (s .entry)) x e ⌝ }
+    ensures near { λ r. ⌜ r ≤ length (now (s .entry)) + 4294967312 ⌝ }
+{
+    tile_body::section_start(s, x, e)
+}
+
+// Whether its length L is below U.
+fn is_packed(s: &[u8], x: usize, e: u32) -> bool
+    requires { ⌜ x < length (now s) ⌝ }
+    ensures { λ r. ⌜ r ≡ packed (now (s .entry)) x e ⌝ }
+{
+    let l = wire::u32_at(s, section(s, x, e)) as u64;
+    if l < sizes::element_bytes(s, e as usize) {
+        return true;
+    }
+    false
+}
+
+// Where a cell starts in its element's content.
+fn offset_in(s: &[u8], row: u32, column: u32, e: u32) -> u64
+    requires { ⌜ sidesLawful (now s) ≡ true ⌝ }
+    ensures is { λ r. ⌜ r ≡ offsetIn (now (s .entry)) row column e ⌝ }
+    ensures near { λ r. ⌜ r ≤ 67108864 ⌝ }
+{
+    let x = entries::element(s, e as usize);
+    let kind = x.kind;
+    sizes::cell_offset(kind, tiles::cell_inside(s, row, column) as u32)
+}
+
+// A cell's place.
+fn place_in(s: &[u8], x: usize, row: u32, column: u32, e: u32) -> usize
+    requires { ⌜ withinReach (now s) x ≡ true ⌝ }
+    ensures { λ r. ⌜ r ≡ placeIn (now (s .entry)) x row column e ⌝ }
+{
+    let at = section(s, x, e);
+    at + 4 + offset_in(s, row, column, e) as usize
+}
+
+// The bit pattern at a place, of an element of a type code.
+fn bits_at(s: &[u8], kind: u32, place: usize) -> u32
+    ensures { λ r. ⌜ r ≡ numberAt (cellSize kind) (now (s .entry)) place ⌝ }
+{
+    if kind == 3 {
+        return wire::u16_at(s, place);
+    }
+    wire::u32_at(s, place)
+}
+
+// The cell that is stored there.
+fn stored_at(s: &[u8], e: u32, place: usize) -> Cell
+    ensures { λ r. ⌜ r ≡ storedAt (now (s .entry)) e place ⌝ }
+{
+    let x = entries::element(s, e as usize);
+    let kind = x.kind;
+    Cell::Stored {
+        value: answer::value_of(kind, bits_at(s, kind, place)),
+        place,
+    }
+}
+
+// The cell, as the tile record at x has it.
+fn cell_in(s: &[u8], x: usize, row: u32, column: u32, e: u32) -> Cell
+    requires { ⌜ withinReach (now s) x ≡ true ⌝ }
+    ensures { λ r. ⌜ r ≡ cellIn (now (s .entry)) x row column e ⌝ }
+{
+    if is_packed(s, x, e) {
+        return Cell::Refused(Refusal::Compressed(x));
+    }
+    stored_at(s, e, place_in(s, x, row, column, e))
+}
+
+// The same for any position.
+pub fn cell_within(s: &[u8], x: usize, row: u32, column: u32, e: u32) -> Cell
+    ensures { λ r. ⌜ r ≡ cellWithin (now (s .entry)) x row column e ⌝ }
+{
+    if within_reach(s, x) {
+        return cell_in(s, x, row, column, e);
+    }
+    Cell::Refused(Refusal::Directory)
+}
+
+// A cell of an absent tile.
+pub fn fill_of(s: &[u8], e: u32) -> Cell
+    ensures { λ r. ⌜ r ≡ fillOf (now (s .entry)) e ⌝ }
+{
+    let x = entries::element(s, e as usize);
+    let kind = x.kind;
+    let fill = x.fill;
+    Cell::Fill {
+        value: answer::value_of(kind, fill),
+    }
+}
+
+// An element's content, as the tile record at x has it.
+fn content_in(s: &[u8], x: usize, e: u32) -> Content
+    requires { ⌜ withinReach (now s) x ≡ true ⌝ }
+    ensures { λ r. ⌜ r ≡ contentIn (now (s .entry)) x e ⌝ }
+{
+    if is_packed(s, x, e) {
+        return Content::Refused(Refusal::Compressed(x));
+    }
+    let at = section(s, x, e);
+    Content::Present {
+        start: at + 4,
+        length: sizes::element_bytes(s, e as usize) as usize,
+    }
+}
+
+// The same for any position.
+pub fn content_within(s: &[u8], x: usize, e: u32) -> Content
+    ensures { λ r. ⌜ r ≡ contentWithin (now (s .entry)) x e ⌝ }
+{
+    if within_reach(s, x) {
+        return content_in(s, x, e);
+    }
+    Content::Refused(Refusal::Directory)
+}

@@ -1,0 +1,17 @@
+-- `listed_records::lists::key_slot` meets its contract. Assumes nothing.
+use Rattle.listed_records.proofs.KeyLaws.{place-type, place-part, place-is}
+use borrow.Author.Needs.{needs}
+use Rattle.listed_records.proofs.lists.key_slot.Statement.{statement}
+use Rattle.listed_records.proofs.lists.key_slot.Tie as tie
+
+pub key-slot-spec : {M : Type 1} → statement M
+key-slot-spec =
+    tie.close
+    (tie.spec
+    (λ c κs. search needs)
+    (λ c. search (needs, place-type))
+    (λ c κs. search needs)
+    (λ c. search needs)
+    (λ c. search (needs, place-part))
+    (λ c. search needs)
+    (λ c. search (needs, place-is)))
