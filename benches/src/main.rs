@@ -1,10 +1,11 @@
-//! Times the library's check against the second implementation's, in one run.
+//! Times the library's check and reads against the second implementation's, in one run.
 //!
 //!     measure [--full]
 //!
 //! `--full` takes the lists in reverse order at 16 MiB too.
 
 mod look_up;
+mod reads;
 mod shapes;
 
 use std::env;
@@ -48,6 +49,7 @@ fn main() -> ExitCode {
         measure("metadata in reverse", &shapes::metadata_in_reverse(length));
     }
     checksum_speed(with_checksums, without);
+    reads::measure();
     look_up::measure();
     ExitCode::SUCCESS
 }
