@@ -3,7 +3,7 @@
    Link with libgvrs_c.a, which `rt staticlib gvrs_c` writes to target/staticlib/. A file is the bytes of the whole file, n of
    them. `out` takes the numbers that a function names, in their order; a shorter one takes those that fit, and the answer is the
    same. Nothing else is written. The caller sees to it that each pointer is that of as many elements as are named, that none is
-   null, also where it names none, and that `out` and the file do not overlap. */
+   null, also where it names none, that `out` and the file do not overlap, and that the calling thread has 320 KiB of stack left. */
 #ifndef GVRS_H
 #define GVRS_H
 

@@ -1,14 +1,17 @@
 -- What is asked for, and what a tile record says of it, from what the functions below answer. Assumes nothing.
 use Prim.Native.Nat.{ℕ, min, _+_, _*_, _%_, _-_, _≤_, _<_}
-use mathlib.Core.Path.{_≡_, sym, ap, _∙_}
-use mathlib.Core.List.{List}
+use mathlib.Core.Path.{_≡_, refl, sym, ap, _∙_}
+use mathlib.Core.List.{List, [], _∷_}
 use mathlib.Core.Bool.{Bool, true, false}
 use native.Mathlib.Omega.{arith}
 use native.Mathlib.Nat.{mod-lt, mul-le-mul}
 use lib.ListN.{length}
-use borrow.Author.Tests.{lt-leb, ne-eqb}
+use lib.Dec.{leb, eqb}
+use borrow.Author.Tests.{lt-leb, leb-true, eqb-true, eqb-false, ne-eqb}
+use Rattle.wire.specs.Pick.{pick}
+use Rattle.wire.specs.Tests.{_≤?_, passes}
 use Rattle.wire.specs.Bytes.{u32At, numberAt}
-use Rattle.wire.proofs.TestLaws.{means, yes, no, not-both, either-way}
+use Rattle.wire.proofs.TestLaws.{means, yes, no, fails, not-both, either-way}
 use Rattle.answer.specs.declared.Value.{Value}
 use Rattle.answer.specs.declared.Refusal.the-variants as refusal
 use Rattle.answer.specs.declared.Cell.{Cell}
@@ -21,11 +24,12 @@ use Rattle.header.specs.Fields.{gridRows, gridColumns, tileRows, tileColumns, e
 use Rattle.header.specs.Element.{cellSize, element}
 use Rattle.record.specs.Record.{typeAt}
 use Rattle.geometry.specs.Tiles.{tileCount, insideOf, cellInside}
-use Rattle.geometry.specs.Sizes.{cap, cellOffset, uncompressed, elementBytes}
+use Rattle.geometry.specs.Sizes.{cap, judge, judgeElement, cellOffset, uncompressed, elementBytes}
+use Rattle.geometry.specs.declared.Judged.the-variants.{Uncompressed, Compressed, Fault}
 use Rattle.geometry.proofs.SizeLaws.{size-range}
 use Rattle.check_header.specs.HeaderRecord.{positive, sidesRight}
 use Rattle.check_header.specs.Ceilings.{sidesWithin}
-use Rattle.check_records.specs.TileBody.{tileIndex, sectionAt, sectionStart, sectionLength, elementContentAt}
+use Rattle.check_records.specs.TileBody.{tileIndex, sectionAt, sectionStart, sectionLength, sectionJudged, notFault, sectionRight, elementContentAt}
 use Rattle.directory.proofs.OnlyLaws.{grid-less}
 use Rattle.cells.specs.Asked.{inGrid, inTiles}
 use Rattle.cells.specs.TileCells.{carries, packed, offsetIn, placeIn, storedAt, cellIn, fillOf, contentIn, sidesLawful, withinReach, cellWithin, contentWithin}
@@ -165,6 +169,24 @@ module _ (s : List ℕ) (x e p l u : ℕ) (a : p ≡ sectionAt s x e) (b : l ≡
   pub packed-no : l < cap → u ≤ l → false ≡ packed s x e
   unfolding packed
   packed-no h k = no _ (λ y. omega (arith, y .0, length-is))
+
+-- where stage 8 passes a section, compressed is what its length is judged to be
+pub packed-judged : (s : List ℕ) (x e : ℕ) → sectionRight s x e ≡ true → (packed s x e ≡ true → sectionJudged s x e ≡ Compressed) × (packed s x e ≡ false → sectionJudged s x e ≡ Uncompressed)
+unfolding sectionRight sectionJudged judgeElement judge packed
+packed-judged s x e r = go (eqb (sectionLength s x e) 0) refl (eqb (sectionLength s x e) (elementBytes s e)) refl (leb (sectionLength s x e) (elementBytes s e)) refl r
+  where
+    go :
+        (a : Bool) → eqb (sectionLength s x e) 0 ≡ a → (b : Bool) → eqb (sectionLength s x e) (elementBytes s e) ≡ b → (c : Bool) →
+        leb (sectionLength s x e) (elementBytes s e) ≡ c → notFault (pick a Fault (pick b Uncompressed (pick c Compressed Fault))) ≡ true →
+        (passes ((sectionLength s x e + 1 ≤? elementBytes s e) ∷ []) ≡ true → pick a Fault (pick b Uncompressed (pick c Compressed Fault)) ≡ Compressed)
+        × (passes ((sectionLength s x e + 1 ≤? elementBytes s e) ∷ []) ≡ false → pick a Fault (pick b Uncompressed (pick c Compressed Fault)) ≡ Uncompressed)
+    go true f b g c h t = not-both t refl
+    go false f true g c h t = let y = eqb-true (sectionLength s x e) (elementBytes s e) g in ((λ p. absurd (omega (arith, means _ p .0))), (λ p. refl))
+    go false f false g true h t =
+        let y = eqb-false (sectionLength s x e) (elementBytes s e) g in
+        let z = leb-true (sectionLength s x e) (elementBytes s e) h in
+        ((λ p. refl), (λ p. absurd (fails _ p (omega arith, tt))))
+    go false f false g false h t = not-both t refl
 
 pub place-is : (s : List ℕ) (x row column e p o : ℕ) → p ≡ sectionAt s x e → o ≡ offsetIn s row column e → p + 4 + o ≡ placeIn s x row column e
 unfolding placeIn elementContentAt

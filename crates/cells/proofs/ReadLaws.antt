@@ -301,6 +301,26 @@ module _ (s : List ℕ) (v : Verdict) (p : v ≡ checkToBodies s) (row column e 
   unfolding readByRecords recordsMeaning unlessRefused
   records-answer x f g = (rw (← p, f) g, rw (← p, f) (g ∙ walk-means s row column e))
 
+-- each read is the check's refusal or the meaning, on any bytes
+
+module _ (s : List ℕ) (row column e : ℕ) where
+  pub directory-read : readByDirectory s row column e ≡ readMeaning s row column e
+  unfolding readByDirectory readMeaning unlessRefused
+  directory-read = go (check s) refl
+    where
+      go :
+          (v : Verdict) → check s ≡ v → unlessRefused v (directoryCell s row column e) ≡ unlessRefused v (meaning s row column e)
+      go Accepted f = routes-one s (accepted-obeys s f) row column e
+      go (Refused r) f = refl
+
+  pub walk-read : readByWalk s row column e ≡ readMeaning s row column e
+  unfolding readByWalk readMeaning
+  walk-read = rw (walk-means s row column e)
+
+  pub records-read : readByRecords s row column e ≡ recordsMeaning s row column e
+  unfolding readByRecords recordsMeaning
+  records-read = rw (walk-means s row column e)
+
 -- what is stored lies in the file
 
 stored-inside : (s : List ℕ) → Obeys s → (row column e place : ℕ) (v : Value) → meaning s row column e ≡ cell.Stored v place → place + bytesOfCell s e ≤ length s

@@ -28,7 +28,8 @@ referredContent s tile e = pick (eqb (tileReference s tile) 0) content.Absent (c
 unfoldable pub directoryContent : List ℕ → ℕ → ℕ → Content
 directoryContent s tile e = pick (inTiles s tile e) (referredContent s tile e) (content.Refused OutsideGrid)
 
--- the same without the check, on any bytes: where a side or a reference is one that no accepted file has, it is 9
+-- the same without the check, on any bytes: 9 where the sides are not lawful or a reference lies past the file; any other reference
+-- is believed as it stands
 unfoldable pub lookedInside : List ℕ → ℕ → ℕ → ℕ → Cell
 lookedInside s row column e =
     pick (sidesLawful s)

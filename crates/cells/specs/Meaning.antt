@@ -1,4 +1,5 @@
--- Document 01, 'Finding a cell', demand 2: what a cell of an accepted file means, by neither route.
+-- Document 01, 'Finding a cell', demand 2: what a cell of an accepted file means, by neither route. Behind stages 1 to 8 alone it
+-- says what the records mean.
 use Prim.Native.Nat.{ℕ}
 use mathlib.Core.List.{List, [], _∷_}
 use Rattle.wire.specs.Pick.{pick}
@@ -17,7 +18,7 @@ use Rattle.cells.specs.TileCells.{carries, cellIn, fillOf, contentIn}
 unfoldable pub recordsWith : List ℕ → ℕ → List ℕ
 recordsWith s i = select (carries s i) (records s)
 
--- none: the cell is fill; else the one that is decides
+-- none: the cell is fill; else the one that is decides, the first where a file that stage 9 refuses has several
 abbrev pub decided : List ℕ → ℕ → ℕ → ℕ → List ℕ → Cell
 decided s row column e [] = fillOf s e
 decided s row column e (x ∷ xs) = cellIn s x row column e

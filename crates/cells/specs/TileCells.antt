@@ -58,11 +58,11 @@ contentIn s x e =
 unfoldable pub sidesLawful : List ℕ → Bool
 sidesLawful s = passes (is (sidesRight s) ∷ is (sidesWithin s) ∷ [])
 
--- a record can start at x, in a file with such sides
+-- x lies in the file, and its sides are such
 unfoldable pub withinReach : List ℕ → ℕ → Bool
 withinReach s x = passes ((x + 1 ≤? length s) ∷ is (sidesLawful s) ∷ [])
 
--- the same where nothing was checked: 9 where no record can start at x, which an accepted file shows nowhere
+-- the same where nothing was checked: 9 where the sides are not lawful or x lies past the file
 unfoldable pub cellWithin : List ℕ → ℕ → ℕ → ℕ → ℕ → Cell
 cellWithin s x row column e = pick (withinReach s x) (cellIn s x row column e) (cell.Refused refusal.Directory)
 

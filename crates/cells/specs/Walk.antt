@@ -14,7 +14,8 @@ use Rattle.geometry.specs.Tiles.{cellTile}
 use Rattle.cells.specs.Asked.{inGrid}
 use Rattle.cells.specs.TileCells.{carries, cellIn, fillOf}
 
--- the first tile record from the header's end on with index i
+-- the first tile record from the header's end on with index i. Where the chain breaks off the first bad record is asked too; no file
+-- that passes stage 6 has one
 unfoldable pub walkedTo : List ℕ → ℕ → Found
 walkedTo s i = firstRecord s (headerEnd s) (carries s i)
 

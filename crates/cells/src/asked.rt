@@ -1,4 +1,4 @@
-// What may be asked for. Each number that is in the grid or the tiles fits in 32 bits.
+// What may be asked for. A row, column or element number that is there fits in 32 bits.
 use geometry::tiles;
 use header::fields;
 ghost use mathlib.Core.Path.{_≡_};

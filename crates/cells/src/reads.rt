@@ -50,7 +50,7 @@ fn look_up(s: &[u8], row: u32, column: u32, e: u32) -> Cell
 }
 
 // The cell by the directory, without the check. On an accepted file it is the cell's meaning; on other bytes it is what the
-// directory's entries give, and 9 where no accepted file has such sides or such a reference.
+// directory's entries give, believed as they stand; 9 where the sides are not lawful or a reference lies past the file.
 pub fn cell_of_accepted(s: &[u8], row: u64, column: u64, e: u64) -> Cell
     ensures looked { λ r. ⌜ r ≡ lookedUp (now (s .entry)) row column e ⌝ }
     ensures accepted { λ r. ⌜ (check (now (s .entry)) ≡ Accepted → r ≡ meaning (now (s .entry)) row column e) ⌝ }

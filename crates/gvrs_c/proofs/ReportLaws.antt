@@ -2,17 +2,22 @@
 use Prim.Native.Nat.{ℕ, _≤_}
 use mathlib.Core.Path.{_≡_, refl, sym, ap, _∙_}
 use mathlib.Core.List.{List, [], _∷_}
+use mathlib.Core.Bool.{Bool, true, false}
+use native.Mathlib.Omega.{arith}
 use lib.ListN.{length, set}
-use borrow.Author.Tests.{ne-eqb}
+use lib.Dec.{eqb}
+use borrow.Author.Tests.{eqb-true, ne-eqb}
+use Rattle.wire.specs.Pick.{pick}
 use Rattle.answer.specs.declared.Verdict.{Verdict}
 use Rattle.answer.specs.declared.Cell.{Cell}
 use Rattle.answer.specs.declared.Content.{Content}
 use Rattle.answer.specs.Refusals.{verdictNumber, verdictPlace}
 use Rattle.answer.specs.Answers.{cellKind, cellType, cellBits, cellPlace, contentKind, contentPlace, contentLength}
 use Rattle.page_check.specs.Stages.{check}
-use Rattle.cells.specs.Reads.{readByDirectory, readByWalk, readByRecords, readContent}
+use Rattle.cells.specs.Reads.{readByDirectory, readByWalk, readByRecords, readMeaning, recordsMeaning, readContent}
+use Rattle.cells.proofs.ReadLaws.{directory-read, walk-read, records-read}
 use Rattle.gvrs_c.specs.Report.{reported}
-use Rattle.gvrs_c.specs.Route.{readBy}
+use Rattle.gvrs_c.specs.Route.{readBy, meaningBy, RouteMeans}
 
 one-reported : (out : List ℕ) (a : ℕ) → set out 0 a ≡ reported (a ∷ []) out
 unfolding reported
@@ -52,6 +57,19 @@ module _ (s : List ℕ) (row column e route : ℕ) (r : Cell) where
   pub by-directory : (route ≡ 1 → ⊥) → (route ≡ 2 → ⊥) → r ≡ readByDirectory s row column e → r ≡ readBy route s row column e
   unfolding readBy
   by-directory h k q = rw (ne-eqb route 1 h, ne-eqb route 2 k) q
+
+pub route-means : RouteMeans
+unfolding readBy meaningBy
+route-means route s row column e = go (eqb route 1) refl (eqb route 2) refl
+  where
+    go :
+        (a : Bool) → eqb route 1 ≡ a → (b : Bool) → eqb route 2 ≡ b →
+        pick a (readByWalk s row column e) (pick b (readByRecords s row column e) (readByDirectory s row column e))
+        ≡ pick b (recordsMeaning s row column e) (readMeaning s row column e)
+    go true f true g = let y = eqb-true route 1 f in let z = eqb-true route 2 g in absurd (omega arith)
+    go true f false g = walk-read s row column e
+    go false f true g = records-read s row column e
+    go false f false g = directory-read s row column e
 
 pub cell-told :
     (o p q t : List ℕ) (x y : Cell) (n a b c : ℕ) → x ≡ y → a ≡ cellType x → p ≡ set o 0 a → b ≡ cellBits x → q ≡ set p 1 b → c ≡ cellPlace x →

@@ -1,3 +1,4 @@
+-- For private functions of lists.rt; no rule of stage 9 rests on it.
 -- The entries of a list, counted by the records that they are of, a window of the file at a time. A window has 131072 places, the
 -- first at its base, each eight bytes behind the one before it.
 use Prim.Native.Nat.{ℕ, zero, suc, _+_, _-_, _/_, _%_}

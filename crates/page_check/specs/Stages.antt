@@ -35,7 +35,7 @@ checkToBodies s = after (checkHeader s (length s)) (checkRecords s Accepted)
 unfoldable pub checkDirectories : List ℕ → Verdict
 checkDirectories s = gate (directoriesRight s) Directory Accepted
 
--- stages 6 to 9, whether the file is opened for writing or not
+-- stages 6 to 9 alone: nothing is said of stages 1 to 5, so a file that is opened for writing can be asked too
 unfoldable pub checkFromRecords : List ℕ → Verdict
 checkFromRecords s = checkRecords s (checkDirectories s)
 

@@ -45,7 +45,7 @@ fn check_directories(s: &[u8]) -> Verdict
     Verdict::Refused(Refusal::Directory)
 }
 
-// Stages 6 to 9, whether the file is opened for writing or not.
+// Stages 6 to 9 alone: nothing is said of stages 1 to 5, so a file that is opened for writing can be asked too.
 pub fn check_from_records(s: &[u8]) -> Verdict
     ensures { λ r. ⌜ r ≡ checkFromRecords (now (s .entry)) ⌝ }
 {
