@@ -1,3 +1,4 @@
 pub mod SignedLaws
 pub mod FloatLaws
 pub mod ValueLaws
+pub mod VerdictLaws

@@ -49,3 +49,8 @@ verdictPlace (Refused r) = refusalPlace r
 unfoldable pub gate : Bool → Refusal → Verdict → Verdict
 gate true r v = v
 gate false r v = Refused r
+
+-- what comes behind where a check accepts, and its refusal where it does not
+unfoldable pub after : Verdict → Verdict → Verdict
+after Accepted behind = behind
+after (Refused r) behind = Refused r

@@ -182,7 +182,7 @@ stored-as s row column e place v q = go (inGrid s row column e) refl (recordsWit
 
 -- its bytes lie in its element's uncompressed content
 
-offset-within : (s : List ℕ) (row column e : ℕ) → 0 < tileRows s → 0 < tileColumns s → offsetIn s row column e + bytesOfCell s e ≤ elementBytes s e
+pub offset-within : (s : List ℕ) (row column e : ℕ) → 0 < tileRows s → 0 < tileColumns s → offsetIn s row column e + bytesOfCell s e ≤ elementBytes s e
 unfolding offsetIn cellOffset elementBytes uncompressed cellInside
 offset-within s row column e p q =
     item-within (tileRows s * tileColumns s) _ (cellSize (element s e .kind)) (inside-less (tileRows s) (tileColumns s) row column p q)

@@ -37,9 +37,11 @@ use Rattle.directory.specs.Lists.{recordsOf}
 use Rattle.directory.specs.TileDirectory.{tileReference}
 use Rattle.directory.specs.Correspondence.{TileRecord, OneToOne}
 use Rattle.directory.proofs.MemberLaws.{of-type}
-use Rattle.page_check.specs.Stages.{after, checkToBodies, check}
+use Rattle.answer.specs.Refusals.{after}
+use Rattle.answer.proofs.VerdictLaws.{after-passed}
+use Rattle.page_check.specs.Stages.{checkToBodies, check}
 use Rattle.page_check.specs.Accepted.{ObeysBy, Obeys}
-use Rattle.page_check.proofs.AcceptedLaws.{accepted-obeys, after-passed, headed-if}
+use Rattle.page_check.proofs.AcceptedLaws.{accepted-obeys, headed-if}
 use Rattle.page_check.proofs.StageLaws.{bodies-then}
 use Rattle.page_check.proofs.GivenLaws.{obeys-one, obeys-tile}
 use Rattle.cells.specs.Asked.{inGrid, inTiles}

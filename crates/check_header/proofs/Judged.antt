@@ -55,6 +55,12 @@ pub identified-same : {s t : List ℕ} → Same s t 0 14 → (n : ℕ) → ident
 unfolding identified
 identified-same e n = rw (part-same e 0 12 (omega arith) (omega arith))
 
+pub identified-to : {s t : List ℕ} → Same s t 0 14 → (n m : ℕ) → identified s n ≡ true → n ≤ m → identified t m ≡ true
+unfolding identified
+identified-to e n m p h =
+    let a = means _ (sym (identified-same e n) ∙ p) in
+    sym (yes _ (omega (arith, a .0), (a .1 .0, tt)))
+
 pub version-same : {s t : List ℕ} → Same s t 0 14 → versionRight s ≡ versionRight t
 unfolding versionRight
 version-same e = rw (byte-same e 12 (omega arith) (omega arith), byte-same e 13 (omega arith) (omega arith))
@@ -80,13 +86,13 @@ unfolding headerRight frameRight
 header-lawful s n e = means _ (means _ e .0) .0
 
 -- where the entries that are read fit
-record Fit (s t : List ℕ) : Type 0 where
-  count : elementCount s ≡ elementCount t
-  read : entriesRead s ≡ entriesRead t
-  last : entryStart s (entriesRead s) ≤ headerLimit s
+pub record Fit (s t : List ℕ) : Type 0 where
+  pub count : elementCount s ≡ elementCount t
+  pub read : entriesRead s ≡ entriesRead t
+  pub last : entryStart s (entriesRead s) ≤ headerLimit s
 
 module _ (s t : List ℕ) (j : SameJudged s t) where
-  sameRest : SameRest s t
+  pub sameRest : SameRest s t
   sameRest =
       let e = end-same (j .frame) in
       record { length-same = e; in-first = j .in-first; in-second = omega (arith, j .in-second); rest = j .rest }
@@ -94,19 +100,19 @@ module _ (s t : List ℕ) (j : SameJudged s t) where
   side : (at : ℕ) → 104 ≤ at → at + 4 ≤ 120 → numberAt 4 s at ≡ numberAt 4 t at
   side at h k = number-same (j .sides) 4 at h k
 
-  option : (at : ℕ) → 128 ≤ at → at < 131 → byteAt s at ≡ byteAt t at
+  pub option : (at : ℕ) → 128 ≤ at → at < 131 → byteAt s at ≡ byteAt t at
   option at h k = byte-same (j .options) at h k
 
-  rows : gridRows s ≡ gridRows t
+  pub rows : gridRows s ≡ gridRows t
   rows = side 104 (omega arith) (omega arith)
 
-  columns : gridColumns s ≡ gridColumns t
+  pub columns : gridColumns s ≡ gridColumns t
   columns = side 108 (omega arith) (omega arith)
 
-  tile-rows : tileRows s ≡ tileRows t
+  pub tile-rows : tileRows s ≡ tileRows t
   tile-rows = side 112 (omega arith) (omega arith)
 
-  tile-columns : tileColumns s ≡ tileColumns t
+  pub tile-columns : tileColumns s ≡ tileColumns t
   tile-columns = side 116 (omega arith) (omega arith)
 
   -- the frame, in a file that is long enough
@@ -176,22 +182,25 @@ module _ (s t : List ℕ) (j : SameJudged s t) where
       rw (← c, le-leb (elementCount s) 16 h) (sym (yes _ (omega (arith, a .0), (omega (arith, a .1 .0), (omega (arith, a .1 .1 .0), tt))))))
       (λ n. let h : 16 < elementCount s = omega arith in rw (← c, lt-leb (elementCount s) 16 h))
 
+  pub header-fit : (n : ℕ) → headerRight s n ≡ true → Fit s t
+  unfolding headerRight
+  header-fit n e = fit (means _ e .1 .1 .1 .0)
+
   -- stage 3, in a file that is long enough
   pub header-to : (n m : ℕ) → headerRight s n ≡ true → headerEnd s ≤ m → headerRight t m ≡ true
   unfolding headerRight
   header-to n m e h =
       let a = means _ e in
-      let f = fit (a .1 .1 .1 .0) in
+      let f = header-fit n e in
       sym
       (yes _
       (frame-to n m (a .0) h, (sym sides-to ∙ a .1 .0, (sym options-to ∙ a .1 .1 .0, (elements-from f (a .1 .1 .1 .0), (tail-to (f .count) (a .1 .1 .1 .1 .0), tt))))))
 
   -- stage 4, where stage 3 passes, in a file that keeps its own ceiling
   pub ceilings-to : (n m : ℕ) → headerRight s n ≡ true → withinCeilings s n ≡ true → m ≤ 16777216 → withinCeilings t m ≡ true
-  unfolding headerRight withinCeilings sidesWithin tileCount
+  unfolding withinCeilings sidesWithin tileCount
   ceilings-to n m e g h =
-      let a = means _ e in
-      let f = fit (a .1 .1 .1 .0) in
+      let f = header-fit n e in
       let b = means _ g in
       let c = means _ (b .1 .0) in
       let k = bytes-to f in

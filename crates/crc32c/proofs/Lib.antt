@@ -2,3 +2,4 @@ pub mod Table
 pub mod Steps
 pub mod Entries
 pub mod Loop
+pub mod Range

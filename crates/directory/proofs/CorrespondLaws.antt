@@ -45,19 +45,25 @@ module _ (s : List ℕ) (listed : tilesListed s ≡ true) (only : tilesOnly s �
         one-index = λ i j h k z e. same-record i j (gives-record i h z) (gives-record j k (λ w. z (e ∙ w))) e;
       }
 
--- and back
+-- and back: the two that the rules rest on, and all of it
 
-pub one-listed : (s : List ℕ) → OneToOne s → tilesListed s ≡ true
+pub if-listed : (s : List ℕ) → ((x : ℕ) → List·Memᴰ x (recordsOf s 2) → tileReference s (tileIndex s x) ≡ contentAt x) → tilesListed s ≡ true
 unfolding tilesListed
-one-listed s o = member-every _ (recordsOf s 2) (λ x m. eq-eqb _ _ (o .listed m))
+if-listed s f = member-every _ (recordsOf s 2) (λ x m. eq-eqb _ _ (f x m))
 
-pub one-only : (s : List ℕ) → OneToOne s → tilesOnly s ≡ true
+pub if-only : (s : List ℕ) → ((i : ℕ) → i < tileCount s → (tileReference s i ≡ 0 → ⊥) → TileRecord s i) → tilesOnly s ≡ true
 unfolding tilesOnly givesTile
-one-only s o = below-all (tileCount s) _ (λ i h. go i h (eqb (tileReference s i) 0) refl)
+if-only s f = below-all (tileCount s) _ (λ i h. go i h (eqb (tileReference s i) 0) refl)
   where
     there : (i : ℕ) → TileRecord s i → givesTile s i ≡ true
     there i t = member-some _ (recordsOf s 2) (t .among) (sym (yes _ (t .content, (t .index, tt))))
 
     go : (i : ℕ) → i < tileCount s → (b : Bool) → eqb (tileReference s i) 0 ≡ b → (eqb (tileReference s i) 0 || givesTile s i) ≡ true
     go i h true e = rw e
-    go i h false e = rw e (there i (o .given i h (eqb-false _ _ e)))
+    go i h false e = rw e (there i (f i h (eqb-false _ _ e)))
+
+pub one-listed : (s : List ℕ) → OneToOne s → tilesListed s ≡ true
+one-listed s o = if-listed s (λ x m. o .listed m)
+
+pub one-only : (s : List ℕ) → OneToOne s → tilesOnly s ≡ true
+one-only s o = if-only s (o .given)

@@ -1,16 +1,18 @@
 -- Rules over a list, and its members. Assumes nothing.
 use Prim.Native.Nat.{ℕ}
 use mathlib.Core.Path.{_≡_, refl, sym, ap, _∙_}
-use mathlib.Core.List.{List, [], _∷_, List·Memᴰ, List·Memᴰ·head, List·Memᴰ·tail, List·Memᴰ·not-nil, List·Memᴰ·cases-cons}
+use mathlib.Core.List.{List, [], _∷_, _++_, List·Memᴰ, List·Memᴰ·head, List·Memᴰ·tail, List·Memᴰ·not-nil, List·Memᴰ·cases-cons}
 use mathlib.Core.Logic.{_⊎_, inl, inr, ⊎-elim}
 use mathlib.Core.Bool.{Bool, true, false, _||_}
 use lib.Dec.{eqb}
-use borrow.Author.Tests.{eqb-true, eq-eqb}
+use borrow.Author.Tests.{eqb-true, eq-eqb, ne-eqb}
 use Rattle.wire.specs.Pick.{pick}
+use Rattle.wire.specs.Tests.{passes}
 use Rattle.wire.proofs.TestLaws.{yes, not-both}
-use Rattle.record.specs.Record.{typeAt}
+use Rattle.record.specs.Record.{typeAt, contentAt}
 use Rattle.check_records.specs.Chain.{records}
 use Rattle.directory.specs.Lists.{select, every, some, recordsOf}
+use Rattle.directory.specs.References.{refersTo, noOther}
 use Rattle.directory.proofs.CountLaws.{every-each}
 
 pub every-member : (p : ℕ → Bool) (l : List ℕ) → every p l ≡ true → {x : ℕ} → List·Memᴰ x l → p x ≡ true
@@ -66,6 +68,27 @@ member-select p (y ∷ ys) {x} m e = go (p y) refl (List·Memᴰ·cases-cons m) 
     go true i c r = ⊎-elim (λ h. List·Memᴰ·head h) (λ k. List·Memᴰ·tail (r k)) c
     go false i c r = ⊎-elim (λ h. not-both (ap p (sym h) ∙ e) i) r c
 
+pub select-append : (p : ℕ → Bool) (l m : List ℕ) → select p (l ++ m) ≡ select p l ++ select p m
+unfolding select
+select-append p [] m = refl
+select-append p (x ∷ xs) m = go (p x) (select-append p xs m)
+  where
+    go :
+        (b : Bool) → select p (xs ++ m) ≡ select p xs ++ select p m →
+        pick b (x ∷ select p (xs ++ m)) (select p (xs ++ m)) ≡ pick b (x ∷ select p xs) (select p xs) ++ select p m
+    go true r = ap (λ (l : List ℕ). x ∷ l) r
+    go false r = r
+
+pub select-all : (p : ℕ → Bool) (l : List ℕ) → ((x : ℕ) → List·Memᴰ x l → p x ≡ true) → select p l ≡ l
+unfolding select
+select-all p [] f = refl
+select-all p (x ∷ xs) f = rw (f x (List·Memᴰ·head refl)) (ap (λ (l : List ℕ). x ∷ l) (select-all p xs (λ y m. f y (List·Memᴰ·tail m))))
+
+pub select-none : (p : ℕ → Bool) (l : List ℕ) → ((x : ℕ) → List·Memᴰ x l → p x ≡ false) → select p l ≡ []
+unfolding select
+select-none p [] f = refl
+select-none p (x ∷ xs) f = rw (f x (List·Memᴰ·head refl)) (select-none p xs (λ y m. f y (List·Memᴰ·tail m)))
+
 -- the records of a type
 
 pub of-type : (s : List ℕ) (kind : ℕ) {x : ℕ} → List·Memᴰ x (recordsOf s kind) → List·Memᴰ x (records s) × (typeAt s x ≡ kind)
@@ -75,3 +98,14 @@ of-type s kind m = let h = select-member _ (records s) m in (h .0, eqb-true _ _ 
 pub type-of : (s : List ℕ) (kind : ℕ) {x : ℕ} → List·Memᴰ x (records s) → typeAt s x ≡ kind → List·Memᴰ x (recordsOf s kind)
 unfolding recordsOf
 type-of s kind m e = member-select _ (records s) m (eq-eqb _ _ e)
+
+pub no-type : (s : List ℕ) (kind : ℕ) → ((x : ℕ) → List·Memᴰ x (records s) → typeAt s x ≡ kind → ⊥) → recordsOf s kind ≡ []
+unfolding recordsOf
+no-type s kind f = select-none _ (records s) (λ x m. ne-eqb _ _ (f x m))
+
+-- the only record of a type, where a reference is its content
+pub one-of-type :
+    (s : List ℕ) (kind reference x : ℕ) → recordsOf s kind ≡ x ∷ [] → reference ≡ contentAt x →
+    (refersTo s kind reference ≡ true) × (noOther s kind reference ≡ true)
+unfolding refersTo noOther some every passes
+one-of-type s kind reference x e r = let h = eq-eqb _ _ (sym r) in (rw (e, h), rw (e, h))

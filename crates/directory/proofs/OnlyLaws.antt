@@ -146,6 +146,26 @@ referenced-below s right i z =
     let e = div-add-mod' i (tilesAcross s) in
     omega arith
 
+-- where the rectangle is the whole grid of tiles, each tile's number is its index
+pub grid-reference :
+    (s : List ℕ) → firstRow s ≡ 0 → firstColumn s ≡ 0 → listedRows s ≡ tilesDown s → listedColumns s ≡ tilesAcross s →
+    (i : ℕ) → i < tileCount s → tileReference s i ≡ referenceAt s i
+unfolding tileReference tileCount tilesIn tilesAcross tilesDown numberOf
+grid-reference s p q d a i h =
+    let w = tilesAcross s in
+    let pos : 0 < w = go (tilesAcross s) refl in
+    let r : i / w < tilesDown s = div-lt-iff-lt-mul pos .1 h in
+    let c : i % w < w = mod-lt i pos in
+    let m : i / w - firstRow s ≡ i / w = omega arith in
+    let n : i % w - firstColumn s ≡ i % w = omega arith in
+    let e : (i / w - firstRow s) * listedColumns s + (i % w - firstColumn s) ≡ i = rw (m, n, a) (div-add-mod' i w) in
+    reference-inside s (i / w) (i % w) (record { below = omega arith; rows = omega arith; right = omega arith; columns = omega arith })
+    ∙ ap (referenceAt s) e
+  where
+    go : (n : ℕ) → tilesAcross s ≡ n → 0 < tilesAcross s
+    go zero e = let z : tilesDown s * tilesAcross s ≡ tilesDown s * 0 = ap (λ (x : ℕ). tilesDown s * x) e in absurd (omega arith)
+    go (suc n) e = omega arith
+
 -- the index of reference k, and that its tile has number k
 
 module _ (s : List ℕ) (right : rectangleRight s ≡ true) (k : ℕ) (h : k < listedRows s * listedColumns s) where

@@ -1,5 +1,5 @@
 -- U up to a bound, judgements and sums. Assumes nothing.
-use Prim.Native.Nat.{ℕ, min, _+_, _*_, _≤_, _<_}
+use Prim.Native.Nat.{ℕ, min, zero, suc, _+_, _*_, _%_, _≤_, _<_}
 use mathlib.Core.Path.{_≡_, sym, ap, _∙_}
 use mathlib.Core.List.{List}
 use mathlib.Core.Logic.{by-cases}
@@ -17,7 +17,7 @@ use Rattle.header.specs.Fields.{tileRows, tileColumns}
 use Rattle.header.specs.Element.{cellSize, element, entriesRead}
 use Rattle.geometry.specs.declared.Judged.{Judged}
 use Rattle.geometry.specs.declared.Judged.the-variants.{Uncompressed, Compressed, Fault}
-use Rattle.geometry.specs.Sizes.{uncompressed, judge, elementBytes, judgeElement, tileBytes, cap}
+use Rattle.geometry.specs.Sizes.{uncompressed, judge, storedSize, leastLength, tileLength, elementBytes, judgeElement, tileBytes, plainTileLength, cap}
 
 -- a cell has 2 or 4 bytes
 pub size-range : (k : ℕ) → (2 ≤ cellSize k) × (cellSize k ≤ 4)
@@ -108,3 +108,18 @@ tile-bytes-is s e n r p h k q = let m : e ≡ entriesRead s = omega arith in q �
 
 pub under : (a k x : ℕ) → x ≡ min a k → x ≤ k
 under a k x e = omega arith
+
+-- the length of a plain tile record is a multiple of 8, and not far above the tile's bytes
+
+pub plain-eights : (s : List ℕ) → plainTileLength s % 8 ≡ 0
+unfolding plainTileLength tileLength leastLength
+plain-eights s = omega arith
+
+pub sum-stored : (n : ℕ) (f : ℕ → ℕ) → sumBelow n (λ e. storedSize (f e)) ≤ sumBelow n f + 7 * n
+unfolding sumBelow storedSize
+sum-stored zero f = omega arith
+sum-stored (suc n) f = omega (arith, sum-stored n f)
+
+pub plain-most : (s : List ℕ) → plainTileLength s ≤ tileBytes s + 7 * entriesRead s + 23
+unfolding plainTileLength tileLength leastLength tileBytes
+plain-most s = omega (arith, sum-stored (entriesRead s) (elementBytes s))

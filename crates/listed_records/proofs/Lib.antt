@@ -6,3 +6,4 @@ pub mod FindLaws
 pub mod KeyLaws
 pub mod StageLaws
 pub mod RearrangedLaws
+pub mod EmptyLaws

@@ -12,7 +12,8 @@ use Rattle.answer.specs.declared.Refusal.{Refusal}
 use Rattle.answer.specs.declared.Refusal.the-variants.{Identification, Version, Header, Ceiling, Opened, Chain, Checksum, Body, Directory}
 use Rattle.answer.specs.declared.Verdict.{Verdict}
 use Rattle.answer.specs.declared.Verdict.the-variants.{Accepted, Refused}
-use Rattle.answer.specs.Refusals.{gate, verdictNumber}
+use Rattle.answer.specs.Refusals.{gate, after}
+use Rattle.answer.proofs.VerdictLaws.{refused-not, gate-passed, after-passed}
 use Rattle.header.specs.Fields.{headerEnd}
 use Rattle.record.specs.declared.Found.{Found}
 use Rattle.record.specs.declared.Found.the-variants.{At, Nothing}
@@ -30,27 +31,13 @@ use Rattle.check_records.specs.Checksum.{checksumRight}
 use Rattle.check_records.specs.Faults.{bodyRight, rightOf, wrongOf, chainFault, checksumFault, bodyFault}
 use Rattle.check_records.proofs.RecordLaws.{chain-whole}
 use Rattle.listed_records.specs.Stage.{directoriesRight}
-use Rattle.page_check.specs.Stages.{unless, after, checkRecords, checkDirectories, checkFromRecords, check}
+use Rattle.page_check.specs.Stages.{unless, checkRecords, checkDirectories, checkFromRecords, check}
 use Rattle.page_check.specs.Accepted.{ObeysBy, Obeys}
-
--- a refusal is no acceptance
-refused-not : {C : Type 0} {r : Refusal} → Refused r ≡ Accepted → C
-refused-not e = let z : _≡_ {A = ℕ} 0 1 = cc in absurd (omega arith)
-
-gate-passed : (b : Bool) (r : Refusal) (v : Verdict) → gate b r v ≡ Accepted → (b ≡ true) × (v ≡ Accepted)
-unfolding gate
-gate-passed true r v e = (refl, e)
-gate-passed false r v e = refused-not e
 
 unless-passed : (f : Found) (r : ℕ → Refusal) (v : Verdict) → unless f r v ≡ Accepted → (f ≡ Nothing) × (v ≡ Accepted)
 unfolding unless
 unless-passed Nothing r v e = (refl, e)
 unless-passed (At x) r v e = refused-not e
-
-pub after-passed : (v w : Verdict) → after v w ≡ Accepted → (v ≡ Accepted) × (w ≡ Accepted)
-unfolding after
-after-passed Accepted w e = (refl, e)
-after-passed (Refused r) w e = refused-not e
 
 -- no record fails a rule just where each keeps it
 

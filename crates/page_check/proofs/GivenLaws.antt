@@ -27,16 +27,17 @@ use Rattle.listed_records.specs.Metadata.{metadataDirectoryRight}
 use Rattle.listed_records.specs.Rearranged.{FreeRearranged, MetadataRearranged}
 use Rattle.listed_records.proofs.RearrangedLaws.{free-rearranged, metadata-rearranged}
 use Rattle.answer.specs.declared.Verdict.the-variants.{Accepted}
+use Rattle.answer.proofs.VerdictLaws.{after-passed}
 use Rattle.page_check.specs.Stages.{checkToBodies}
 use Rattle.page_check.specs.Accepted.{ObeysBy, Obeys, InRange}
-use Rattle.page_check.proofs.AcceptedLaws.{after-passed, headed-if}
+use Rattle.page_check.proofs.AcceptedLaws.{headed-if}
 
 -- the entries that are read are all of them, where there are at most 16
-read-all : (s : List ℕ) → elementCount s ≤ 16 → entriesRead s ≡ elementCount s
+pub read-all : (s : List ℕ) → elementCount s ≤ 16 → entriesRead s ≡ elementCount s
 unfolding entriesRead
 read-all s h = omega arith
 
-range-of : (s : List ℕ) → headerRight s (length s) ≡ true → withinCeilings s (length s) ≡ true → InRange s
+pub range-of : (s : List ℕ) → headerRight s (length s) ≡ true → withinCeilings s (length s) ≡ true → InRange s
 unfolding headerRight sidesRight positive optionsRight elementsRight elementRight withinCeilings sidesWithin
 range-of s f g =
     let h = means _ f in

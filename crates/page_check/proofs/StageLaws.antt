@@ -8,13 +8,13 @@ use Rattle.answer.specs.declared.Refusal.{Refusal}
 use Rattle.answer.specs.declared.Refusal.the-variants.{Chain, Checksum, Body, Directory}
 use Rattle.answer.specs.declared.Verdict.{Verdict}
 use Rattle.answer.specs.declared.Verdict.the-variants.{Accepted, Refused}
-use Rattle.answer.specs.Refusals.{gate}
+use Rattle.answer.specs.Refusals.{gate, after}
 use Rattle.record.specs.declared.Found.{Found}
 use Rattle.record.specs.declared.Found.the-variants.{At, Nothing}
 use Rattle.check_header.specs.Stages.{checkHeader}
 use Rattle.check_records.specs.Faults.{chainFault, checksumFault, bodyFault}
 use Rattle.listed_records.specs.Stage.{directoriesRight}
-use Rattle.page_check.specs.Stages.{unless, after, checkRecords, checkToBodies, checkDirectories, checkFromRecords, check}
+use Rattle.page_check.specs.Stages.{unless, checkRecords, checkToBodies, checkDirectories, checkFromRecords, check}
 
 module _ (s : List ℕ) (v : Verdict) (f : Found) (p : f ≡ chainFault s) where
   pub stage-6 : (x : ℕ) → f ≡ At x → Refused (Chain x) ≡ checkRecords s v

@@ -6,7 +6,7 @@ use Rattle.answer.specs.declared.Refusal.{Refusal}
 use Rattle.answer.specs.declared.Refusal.the-variants.{Chain, Checksum, Body, Directory}
 use Rattle.answer.specs.declared.Verdict.{Verdict}
 use Rattle.answer.specs.declared.Verdict.the-variants.{Accepted, Refused}
-use Rattle.answer.specs.Refusals.{gate}
+use Rattle.answer.specs.Refusals.{gate, after}
 use Rattle.record.specs.declared.Found.{Found}
 use Rattle.record.specs.declared.Found.the-variants.{At, Nothing}
 use Rattle.check_header.specs.Stages.{checkHeader}
@@ -17,11 +17,6 @@ use Rattle.listed_records.specs.Stage.{directoriesRight}
 unfoldable pub unless : Found → (ℕ → Refusal) → Verdict → Verdict
 unless Nothing refusal behind = behind
 unless (At place) refusal behind = Refused (refusal place)
-
--- what comes behind where a check accepts, and its refusal where it does not
-unfoldable pub after : Verdict → Verdict → Verdict
-after Accepted behind = behind
-after (Refused r) behind = Refused r
 
 -- stages 6 to 8, each over the whole file before the next, and what comes behind them
 unfoldable pub checkRecords : List ℕ → Verdict → Verdict

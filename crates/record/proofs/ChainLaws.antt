@@ -307,3 +307,10 @@ joined-whole a (r ∷ rs) w =
     let t : Whole (a ++ (r ++ joined rs)) (length (a ++ r)) (startsOf (length (a ++ r)) rs) =
     rw append-assoc at (joined-whole (a ++ r) rs (w .1)) in
     (refl, (placed-ok a r (joined rs) (w .0 .0) (w .0 .1), rw (n, m) t))
+
+pub starts-append :
+    (at : ℕ) (rs qs : List (List ℕ)) → startsOf at (rs ++ qs) ≡ startsOf at rs ++ startsOf (at + length (joined rs)) qs
+starts-append at [] qs = let e : at + 0 ≡ at = omega arith in rw e
+starts-append at (r ∷ rs) qs =
+    let e : at + length r + length (joined rs) ≡ at + length (r ++ joined rs) = rw length-append (omega arith) in
+    ap (λ (l : List ℕ). at ∷ l) (starts-append (at + length r) rs qs ∙ rw e)

@@ -8,12 +8,13 @@ use native.Mathlib.Numerals.{add-one}
 use native.Mathlib.Nat.{pow-suc, mul-assoc, mul-comm}
 use mathlib.Core.Logic.{_⊎_, inl, inr, by-cases}
 use native.Mathlib.Decide.{decLe}
-use lib.ListN.{length, getD, take, drop, length-append, length-take, length-drop, List·getD-eq-default, drop-of-length-le}
-use lib.Seq.{drop-append-add, drop-append-le, take-append-le, getD-take, getD-drop, ext-getD, take-add, drop-drop, length-take-le, drop-cons, take-all}
-use lib.Dec.{eqb}
+use lib.ListN.{length, getD, take, drop, replicate, length-append, length-take, length-drop, List·getD-eq-default, drop-of-length-le}
+use lib.Seq.{drop-append-add, drop-append-le, take-append-le, getD-take, getD-drop, ext-getD, take-add, drop-drop, length-take-le, drop-cons, take-all, take-length}
+use lib.Dec.{leb, eqb}
 use borrow.Author.Tests.{le-leb, lt-leb, eqb-true, eq-eqb, ne-eqb}
+use Rattle.wire.specs.Pick.{pick}
 use Rattle.wire.specs.Tests.{both}
-use Rattle.wire.specs.Bytes.{byteAt, part, number, numberAt, partAt, bytesOf, sameBytes}
+use Rattle.wire.specs.Bytes.{byteAt, part, number, numberAt, partAt, bytesOf, sameBytes, Bytes}
 use Rattle.wire.proofs.TestLaws.{not-both, no-true}
 
 -- bytes
@@ -25,6 +26,10 @@ byte-in s at = refl
 pub byte-out : (s : List ℕ) (at : ℕ) → length s ≤ at → 0 ≡ byteAt s at
 unfolding byteAt
 byte-out s at h = sym (List·getD-eq-default s 0 h)
+
+pub byte-drop : (s : List ℕ) (n i : ℕ) → byteAt (drop n s) i ≡ byteAt s (n + i)
+unfolding byteAt
+byte-drop s n i = getD-drop n s i 0
 
 -- parts
 
@@ -43,6 +48,9 @@ module _ (s : List ℕ) (at n : ℕ) where
   pub part-at : at + n ≤ length s → (i : ℕ) → i < n → getD (part s at n) i 0 ≡ byteAt s (at + i)
   unfolding byteAt
   part-at h i k = rw (part-in h, getD-take, getD-drop)
+
+pub part-whole : (s : List ℕ) → part s 0 (length s) ≡ s
+part-whole s = part-in s 0 (length s) (omega arith) ∙ take-length s
 
 -- where it starts, in a slice that starts at p
 
@@ -83,6 +91,11 @@ part-before s b at n h =
     let k : at + n ≤ length (s ++ b) = simp length-append (omega arith) in
     let i : n ≤ length (drop at s) = simp length-drop (omega arith) in
     part-in (s ++ b) at n k ∙ rw (drop-append-le at s b (omega arith), take-append-le n (drop at s) b i) (sym (part-in s at n h))
+
+-- and in the middle one of three
+pub part-within : (a s b : List ℕ) (at n : ℕ) → at + n ≤ length s → part (a ++ s ++ b) (length a + at) n ≡ part s at n
+part-within a s b at n h =
+    part-before (a ++ s) b (length a + at) n (simp length-append (omega arith)) ∙ part-behind a s at n
 
 -- the bytes of s and t from a up to b are there and are the same
 pub record Same (s t : List ℕ) (a b : ℕ) : Type 0 where
@@ -174,9 +187,11 @@ number-bytes (suc w) v h =
     let l : v / 256 < 256 ^ w = omega arith in
     rw (number-bytes w (v / 256) l) (omega arith)
 
--- each element is a byte
-pub record Bytes (s : List ℕ) : Type 0 where
-  pub small : (i : ℕ) → getD s i 0 < 256
+pub number-of : (w v : ℕ) → v < 256 ^ w → numberAt w (bytesOf w v) 0 ≡ v
+unfolding numberAt
+number-of w v h =
+    let p : part (bytesOf w v) 0 w ≡ bytesOf w v = ap (part (bytesOf w v) 0) (sym (bytes-length w v)) ∙ part-whole (bytesOf w v) in
+    ap number p ∙ number-bytes w v h
 
 pub bytes-tail : (b : ℕ) (bs : List ℕ) → Bytes (b ∷ bs) → Bytes bs
 bytes-tail b bs h = record { small = λ i. h .small (suc i) }
@@ -189,6 +204,49 @@ bytes-number (b ∷ bs) h =
     let p : (b + 256 * number bs) % 256 ≡ b = omega arith in
     let q : (b + 256 * number bs) / 256 ≡ number bs = omega arith in
     rw (p, q, bytes-number bs (bytes-tail b bs h))
+
+-- lists of bytes
+
+pub bytes-none : Bytes []
+bytes-none = record { small = λ i. omega arith }
+
+pub bytes-cons : (b : ℕ) {bs : List ℕ} → b < 256 → Bytes bs → Bytes (b ∷ bs)
+bytes-cons b {bs} h w = record { small = each }
+  where
+    each : (i : ℕ) → getD (b ∷ bs) i 0 < 256
+    each zero = h
+    each (suc i) = w .small i
+
+pub bytes-append : {a b : List ℕ} → Bytes a → Bytes b → Bytes (a ++ b)
+bytes-append {a = []} v w = w
+bytes-append {a = x ∷ a} v w = bytes-cons x (v .small 0) (bytes-append (bytes-tail x a v) w)
+
+pub bytes-take : (n : ℕ) {s : List ℕ} → Bytes s → Bytes (take n s)
+bytes-take zero w = bytes-none
+bytes-take (suc n) {s = []} w = bytes-none
+bytes-take (suc n) {s = b ∷ bs} w = bytes-cons b (w .small 0) (bytes-take n (bytes-tail b bs w))
+
+pub bytes-drop : (n : ℕ) {s : List ℕ} → Bytes s → Bytes (drop n s)
+bytes-drop n w = record { small = λ i. rw getD-drop (w .small (n + i)) }
+
+pub bytes-part : {s : List ℕ} (at n : ℕ) → Bytes s → Bytes (part s at n)
+unfolding part
+bytes-part {s} at n w = go (leb (at + n) (length s))
+  where
+    go : (b : Bool) → Bytes (pick b (take n (drop at s)) [])
+    go true = bytes-take n (bytes-drop at w)
+    go false = bytes-none
+
+pub bytes-of : (w v : ℕ) → Bytes (bytesOf w v)
+unfolding bytesOf
+bytes-of zero v = bytes-none
+bytes-of (suc w) v = bytes-cons (v % 256) (omega arith) (bytes-of w (v / 256))
+
+-- zeros are the bytes of the number 0
+pub zeros-of : (w : ℕ) → replicate w 0 ≡ bytesOf w 0
+unfolding bytesOf
+zeros-of zero = refl
+zeros-of (suc w) = rw (zeros-of w)
 
 -- comparison
 
@@ -270,3 +328,11 @@ same-part e c d h k =
 
 pub same-sym : {s t : List ℕ} {a b : ℕ} → Same s t a b → Same t s a b
 same-sym e = record { in-first = e .in-second; in-second = e .in-first; each = λ i l m. sym (e .each i l m) }
+
+pub same-trans : {s t u : List ℕ} {a b : ℕ} → Same s t a b → Same t u a b → Same s u a b
+same-trans e f = record { in-first = e .in-first; in-second = f .in-second; each = λ i l m. e .each i l m ∙ f .each i l m }
+
+-- a list begins with the same bytes, whatever stands behind it
+pub same-append : (s b : List ℕ) (c d : ℕ) → d ≤ length s → Same s (s ++ b) c d
+same-append s b c d h =
+    record { in-first = h; in-second = simp length-append (omega arith); each = λ i l m. sym (byte-before s b i (omega arith)) }

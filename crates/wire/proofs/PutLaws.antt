@@ -1,17 +1,20 @@
 -- Bytes put into a list. Assumes nothing.
-use Prim.Native.Nat.{ℕ, zero, suc, _+_, _*_, _/_, _%_, _^_, _≤_, _<_}
-use mathlib.Core.Logic.{by-cases}
+use Prim.Native.Nat.{ℕ, zero, suc, _+_, _*_, _/_, _%_, _^_, _-_, _≤_, _<_}
+use mathlib.Core.Logic.{_⊎_, inl, inr, ⊎-elim, by-cases}
+use mathlib.Core.Bool.{Bool, true, false}
 use native.Mathlib.Decide.{decLe}
 use native.Mathlib.Omega.{arith}
 use native.Mathlib.Numerals.{add-one}
 use native.Mathlib.Nat.{pow-suc, mod-add-div, mul-assoc, div-div-eq-div-mul, mul-comm}
 use mathlib.Core.Path.{_≡_, refl, sym, ap, ap₂, _∙_}
 use mathlib.Core.List.{List, [], _∷_, _++_, append-assoc}
-use lib.ListN.{length, take, drop, set, getD, length-append, length-take, length-drop}
-use lib.Seq.{take-at, drop-append-add, drop-drop, paste, paste-zero, paste-suc, take-length, set-split}
+use lib.ListN.{length, take, drop, set, getD, length-append, length-take, length-drop, List·getD-append}
+use lib.Dec.{leb}
+use lib.Seq.{getD-take, take-at, drop-append-add, drop-drop, paste, paste-zero, paste-suc, take-length, set-split}
 use borrow.Author.Tests.{le-leb, lt-leb}
-use Rattle.wire.specs.Bytes.{put, bytesOf}
-use Rattle.wire.proofs.ByteLaws.{bytes-length}
+use Rattle.wire.specs.Pick.{pick}
+use Rattle.wire.specs.Bytes.{Bytes, byteAt, part, number, numberAt, put, bytesOf}
+use Rattle.wire.proofs.ByteLaws.{Same, part-whole, part-within, byte-behind, byte-drop, number-same, number-out, number-bytes, bytes-length, bytes-append, bytes-take, bytes-drop}
 
 module _ (d : List ℕ) (at : ℕ) (v : List ℕ) where
   pub put-fits : at + length v ≤ length d → put d at v ≡ take at d ++ v ++ drop (at + length v) d
@@ -27,6 +30,68 @@ module _ (d : List ℕ) (at : ℕ) (v : List ℕ) where
       by-cases (decLe (at + length v) (length d))
       (λ h. rw put-fits (simp (length-append, length-take, length-drop) (omega arith)))
       (λ n. let h : length d < at + length v = omega arith in rw put-not)
+
+-- what is put reads back, and what is outside stays
+
+module _ (d : List ℕ) (at : ℕ) (v : List ℕ) where
+  pub put-part : at + length v ≤ length d → part (put d at v) at (length v) ≡ v
+  put-part h =
+      let e : length (take at d) + 0 ≡ at = rw length-take (omega arith) in
+      rw (put-fits d at v h)
+      (ap (λ (i : ℕ). part (take at d ++ v ++ drop (at + length v) d) i (length v)) (sym e)
+      ∙ part-within (take at d) v (drop (at + length v) d) 0 (length v) (omega arith)
+      ∙ part-whole v)
+
+  put-lower : (i : ℕ) → i < at → at + length v ≤ length d → byteAt d i ≡ byteAt (put d at v) i
+  unfolding byteAt
+  put-lower i l h =
+      let k : i < length (take at d) = rw length-take (omega arith) in
+      let m : i < length (take at d ++ v) = simp length-append (omega arith) in
+      rw (put-fits d at v h, List·getD-append (take at d ++ v) (drop (at + length v) d) 0 i m, List·getD-append (take at d) v 0 i k, getD-take)
+
+  put-higher : (i : ℕ) → at + length v ≤ i → at + length v ≤ length d → byteAt d i ≡ byteAt (put d at v) i
+  put-higher i l h =
+      let k : List ℕ = take at d ++ v in
+      let m : length k ≡ at + length v = simp (length-append, length-take) (omega arith) in
+      let e : length k + (i - (at + length v)) ≡ i = omega arith in
+      let n : at + length v + (i - (at + length v)) ≡ i = omega arith in
+      let r : byteAt (k ++ drop (at + length v) d) (length k + (i - (at + length v))) ≡ byteAt d (at + length v + (i - (at + length v))) = byte-behind k (drop (at + length v) d) (i - (at + length v)) ∙ byte-drop d (at + length v) (i - (at + length v)) in
+      rw (put-fits d at v h) (sym (rw (e, n) at r))
+
+  pub put-outside : (i : ℕ) → (i < at) ⊎ (at + length v ≤ i) → byteAt d i ≡ byteAt (put d at v) i
+  put-outside i o =
+      by-cases (decLe (at + length v) (length d)) (λ h. ⊎-elim (λ l. put-lower i l h) (λ l. put-higher i l h) o)
+      (λ n. let h : length d < at + length v = omega arith in rw put-not)
+
+  pub put-same : (a b : ℕ) → b ≤ length d → (b ≤ at) ⊎ (at + length v ≤ a) → Same d (put d at v) a b
+  put-same a b h o =
+      record {
+        in-first = h;
+        in-second = rw length-put h;
+        each = λ i l m. put-outside i (⊎-elim (λ p. inl (omega arith)) (λ p. inr (omega arith)) o);
+      }
+
+  pub put-aside : (w p : ℕ) → (p + w ≤ at) ⊎ (at + length v ≤ p) → numberAt w (put d at v) p ≡ numberAt w d p
+  put-aside w p o =
+      by-cases (decLe (p + w) (length d)) (λ h. sym (number-same (put-same p (p + w) h o) w p (omega arith) (omega arith)))
+      (λ n. sym (number-out w (put d at v) p (omega (arith, length-put d at v))) ∙ number-out w d p (omega arith))
+
+pub bytes-put : {d : List ℕ} (at : ℕ) {v : List ℕ} → Bytes d → Bytes v → Bytes (put d at v)
+unfolding put
+bytes-put {d} at {v} p q = go (leb (at + length v) (length d))
+  where
+    go : (b : Bool) → Bytes (pick b (take at d ++ v ++ drop (at + length v) d) d)
+    go true = bytes-append (bytes-append (bytes-take at p) q) (bytes-drop (at + length v) p)
+    go false = p
+
+-- a number that is put reads back
+pub put-number : (w v : ℕ) (d : List ℕ) (at : ℕ) → at + w ≤ length d → v < 256 ^ w → numberAt w (put d at (bytesOf w v)) at ≡ v
+unfolding numberAt
+put-number w v d at h k =
+    let e = bytes-length w v in
+    let p : part (put d at (bytesOf w v)) at w ≡ bytesOf w v =
+    ap (part (put d at (bytesOf w v)) at) (sym e) ∙ put-part d at (bytesOf w v) (omega arith) in
+    ap number p ∙ number-bytes w v k
 
 -- one byte
 pub put-one : (d : List ℕ) (at v : ℕ) → at < length d → set d at v ≡ put d at (v ∷ [])

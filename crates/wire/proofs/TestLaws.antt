@@ -3,6 +3,8 @@ use Prim.Native.Nat.{ℕ, zero, suc, _+_, _≤_, _<_}
 use mathlib.Core.Path.{_≡_, refl, sym, _∙_}
 use mathlib.Core.List.{List, [], _∷_}
 use mathlib.Core.Bool.{Bool, true, false}
+use mathlib.Core.Logic.{by-cases}
+use native.Mathlib.Decide.{decLe}
 use native.Mathlib.Omega.{arith}
 use native.Mathlib.Numerals.{add-one}
 use lib.Dec.{eqb}
@@ -113,6 +115,16 @@ pub sum-same : (n : ℕ) (f g : ℕ → ℕ) → ((i : ℕ) → i < n → f i �
 unfolding sumBelow
 sum-same zero f g e = refl
 sum-same (suc n) f g e = rw (sum-same n f g (λ i h. e i (omega arith)), e n (omega arith))
+
+-- below a larger number it is no less, and holds what is added there
+pub sum-within : (n : ℕ) (f : ℕ → ℕ) (i : ℕ) → i ≤ n → sumBelow i f ≤ sumBelow n f
+unfolding sumBelow
+sum-within zero f i h = let z : i ≡ 0 = omega arith in rw z (omega arith)
+sum-within (suc n) f i h =
+    by-cases (decLe i n) (λ k. omega (arith, sum-within n f i k)) (λ k. let z : i ≡ suc n = omega arith in rw z (omega arith))
+
+pub sum-each : (n : ℕ) (f : ℕ → ℕ) (i : ℕ) → i < n → sumBelow i f + f i ≤ sumBelow n f
+sum-each n f i h = omega (arith, sum-more i f, sum-within n f (i + 1) (omega arith))
 
 -- a loop over every number below n
 

@@ -1,12 +1,16 @@
 -- A file is a list of bytes, and a position counts from 0. Numbers are little-endian (G 4.1.1).
 -- Reading is total: what does not lie whole in the list reads as nothing, and as the number 0.
-use Prim.Native.Nat.{ℕ, zero, suc, _+_, _*_, _/_, _%_}
+use Prim.Native.Nat.{ℕ, zero, suc, _+_, _*_, _/_, _%_, _<_}
 use mathlib.Core.List.{List, [], _∷_, _++_}
 use mathlib.Core.Bool.{Bool, true, false}
 use lib.ListN.{length, getD, take, drop}
 use lib.Dec.{leb, eqb}
 use Rattle.wire.specs.Pick.{pick}
 use Rattle.wire.specs.Tests.{both}
+
+-- each element is a byte
+pub record Bytes (s : List ℕ) : Type 0 where
+  pub small : (i : ℕ) → getD s i 0 < 256
 
 -- the byte at a position, 0 past the end
 unfoldable pub byteAt : List ℕ → ℕ → ℕ
