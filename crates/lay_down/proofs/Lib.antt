@@ -1,0 +1,9 @@
+pub mod PieceLaws
+pub mod PageLaws
+pub mod PlaceLaws
+pub mod IndexLaws
+pub mod SealLaws
+pub mod FieldLaws
+pub mod WriteLaws
+pub mod InputLaws
+pub mod InsideLaws

@@ -1,0 +1,110 @@
+-- A record put together from its body is a record by itself, and no byte more; what it and a section say wherever they stand. Assumes
+-- nothing.
+use Prim.Native.Nat.{ℕ, _+_, _%_, _-_, _≤_, _<_}
+use mathlib.Core.Path.{_≡_, sym, _∙_}
+use mathlib.Core.List.{List, [], _∷_, _++_}
+use mathlib.Core.Bool.{true}
+use native.Mathlib.Omega.{arith}
+use lib.ListN.{length, length-append, length-replicate}
+use Rattle.wire.specs.Bytes.{bytesOf, byteAt, u32At, largestInteger}
+use Rattle.wire.proofs.ByteLaws.{bytes-length}
+use Rattle.record.specs.Record.{lengthAt, typeAt, recordOk}
+use Rattle.record.proofs.ChainLaws.{means-ok}
+use Rattle.record.proofs.PlaceLaws.{Placed, placed-self, placed-last, placed-before, placed-first, placed-next, placed-byte, placed-value}
+use Rattle.geometry.specs.Sizes.{leastLength}
+use Rattle.lay_down.specs.Pieces.{zeros, checksumFor, recordHead, recordLength, unclosed, recordOf, section}
+
+pub zeros-length : (n : ℕ) → length (zeros n) ≡ n
+unfolding zeros
+zeros-length n = length-replicate n _
+
+pub head-length : (n kind : ℕ) → length (recordHead n kind) ≡ 8
+unfolding recordHead
+head-length n kind =
+    let a = length-append (bytesOf 4 n ++ (kind ∷ [])) (zeros 3) in
+    let b = length-append (bytesOf 4 n) (kind ∷ []) in
+    omega (arith, a, b, bytes-length 4 n, zeros-length 3)
+
+-- the least length holds the bytes and the checksum, is no longer than it has to be, and is a multiple of 8
+pub least-holds : (n : ℕ) → (n + 4 ≤ leastLength n) × ((leastLength n ≤ n + 11) × (leastLength n % 8 ≡ 0))
+unfolding leastLength
+least-holds n = (omega arith, (omega arith, omega arith))
+
+pub unclosed-length : (kind : ℕ) (body : List ℕ) → length (unclosed kind body) ≡ recordLength (length body) - 4
+unfolding unclosed recordLength
+unclosed-length kind body =
+    let n = leastLength (8 + length body) in
+    let a = length-append (recordHead n kind ++ body) (zeros (n - 4 - (8 + length body))) in
+    let b = length-append (recordHead n kind) body in
+    omega (arith, a, b, head-length n kind, zeros-length (n - 4 - (8 + length body)), least-holds (8 + length body) .0)
+
+pub record-length : (flag kind : ℕ) (body : List ℕ) → length (recordOf flag kind body) ≡ recordLength (length body)
+unfolding recordOf recordLength
+record-length flag kind body =
+    let a = length-append (unclosed kind body) (bytesOf 4 (checksumFor flag (unclosed kind body))) in
+    omega (arith, a, unclosed-length kind body, bytes-length 4 (checksumFor flag (unclosed kind body)), least-holds (8 + length body) .0)
+
+-- its body stands behind its first eight bytes
+pub record-body : (flag kind : ℕ) (body : List ℕ) → Placed (recordOf flag kind body) 8 body
+unfolding recordOf unclosed
+record-body flag kind body =
+    let n = recordLength (length body) in
+    placed-before
+    (placed-before (placed-last (recordHead n kind) body (head-length n kind)) (zeros (n - 4 - (8 + length body))))
+    (bytesOf 4 (checksumFor flag (unclosed kind body)))
+
+-- its type and its length are read wherever it stands
+module _ {s : List ℕ} {at : ℕ} (flag kind : ℕ) (body : List ℕ) (p : Placed s at (recordOf flag kind body)) where
+  length-type : Placed s at (bytesOf 4 (recordLength (length body)) ++ (kind ∷ []))
+  unfolding recordOf unclosed recordHead
+  length-type =
+      let n = recordLength (length body) in
+      let u = placed-first (unclosed kind body) (bytesOf 4 (checksumFor flag (unclosed kind body))) p in
+      let h = placed-first (recordHead n kind ++ body) (zeros (n - 4 - (8 + length body))) u in
+      placed-first (bytesOf 4 n ++ (kind ∷ [])) (zeros 3) (placed-first (recordHead n kind) body h)
+
+  pub placed-kind : typeAt s at ≡ kind
+  unfolding byteAt
+  placed-kind =
+      let n = recordLength (length body) in
+      let e : at + length (bytesOf 4 n) + 0 ≡ at + 4 = omega (arith, bytes-length 4 n) in
+      rw e at (placed-byte (placed-next (bytesOf 4 n) (kind ∷ []) length-type) 0 (omega arith))
+
+  pub placed-stated : length (recordOf flag kind body) ≤ largestInteger → lengthAt s at ≡ length (recordOf flag kind body)
+  placed-stated h =
+      let n = record-length flag kind body in
+      placed-value 4 _ (placed-first (bytesOf 4 (recordLength (length body))) (kind ∷ []) length-type) (omega arith) ∙ sym n
+
+-- it is a record by itself, and no byte more
+pub record-well :
+    (flag kind : ℕ) (body : List ℕ) → kind ≤ 5 → recordLength (length body) ≤ largestInteger →
+    (recordOk (recordOf flag kind body) 0 ≡ true) × (lengthAt (recordOf flag kind body) 0 ≡ length (recordOf flag kind body))
+unfolding recordLength
+record-well flag kind body k h =
+    let p = placed-self (recordOf flag kind body) in
+    let b = record-length flag kind body in
+    let a = placed-stated flag kind body p (omega arith) in
+    let c = placed-kind flag kind body p in
+    let d = least-holds (8 + length body) in (
+      means-ok _ _
+          (record {
+            long = omega (arith, a, d .0);
+            plain = omega (arith, a);
+            eights = rw (a, b) (d .1 .1);
+            inside = omega (arith, a);
+            known = omega (arith, c);
+          }),
+      a,
+    )
+
+-- a section says the length of its bytes, which stand behind that
+module _ (bytes : List ℕ) {s : List ℕ} {x : ℕ} (p : Placed s x (section bytes)) where
+  section-parts : Placed s x (bytesOf 4 (length bytes) ++ bytes)
+  unfolding section
+  section-parts = placed-first (bytesOf 4 (length bytes) ++ bytes) _ p
+
+  pub section-states : length bytes < 4294967296 → u32At s x ≡ length bytes
+  section-states h = placed-value 4 _ (placed-first (bytesOf 4 (length bytes)) bytes section-parts) h
+
+  pub bytes-there : Placed s (x + 4) bytes
+  bytes-there = rw (bytes-length 4 (length bytes)) at (placed-next (bytesOf 4 (length bytes)) bytes section-parts)

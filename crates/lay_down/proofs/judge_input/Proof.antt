@@ -1,0 +1,18 @@
+-- `lay_down::judge_input` meets its contract. Assumes nothing.
+use Rattle.lay_down.proofs.InputLaws.{front-of, ascending-few, input-means, length-is, judged-input, judged-ceiling, judged-room, judged-done}
+use mathlib.Core.Path.{sym, _∙_}
+use native.Mathlib.Omega.{arith}
+use borrow.Author.Needs.{needs}
+use Rattle.lay_down.proofs.judge_input.Statement.{statement}
+use Rattle.lay_down.proofs.judge_input.Tie as tie
+
+pub judge-input-spec : {M : Type 1} → statement M
+judge-input-spec =
+    tie.close
+    (tie.spec
+    (λ c κs. search needs)
+    (λ c κs. (c .before .before .before .before .before .pre, omega (arith, ascending-few _ _ (input-means _ _ _ _ (sym (c .before .input-right .ensures) ∙ c .if1 .taken) .1 .0), front-of _ (c .before .before .before .before .before .pre) .tiles)))
+    (λ c. judged-ceiling _ _ _ _ _ _ (c .before .before .before .input-right .ensures) (c .before .before .if1 .taken) _ (length-is _ _ _ (c .before .file-length .ensures)) (omega arith))
+    (λ c. judged-room _ _ _ _ _ _ (c .before .before .before .before .input-right .ensures) (c .before .before .before .if1 .taken) _ (length-is _ _ _ (c .before .before .file-length .ensures)) (omega arith) (omega arith))
+    (λ c. judged-done _ _ _ _ _ _ (c .before .before .before .before .input-right .ensures) (c .before .before .before .if1 .taken) _ (length-is _ _ _ (c .before .before .file-length .ensures)) (omega arith) (omega arith))
+    (λ c. judged-input _ _ _ _ _ _ (c .before .input-right .ensures) (c .if1 .left)))

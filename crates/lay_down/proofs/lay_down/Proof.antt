@@ -1,0 +1,20 @@
+-- `lay_down::lay_down` meets its contract. Assumes nothing.
+use Rattle.lay_down.proofs.InsideLaws.{laid-refused, laid-done}
+use Rattle.lay_down.proofs.InputLaws.{passed-of, length-is}
+use mathlib.Core.Path.{sym, _∙_}
+use borrow.Author.Needs.{needs}
+use Rattle.lay_down.proofs.lay_down.Statement.{statement}
+use Rattle.lay_down.proofs.lay_down.Tie as tie
+
+pub lay-down-spec : {M : Type 1} → statement M
+lay-down-spec =
+    tie.close
+    (tie.spec
+    (λ c κs. search needs)
+    (λ c. search needs)
+    (λ c. search needs)
+    (λ c κs. sym (c .before .before .before .judge .ensures) ∙ c .before .enum-told .given .1)
+    (λ c κs. let w = passed-of _ _ _ _ _ (sym (c .before .before .before .before .before .before .judge .ensures) ∙ c .before .before .before .before .enum-told .given .1) in (w .front, w .few))
+    (λ c. laid-refused _ _ _ _ _ _ (c .before .before .before .judge .ensures) _ (c .before .r .given .1))
+    (λ c. search needs)
+    (λ c. laid-done _ _ _ _ _ _ (c .before .before .before .before .before .before .before .judge .ensures) _ _ (c .before .before .before .before .before .enum-told .given .1) (length-is _ _ _ (c .file-length .ensures)) (c .before .before .before .put-page .ensures)))

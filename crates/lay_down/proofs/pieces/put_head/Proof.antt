@@ -1,0 +1,20 @@
+-- `lay_down::pieces::put_head` meets its contract. Assumes nothing.
+use Rattle.lay_down.proofs.WriteLaws.{head-out, head-put}
+use native.Mathlib.Omega.{arith}
+use borrow.Author.Needs.{needs}
+use Rattle.lay_down.proofs.pieces.put_head.Statement.{statement}
+use Rattle.lay_down.proofs.pieces.put_head.Tie as tie
+
+pub put-head-spec : {M : Type 1} → statement M
+put-head-spec =
+    tie.close
+    (tie.spec
+    (λ c. head-out _ _ _ _ (omega arith))
+    (λ c. head-out _ _ _ _ (omega arith))
+    (λ c κs. search needs)
+    (λ c. search needs)
+    (λ c κs. search needs)
+    (λ c. search needs)
+    (λ c κs. search needs)
+    (λ c. search needs)
+    (λ c. head-put _ _ _ _ _ _ _ (c .before .before .before .before .before .before .before .before .before .before .put-u32 .ensures) (c .before .before .before .before .before .before .put-byte .ensures) (c .before .before .put-zeros .ensures) (omega arith)))

@@ -1,0 +1,51 @@
+-- `lay_down::put_references` meets its contract. Assumes nothing.
+use borrow.Author.Needs.{needs}
+use Rattle.lay_down.proofs.InsideLaws.{references-begin, references-more, references-all}
+use Rattle.lay_down.proofs.InputLaws.{front-of, ascending-each, ascending-order, start-small}
+use Rattle.lay_down.specs.Page.{references}
+use Rattle.wire.specs.Bytes.{put}
+use lib.ListN.{length, take}
+use mathlib.Core.Path.{_≡_, refl, _∙_}
+use Prim.Native.Nat.{_+_, _*_, _-_, _≤_}
+use native.Mathlib.Omega.{arith}
+use Rattle.lay_down.proofs.put_references.Statement.{statement}
+use Rattle.lay_down.proofs.put_references.Tie as tie
+
+abbrev Inv-loop : tie.InvT-loop
+Inv-loop out₀ at n front indexes count start₀ k₀ out start k = (k ≤ length indexes) × (length out ≡ length out₀) × (start ≡ length front + k * n) × (out ≡ put out₀ at (references front (take k indexes) count))
+
+abbrev μ-loop : tie.MeasureT-loop
+μ-loop out₀ at n front indexes count start₀ k₀ out start k = length indexes - k
+
+pub put-references-spec : {M : Type 1} → statement M
+put-references-spec =
+    tie.close
+    (tie.spec
+    Inv-loop
+    μ-loop
+    (λ c κs. search needs)
+    (λ c. let w = front-of _ (c .before .before .before .before .before .pre .0 .0) in omega (arith, w .tiles, c .before .tile-count .ensures))
+    (λ c κs. search needs)
+    (λ c.
+    let t = c .before .before .before .before .tile-count .ensures in
+    (search needs, search needs, omega arith, references-begin _ _ _ _ (c .before .before .before .before .before .before .before .before .args .indexes .now) _ _ (c .before .before .put-zeros .ensures) refl (omega (arith, t, c .before .before .before .before .before .before .before .before .pre .1 .1))))
+    (λ c. search needs)
+    (λ c. search needs)
+    (λ c. omega (arith, c .shared-slice-known3 .given (c .before .before .loop .k)))
+    (λ c. let e = ascending-each _ _ _ (c .before .before .before .before .before .before .before .before .before .before .before .before .pre .0 .1 .0) (c .before .before .before .loop .k) (omega arith) in omega (arith, e .1, front-of _ (c .before .before .before .before .before .before .before .before .before .before .before .before .pre .0 .0) .tiles))
+    (λ c. let e = ascending-each _ _ _ (c .before .before .before .before .before .before .before .before .before .before .before .before .pre .0 .1 .0) (c .before .before .before .loop .k) (omega arith) in omega (arith, e .1, c .before .before .before .before .before .before .before .before .before .before .before .before .pre .1 .1))
+    (λ c. omega (arith, start-small _ _ _ _ _ (c .before .before .before .loop .inv .2) (c .before .before .before .before .before .before .before .before .before .before .before .before .pre .1 .0) (c .before .before .before .before .before .before .before .before .before .before .before .before .pre .0 .1 .1) (omega arith)))
+    (λ c. omega (arith, start-small _ _ _ _ _ (c .before .before .before .loop .inv .2) (c .before .before .before .before .before .before .before .before .before .before .before .before .pre .1 .0) (c .before .before .before .before .before .before .before .before .before .before .before .before .pre .0 .1 .1) (omega arith)))
+    (λ c κs. search needs)
+    (λ c. omega (arith, start-small _ _ _ _ _ (c .before .before .before .before .before .before .loop .inv .2) (c .before .before .before .before .before .before .before .before .before .before .before .before .before .before .before .pre .1 .0) (c .before .before .before .before .before .before .before .before .before .before .before .before .before .before .before .pre .0 .1 .1) (omega arith)))
+    (λ c. search needs)
+    (λ c. search needs)
+    (λ c.
+    let s = c .before .before .before .before .before .before .before .before .before .before .before .before .before .before .before .pre in let k = c .before .before .before .before .before .before .loop .k in let e = ascending-each _ _ _ (s .0 .1 .0) k (omega arith) in let t = c .before .before .before .before .before .before .before .before .before .before .before .tile-count .ensures in (
+      search needs,
+      c .before .before .put-u32 .kept .0 ∙ c .before .before .before .before .before .before .loop .inv .1,
+      omega (arith, c .before .before .before .before .before .before .loop .inv .2),
+      references-more _ _ _ _ _ _ _ k _ _ (c .before .before .before .before .before .before .loop .inv .3) (s .1 .0) (c .before .before .before .before .before .before .loop .inv .2) (omega arith) (λ j h. ascending-order _ _ _ (s .0 .1 .0) j k h (omega arith)) (omega (arith, e .1, t)) (omega (arith, t, s .1 .1, c .before .before .before .before .before .before .before .before .before .put-zeros .kept .0)) (c .before .before .put-u32 .ensures),
+    ))
+    (λ c. c .before .loop .inv .1 ∙ c .before .before .before .before .put-zeros .kept .0)
+    (λ c. references-all _ _ _ _ _ _ _ (c .before .loop .k) _ _ (c .before .loop .inv .3) (c .before .before .before .before .put-zeros .ensures) refl (c .before .before .before .before .before .before .tile-count .ensures) (omega arith) (omega arith) (c .before .before .before .before .before .before .before .before .before .before .pre .1 .1)))

@@ -1,0 +1,4 @@
+pub mod Pieces
+pub mod Page
+pub mod Answer
+pub mod Ready

@@ -1,0 +1,71 @@
+-- Document 01, 'Laying down a page': the file that is written, byte for byte. f is the front, t the time modified, ix the tile
+-- indexes, c the cell bytes of those tiles one after another, all elements in order, no lengths, no padding.
+use Prim.Native.Nat.{ℕ, zero, suc, _+_, _*_, _/_, _-_}
+use mathlib.Core.List.{List, [], _∷_, _++_}
+use lib.ListN.{length, take, drop}
+use lib.Dec.{eqb}
+use Rattle.wire.specs.Pick.{pick}
+use Rattle.wire.specs.Tests.{sumBelow}
+use Rattle.wire.specs.Bytes.{bytesOf, part, put}
+use Rattle.header.specs.Fields.{checksumEnabled, elementCount}
+use Rattle.record.specs.Record.{contentAt}
+use Rattle.record.specs.Chain.{joined}
+use Rattle.geometry.specs.Tiles.{tilesAcross, tilesDown, tileCount}
+use Rattle.geometry.specs.Sizes.{elementBytes, tileBytes, plainTileLength}
+use Rattle.lay_down.specs.Pieces.{zeros, recordLength, recordOf, section, sealed}
+
+-- the sections of the first n elements of a tile whose cell bytes are c
+unfoldable pub sections : List ℕ → ℕ → List ℕ → List ℕ
+sections f zero c = []
+sections f (suc n) c = sections f n c ++ section (part c (sumBelow n (elementBytes f)) (elementBytes f n))
+
+-- G Tables 15 and 16: the tile index, then each element's section; a front that passes stage 4 has at most the 16 elements that
+-- `tileBytes` counts
+unfoldable pub tileRecord : List ℕ → ℕ → List ℕ → List ℕ
+tileRecord f i c = recordOf (checksumEnabled f) 2 (bytesOf 4 i ++ sections f (elementCount f) c)
+
+-- one tile record for each index in order
+unfoldable pub tileRecords : List ℕ → List ℕ → List ℕ → List (List ℕ)
+tileRecords f [] c = []
+tileRecords f (i ∷ is) c = tileRecord f i (take (tileBytes f) c) ∷ tileRecords f is (drop (tileBytes f) c)
+
+-- the compact reference of tile j, where the records of the tiles ix start at `at`: the content's position divided by 8, zero
+-- where the tile is not given
+unfoldable pub compactFrom : List ℕ → ℕ → List ℕ → ℕ → ℕ
+compactFrom f at [] j = 0
+compactFrom f at (i ∷ is) j = pick (eqb i j) (contentAt at / 8) (compactFrom f (at + plainTileLength f) is j)
+
+-- the references of the first n tiles of the grid
+unfoldable pub references : List ℕ → List ℕ → ℕ → List ℕ
+references f ix zero = []
+references f ix (suc n) = references f ix n ++ bytesOf 4 (compactFrom f (length f) ix n)
+
+-- G Table 21: format 0, compact references, six reserved bytes; the rectangle of all tiles
+unfoldable pub directoryForm : List ℕ → List ℕ
+directoryForm f = (0 ∷ 0 ∷ []) ++ zeros 6 ++ bytesOf 4 0 ++ bytesOf 4 0 ++ bytesOf 4 (tilesDown f) ++ bytesOf 4 (tilesAcross f)
+
+-- then the references, row by row
+unfoldable pub directoryBody : List ℕ → List ℕ → List ℕ
+directoryBody f ix = directoryForm f ++ references f ix (tileCount f)
+
+unfoldable pub directoryRecord : List ℕ → List ℕ → List ℕ
+directoryRecord f ix = recordOf (checksumEnabled f) 5 (directoryBody f ix)
+
+-- where the directory starts, and how long the file is
+unfoldable pub directoryStart : List ℕ → List ℕ → ℕ
+directoryStart f ix = length f + length ix * plainTileLength f
+
+unfoldable pub fileLength : List ℕ → List ℕ → ℕ
+fileLength f ix = directoryStart f ix + recordLength (24 + 4 * tileCount f)
+
+-- the front with time modified set, time opened zero, file-space and metadata references zero, and the tile directory reference d
+unfoldable pub fieldsSet : List ℕ → ℕ → ℕ → List ℕ
+fieldsSet f t d = put (put (put (put (put f 40 (bytesOf 8 t)) 48 (zeros 8)) 56 (zeros 8)) 64 (zeros 8)) 80 (bytesOf 8 d)
+
+-- and its checksum made anew, over the header record's own bytes, from 16 on
+unfoldable pub laidFront : List ℕ → ℕ → ℕ → List ℕ
+laidFront f t d = sealed (checksumEnabled f) (fieldsSet f t d) 16 (length f - 16)
+
+-- the file
+unfoldable pub laidFile : List ℕ → ℕ → List ℕ → List ℕ → List ℕ
+laidFile f t ix c = laidFront f t (contentAt (directoryStart f ix)) ++ joined (tileRecords f ix c) ++ directoryRecord f ix

@@ -1,0 +1,301 @@
+// Laying down a page (document 01): the front, one tile record for each index, the tile directory last.
+pub mod front;
+pub mod pieces;
+
+use answer::Laid;
+use answer::Refusal;
+use answer::Verdict;
+use check_header::stages;
+use geometry::sizes;
+use geometry::tiles;
+use header::entries;
+use header::fields;
+use wire::writing;
+ghost use mathlib.Core.Path.{_≡_};
+ghost use mathlib.Core.Bool.{true};
+ghost use Prim.Native.Nat.{_+_, _*_, _≤_};
+ghost use lib.ListN.{length};
+ghost use Rattle.wire.specs.Tests.{sumBelow};
+ghost use Rattle.wire.specs.Bytes.{put};
+ghost use Rattle.header.specs.Fields.{elementCount};
+ghost use Rattle.record.specs.Chain.{joined};
+ghost use Rattle.geometry.specs.Tiles.{tileCount};
+ghost use Rattle.geometry.specs.Sizes.{storedSize, elementBytes, tileBytes, plainTileLength};
+ghost use Rattle.check_header.specs.Stages.{checkFront};
+ghost use Rattle.answer.specs.declared.Verdict.the-variants.{Accepted};
+ghost use Rattle.lay_down.specs.Pieces.{recordLength};
+ghost use Rattle.lay_down.specs.Page.{sections, tileRecord, tileRecords, references, directoryForm, directoryRecord, laidFront, laidFile};
+ghost use Rattle.lay_down.specs.Answer.{ascending, inputRight, judgedInput, judged, laid, laidOut};
+ghost use Rattle.lay_down.specs.Ready.{SizesOf, TileReady, TilesReady, IndexesReady};
+
+// Whether the indexes are strictly ascending, each below n.
+fn is_ascending(indexes: &[u32], n: u64) -> bool
+    ensures { λ r. ⌜ r ≡ ascending n 0 (now (indexes .entry)) ⌝ }
+{
+    let mut least: u64 = 0;
+    let mut i = 0;
+    while i < indexes.len() {
+        let x = indexes[i] as u64;
+        if x < least {
+            return false;
+        }
+        if n <= x {
+            return false;
+        }
+        least = x + 1;
+        i += 1;
+    }
+    true
+}
+
+// Refusal 12's rules.
+fn input_right(front: &[u8], time: u64, indexes: &[u32], cells: &[u8]) -> bool
+    requires { ⌜ checkFront (now front) ≡ Accepted ⌝ }
+    ensures { λ r. ⌜ r ≡ inputRight (now (front .entry)) time (now (indexes .entry)) (now (cells .entry)) ⌝ }
+{
+    if time == 0 {
+        return false;
+    }
+    let count = tiles::tile_count(front);
+    if is_ascending(indexes, count) {
+        let tile = sizes::tile_bytes(front);
+        if cells.len() as u64 != indexes.len() as u64 * tile {
+            return false;
+        }
+        return true;
+    }
+    false
+}
+
+// The uncompressed bytes of each element of a tile.
+fn element_sizes(front: &[u8], sizes: &mut [u32])
+    requires { ⌜ (checkFront (now front) ≡ Accepted) × (length (now sizes) ≡ 16) ⌝ }
+    ensures { λ _. ⌜ SizesOf (now (front .entry)) (now (sizes .exit)) ⌝ }
+{
+    let n = entries::entries_read(front);
+    let mut e = 0;
+    while e < n {
+        sizes[e] = sizes::element_bytes(front, e) as u32;
+        e += 1;
+    }
+}
+
+// The length of a tile record whose elements are all uncompressed.
+fn tile_length(front: &[u8]) -> usize
+    requires { ⌜ checkFront (now front) ≡ Accepted ⌝ }
+    ensures { λ r. ⌜ r ≡ plainTileLength (now (front .entry)) ⌝ }
+{
+    let n = entries::entries_read(front);
+    let mut sum: u64 = 0;
+    let mut e = 0;
+    while e < n {
+        let u = sizes::element_bytes(front, e);
+        sum += sizes::stored_size(u as u32);
+        e += 1;
+    }
+    sizes::least_length((12 + sum) as u32) as usize
+}
+
+// The length of the tile directory.
+fn directory_length(front: &[u8]) -> usize
+    requires { ⌜ checkFront (now front) ≡ Accepted ⌝ }
+    ensures { λ r. ⌜ r ≡ recordLength (24 + 4 * tileCount (now (front .entry))) ⌝ }
+{
+    let count = tiles::tile_count(front);
+    sizes::least_length((32 + 4 * count) as u32) as usize
+}
+
+// Where the tile directory starts, behind the records of k tiles.
+fn directory_start(front: &[u8], k: usize) -> usize
+    requires { ⌜ (checkFront (now front) ≡ Accepted) × (k ≤ 65536) ⌝ }
+    ensures { λ r. ⌜ r ≡ length (now (front .entry)) + k * plainTileLength (now (front .entry)) ⌝ }
+{
+    let n = tile_length(front);
+    front.len() + k * n
+}
+
+// The file's length.
+fn file_length(front: &[u8], k: usize) -> usize
+    requires { ⌜ (checkFront (now front) ≡ Accepted) × (k ≤ 65536) ⌝ }
+    ensures { λ r. ⌜ r ≡ length (now (front .entry)) + k * plainTileLength (now (front .entry)) + recordLength (24 + 4 * tileCount (now (front .entry))) ⌝ }
+{
+    directory_start(front, k) + directory_length(front)
+}
+
+// What is judged behind the front: 12, then 4, then 13.
+fn judge_input(front: &[u8], time: u64, indexes: &[u32], cells: &[u8], room: usize) -> Verdict
+    requires { ⌜ checkFront (now front) ≡ Accepted ⌝ }
+    ensures { λ r. ⌜ r ≡ judgedInput (now (front .entry)) time (now (indexes .entry)) (now (cells .entry)) room ⌝ }
+{
+    if input_right(front, time, indexes, cells) {
+        let n = file_length(front, indexes.len());
+        if 16777216 < n {
+            return Verdict::Refused(Refusal::Ceiling);
+        }
+        if room < n {
+            return Verdict::Refused(Refusal::Room);
+        }
+        return Verdict::Accepted;
+    }
+    Verdict::Refused(Refusal::Input)
+}
+
+// Whether a lay-down is refused, into a buffer of so many bytes.
+fn judge(front: &[u8], time: u64, indexes: &[u32], cells: &[u8], room: usize) -> Verdict
+    ensures { λ r. ⌜ r ≡ judged (now (front .entry)) time (now (indexes .entry)) (now (cells .entry)) room ⌝ }
+{
+    match stages::check_front(front) {
+        Verdict::Refused(r) => Verdict::Refused(r),
+        Verdict::Accepted => judge_input(front, time, indexes, cells, room),
+    }
+}
+
+// The front, with its fields set and its checksum made anew.
+fn put_front(out: &mut [u8], front: &[u8], time: u64, directory: u64)
+    requires { ⌜ (checkFront (now front) ≡ Accepted) × (length (now front) ≤ length (now out)) ⌝ }
+    ensures { λ _. ⌜ now (out .exit) ≡ put (now (out .entry)) 0 (laidFront (now (front .entry)) time directory) ⌝ }
+{
+    let flag = fields::checksum_enabled(front);
+    let n = front.len() - 16;
+    writing::put_bytes(out, 0, front);
+    front::set_fields(out, time, directory);
+    pieces::seal(out, 16, n, flag);
+}
+
+// The sections of a tile's elements, and where they end.
+fn put_sections(out: &mut [u8], at: usize, front: &[u8], sizes: &[u32], cells: &[u8]) -> usize
+    requires { ⌜ TileReady (now front) (now sizes) (now cells) (at + sumBelow (elementCount (now front)) (λ e. storedSize (elementBytes (now front) e))) (length (now out)) ⌝ }
+    ensures end { λ r. ⌜ r ≡ at + sumBelow (elementCount (now (front .entry))) (λ e. storedSize (elementBytes (now (front .entry)) e)) ⌝ }
+    ensures holds { λ _. ⌜ now (out .exit) ≡ put (now (out .entry)) at (sections (now (front .entry)) (elementCount (now (front .entry))) (now (cells .entry))) ⌝ }
+{
+    let n = entries::entries_read(front);
+    let mut p = at;
+    let mut from = 0;
+    let mut e = 0;
+    while e < n {
+        let u = sizes[e];
+        pieces::put_section(out, p, wire::part_of(cells, from, u as usize));
+        p += sizes::stored_size(u) as usize;
+        from += u as usize;
+        e += 1;
+    }
+    p
+}
+
+// The tile record of an index, n bytes long.
+fn put_tile(
+    out: &mut [u8],
+    at: usize,
+    n: usize,
+    front: &[u8],
+    sizes: &[u32],
+    index: u32,
+    cells: &[u8],
+)
+    requires { ⌜ TileReady (now front) (now sizes) (now cells) (at + n) (length (now out)) × (n ≡ plainTileLength (now front)) ⌝ }
+    ensures { λ _. ⌜ now (out .exit) ≡ put (now (out .entry)) at (tileRecord (now (front .entry)) index (now (cells .entry))) ⌝ }
+{
+    let flag = fields::checksum_enabled(front);
+    pieces::put_head(out, at, n as u32, 2);
+    writing::put_u32(out, at + 8, index);
+    let end = put_sections(out, at + 12, front, sizes, cells);
+    pieces::close(out, at, end, n, flag);
+}
+
+// A tile record for each index, n bytes each, behind the front.
+fn put_tiles(out: &mut [u8], n: usize, front: &[u8], sizes: &[u32], indexes: &[u32], cells: &[u8])
+    requires { ⌜ TilesReady (now front) (now indexes) (now cells) (length (now out)) × ((n ≡ plainTileLength (now front)) × SizesOf (now front) (now sizes)) ⌝ }
+    ensures { λ _. ⌜ now (out .exit) ≡ put (now (out .entry)) (length (now (front .entry))) (joined (tileRecords (now (front .entry)) (now (indexes .entry)) (now (cells .entry)))) ⌝ }
+{
+    let tile = sizes::tile_bytes(front) as usize;
+    let mut at = front.len();
+    let mut from = 0;
+    let mut k = 0;
+    while k < indexes.len() {
+        put_tile(
+            out,
+            at,
+            n,
+            front,
+            sizes,
+            indexes[k],
+            wire::part_of(cells, from, tile),
+        );
+        at += n;
+        from += tile;
+        k += 1;
+    }
+}
+
+// The references of all tiles of the grid: zero, but for the tiles that are given, whose records are n bytes each.
+fn put_references(out: &mut [u8], at: usize, n: usize, front: &[u8], indexes: &[u32])
+    requires { ⌜ IndexesReady (now front) (now indexes) × ((n ≡ plainTileLength (now front)) × (at + 4 * tileCount (now front) ≤ length (now out))) ⌝ }
+    ensures { λ _. ⌜ now (out .exit) ≡ put (now (out .entry)) at (references (now (front .entry)) (now (indexes .entry)) (tileCount (now (front .entry)))) ⌝ }
+{
+    let count = tiles::tile_count(front) as usize;
+    pieces::put_zeros(out, at, 4 * count);
+    let mut start = front.len();
+    let mut k = 0;
+    while k < indexes.len() {
+        let i = indexes[k] as usize;
+        writing::put_u32(out, at + 4 * i, ((start + 8) / 8) as u32);
+        start += n;
+        k += 1;
+    }
+}
+
+// What stands before the references: the form, reserved bytes and the rectangle of all tiles.
+fn put_rectangle(out: &mut [u8], at: usize, front: &[u8])
+    requires { ⌜ at + 24 ≤ length (now out) ⌝ }
+    ensures { λ _. ⌜ now (out .exit) ≡ put (now (out .entry)) at (directoryForm (now (front .entry))) ⌝ }
+{
+    let down = tiles::tiles_down(front);
+    let across = tiles::tiles_across(front);
+    pieces::put_zeros(out, at, 16);
+    writing::put_u32(out, at + 16, down);
+    writing::put_u32(out, at + 20, across);
+}
+
+// The tile directory.
+fn put_directory(out: &mut [u8], at: usize, n: usize, front: &[u8], indexes: &[u32])
+    requires { ⌜ IndexesReady (now front) (now indexes) × ((n ≡ plainTileLength (now front)) × (at + recordLength (24 + 4 * tileCount (now front)) ≤ length (now out))) ⌝ }
+    ensures { λ _. ⌜ now (out .exit) ≡ put (now (out .entry)) at (directoryRecord (now (front .entry)) (now (indexes .entry))) ⌝ }
+{
+    let flag = fields::checksum_enabled(front);
+    let count = tiles::tile_count(front) as usize;
+    let long = directory_length(front);
+    pieces::put_head(out, at, long as u32, 5);
+    put_rectangle(out, at + 8, front);
+    put_references(out, at + 32, n, front, indexes);
+    pieces::close(out, at, at + 32 + 4 * count, long, flag);
+}
+
+// The whole file.
+fn put_page(front: &[u8], time: u64, indexes: &[u32], cells: &[u8], file: &mut [u8])
+    requires { ⌜ judged (now front) time (now indexes) (now cells) (length (now file)) ≡ Accepted ⌝ }
+    ensures { λ _. ⌜ now (file .exit) ≡ put (now (file .entry)) 0 (laidFile (now (front .entry)) time (now (indexes .entry)) (now (cells .entry))) ⌝ }
+{
+    let mut sizes = [0u32; 16];
+    element_sizes(front, &mut sizes);
+    let n = tile_length(front);
+    let at = directory_start(front, indexes.len());
+    put_front(file, front, time, at as u64 + 8);
+    put_tiles(file, n, front, &sizes, indexes, cells);
+    put_directory(file, at, n, front, indexes);
+}
+
+// Lays a page down: a front, the time modified, tile indexes, and the cell bytes of those tiles one after another, all elements in
+// order, no lengths, no padding.
+pub fn lay_down(front: &[u8], time: u64, indexes: &[u32], cells: &[u8], file: &mut [u8]) -> Laid
+    ensures answer { λ r. ⌜ r ≡ laid (now (front .entry)) time (now (indexes .entry)) (now (cells .entry)) (length (now (file .entry))) ⌝ }
+    ensures buffer { λ _. ⌜ now (file .exit) ≡ laidOut (now (front .entry)) time (now (indexes .entry)) (now (cells .entry)) (now (file .entry)) ⌝ }
+{
+    let room = file.len();
+    match judge(front, time, indexes, cells, room) {
+        Verdict::Refused(r) => Laid::Refused(r),
+        Verdict::Accepted => {
+            put_page(front, time, indexes, cells, file);
+            Laid::Length(file_length(front, indexes.len()))
+        }
+    }
+}
