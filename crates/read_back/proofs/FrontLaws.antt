@@ -1,0 +1,94 @@
+-- The file that is laid down has the front that was given, but for what is set. Assumes nothing.
+use Prim.Native.Nat.{ℕ, _-_, _≤_}
+use mathlib.Core.Path.{_≡_, sym, _∙_}
+use mathlib.Core.List.{List}
+use mathlib.Core.Logic.{_⊎_, inl, inr}
+use native.Mathlib.Omega.{arith}
+use lib.ListN.{length}
+use Rattle.wire.proofs.TestLaws.{yes}
+use Rattle.wire.proofs.ByteLaws.{Same, same-trans, same-append}
+use Rattle.header.specs.Fields.{headerEnd}
+use Rattle.header.specs.Element.{entriesRead}
+use Rattle.header.proofs.SameLaws.{element-same}
+use Rattle.record.specs.Record.{contentAt}
+use Rattle.check_header.specs.Stages.{closed}
+use Rattle.check_header.proofs.Judged as judged
+use Rattle.check_header.proofs.Judged.{SameJudged, end-same, identified-to, version-same, header-to, ceilings-to}
+use Rattle.page_check.proofs.AcceptedLaws.{Headed}
+use Rattle.lay_down.specs.Page.{directoryStart, fileLength, laidFront, laidFile}
+use Rattle.lay_down.proofs.PageLaws.{front-length, laid-length, laid-joined}
+use Rattle.lay_down.proofs.FieldLaws.{Refers, refers-same, front-same, front-refers}
+use Rattle.read_back.proofs.Setting.{Laying, all-read, front-range, front-long, Kept, Referred}
+
+module _ {f : List ℕ} {t : ℕ} {ix c : List ℕ} (l : Laying f t ix c) where
+  pub length-laid : length (laidFile f t ix c) ≡ fileLength f ix
+  length-laid = laid-length f t ix c (all-read (front-range l)) (l .cells)
+
+  -- the front stands whole at the file's start
+  begins : (a b : ℕ) → b ≤ length f → Same (laidFront f t (contentAt (directoryStart f ix))) (laidFile f t ix c) a b
+  begins a b h =
+      rw (laid-joined f t ix c) (same-append _ _ a b (omega (arith, front-length f t (contentAt (directoryStart f ix)))))
+
+  untouched : (a b : ℕ) → b ≤ length f - 4 → (b ≤ 40) ⊎ (88 ≤ a) → Same f (laidFile f t ix c) a b
+  untouched a b h o =
+      let k = front-long l in
+      same-trans (front-same f t (contentAt (directoryStart f ix)) (omega arith) a b h o) (begins a b (omega arith))
+
+  -- what stages 1 to 4 judge is as it was
+  pub front-judged : SameJudged f (laidFile f t ix c)
+  front-judged =
+      let k = front-long l in
+      let e = l .no-more in
+      let n : length f ≤ length (laidFile f t ix c) = begins 0 (length f) (omega arith) .in-second in
+      record {
+        block = untouched 0 14 (omega arith) (inl (omega arith));
+        frame = untouched 16 21 (omega arith) (inl (omega arith));
+        sides = untouched 104 120 (omega arith) (inr (omega arith));
+        options = untouched 128 131 (omega arith) (inr (omega arith));
+        rest = untouched 280 (headerEnd f - 4) (omega arith) (inr (omega arith));
+        in-first = omega arith;
+        in-second = omega arith;
+      }
+
+  pub front-kept : Kept f (laidFile f t ix c)
+  front-kept =
+      let s = laidFile f t ix c in
+      let j = front-judged in
+      let g = judged.header-fit f s j (length f) (l .header) in
+      record {
+        ends = sym (end-same (j .frame)) ∙ l .no-more;
+        rows = sym (judged.rows f s j);
+        columns = sym (judged.columns f s j);
+        tile-rows = sym (judged.tile-rows f s j);
+        tile-columns = sym (judged.tile-columns f s j);
+        flag = sym (judged.option f s j 128 (omega arith) (omega arith));
+        count = sym (g .count);
+        elements = λ e h. sym (element-same f s (judged.sameRest f s j) e (entriesRead f) (omega (arith, all-read (front-range l))) (g .last));
+      }
+
+  -- the fields that are set
+  refers : Refers (laidFile f t ix c) (contentAt (directoryStart f ix))
+  unfolding fileLength
+  refers =
+      let k = front-long l in
+      let h = l .file in
+      refers-same (begins 48 88 (omega arith)) (front-refers f t (contentAt (directoryStart f ix)) (omega arith) (omega arith))
+
+  pub front-referred : Referred f ix (laidFile f t ix c)
+  front-referred = record { tiles = refers .tiles; metadata = refers .metadata; space = refers .space }
+
+  -- stages 1 to 5 pass
+  pub front-headed : Headed (laidFile f t ix c)
+  unfolding closed
+  front-headed =
+      let s = laidFile f t ix c in
+      let j = front-judged in
+      let e = l .no-more in
+      let n = j .in-second in
+      record {
+        block = identified-to (j .block) (length f) (length s) (l .block) (omega arith);
+        version = sym (version-same (j .block)) ∙ l .version;
+        header = header-to f s j (length f) (length s) (l .header) n;
+        ceilings = ceilings-to f s j (length f) (length s) (l .header) (l .ceilings) (omega (arith, length-laid, l .file));
+        not-opened = sym (yes _ (refers .opened, tt));
+      }

@@ -1,0 +1,9 @@
+pub mod Setting
+pub mod FrontLaws
+pub mod ChecksumLaws
+pub mod TileLaws
+pub mod RecordLaws
+pub mod DirectoryLaws
+pub mod ObeyLaws
+pub mod ReadBackLaws
+pub mod SampleLaws
