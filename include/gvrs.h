@@ -1,9 +1,12 @@
-/* Gridfour Virtual Raster Store files, version 1.4: the check of a file, and reads of its cells.
+/* Gridfour Virtual Raster Store files, version 1.4: the check of a file, reads of its cells, and the laying down of a new one.
 
    Link with libgvrs_c.a, which `rt staticlib gvrs_c` writes to target/staticlib/. A file is the bytes of the whole file, n of
    them. `out` takes the numbers that a function names, in their order; a shorter one takes those that fit, and the answer is the
-   same. Nothing else is written. The caller sees to it that each pointer is that of as many elements as are named, that none is
-   null, also where it names none, that `out` and the file do not overlap, and that the calling thread has 320 KiB of stack left. */
+   same. A lay-down writes the buffer that it is given for the file, too. Nothing else is written.
+
+   The caller sees to it that each pointer is that of as many elements as are named, and that none is null, also where it names
+   none; that `out`, and the buffer of a lay-down, overlap nothing else that is passed; that `indexes` is aligned to 4 bytes and
+   `out` to 8; and that the calling thread has 320 KiB of stack left. */
 #ifndef GVRS_H
 #define GVRS_H
 
@@ -15,7 +18,7 @@ extern "C" {
 
 /* What a function answers: a refusal's number, or what it found. */
 enum {
-    GVRS_ACCEPTED = 0,
+    GVRS_ACCEPTED = 0,     /* the file is accepted, the page is laid down */
     GVRS_NOT_GVRS = 1,     /* fewer than 16 bytes, or the first twelve differ */
     GVRS_VERSION = 2,      /* not version 1.4 */
     GVRS_HEADER = 3,       /* header record at fault */
@@ -27,6 +30,8 @@ enum {
     GVRS_DIRECTORY = 9,    /* directory at fault */
     GVRS_OUTSIDE = 10,     /* row, column, element or tile asked for not in the grid */
     GVRS_COMPRESSED = 11,  /* content asked for is compressed */
+    GVRS_INPUT = 12,       /* lay-down input wrong */
+    GVRS_ROOM = 13,        /* lay-down output too short */
     GVRS_STORED = 32,      /* the cell is stored, the content is present */
     GVRS_FILL = 33         /* the cell is fill, the tile is absent */
 };
@@ -50,6 +55,19 @@ uint32_t gvrs_cell(const uint8_t *file, uint64_t n, uint64_t row, uint64_t colum
 /* The uncompressed content of an element in a tile: 32 present, out[0] where it starts and out[1] its length; 33 absent, 0 and 0;
    else the refusal's number, its place and 0. */
 uint32_t gvrs_content(const uint8_t *file, uint64_t n, uint64_t tile, uint64_t element, uint64_t *out, uint64_t out_n);
+
+/* Lays a page down: 0 done, and out[0] is the file's length; else the refusal's number, and out[0] is its place, 0.
+
+   front is an identification block and a header record, no byte more; time is the time modified; cells are the bytes of the
+   tiles named in indexes, one tile after another, all elements of a tile in order, no lengths, no padding. Refused, in this
+   order: 1 to 4 as a check does, of the front by itself, a longer one being 3; 12 where the time is zero, the indexes are not
+   strictly ascending, one is not below the number of tiles, or cells_n is not indexes_n times the bytes of a tile; 4 where the
+   file would be longer than 16,777,216 bytes; 13 where file_n is less than the file's length.
+
+   Done, the buffer holds the file, and the bytes behind it are as they were. gvrs_check accepts that file; a grid cell of a tile
+   named in indexes is stored in it with the bytes given, every other grid cell is fill. Refused, the whole buffer is as it was. */
+uint32_t gvrs_lay_down(const uint8_t *front, uint64_t front_n, uint64_t time, const uint32_t *indexes, uint64_t indexes_n,
+                       const uint8_t *cells, uint64_t cells_n, uint8_t *file, uint64_t file_n, uint64_t *out, uint64_t out_n);
 
 #ifdef __cplusplus
 }

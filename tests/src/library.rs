@@ -23,6 +23,19 @@ extern "C" {
         out: *mut u64,
         out_n: u64,
     ) -> u32;
+    fn gvrs_lay_down(
+        front: *const u8,
+        front_n: u64,
+        time: u64,
+        indexes: *const u32,
+        indexes_n: u64,
+        cells: *const u8,
+        cells_n: u64,
+        file: *mut u8,
+        file_n: u64,
+        out: *mut u64,
+        out_n: u64,
+    ) -> u32;
 }
 
 /// The routes of `gvrs_cell`. Every other number is the directory too.
@@ -68,6 +81,34 @@ pub fn content_into(file: &[u8], tile: u64, element: u64, out: &mut [u64]) -> u3
     let (bytes, n) = (file.as_ptr(), file.len() as u64);
     // Both slices are alive for the whole call and do not overlap.
     unsafe { gvrs_content(bytes, n, tile, element, out.as_mut_ptr(), out.len() as u64) }
+}
+
+/// The number. The file goes into the caller's buffer, its length or the place into `out`; both are
+/// of any length.
+pub fn lay_down_into(
+    front: &[u8],
+    time: u64,
+    indexes: &[u32],
+    cells: &[u8],
+    file: &mut [u8],
+    out: &mut [u64],
+) -> u32 {
+    // All five slices are alive for the whole call and do not overlap.
+    unsafe {
+        gvrs_lay_down(
+            front.as_ptr(),
+            front.len() as u64,
+            time,
+            indexes.as_ptr(),
+            indexes.len() as u64,
+            cells.as_ptr(),
+            cells.len() as u64,
+            file.as_mut_ptr(),
+            file.len() as u64,
+            out.as_mut_ptr(),
+            out.len() as u64,
+        )
+    }
 }
 
 /// What `out` holds before a call, so that a number left unwritten shows.

@@ -11,12 +11,13 @@ use Rattle.wire.specs.Pick.{pick}
 use Rattle.answer.specs.declared.Verdict.{Verdict}
 use Rattle.answer.specs.declared.Cell.{Cell}
 use Rattle.answer.specs.declared.Content.{Content}
+use Rattle.answer.specs.declared.Laid.{Laid}
 use Rattle.answer.specs.Refusals.{verdictNumber, verdictPlace}
-use Rattle.answer.specs.Answers.{cellKind, cellType, cellBits, cellPlace, contentKind, contentPlace, contentLength}
+use Rattle.answer.specs.Answers.{cellKind, cellType, cellBits, cellPlace, contentKind, contentPlace, contentLength, laidNumber}
 use Rattle.page_check.specs.Stages.{check}
 use Rattle.cells.specs.Reads.{readByDirectory, readByWalk, readByRecords, readMeaning, recordsMeaning, readContent}
 use Rattle.cells.proofs.ReadLaws.{directory-read, walk-read, records-read}
-use Rattle.gvrs_c.specs.Report.{reported}
+use Rattle.gvrs_c.specs.Report.{reported, laidReport}
 use Rattle.gvrs_c.specs.Route.{readBy, meaningBy, RouteMeans}
 
 one-reported : (out : List ℕ) (a : ℕ) → set out 0 a ≡ reported (a ∷ []) out
@@ -81,3 +82,9 @@ pub content-told :
     (o p q : List ℕ) (x y : Content) (n a b : ℕ) → x ≡ y → a ≡ contentPlace x → p ≡ set o 0 a → b ≡ contentLength x → q ≡ set p 1 b →
     n ≡ contentKind x → (n ≡ contentKind y) × (q ≡ reported (contentPlace y ∷ contentLength y ∷ []) o)
 content-told o p q x y n a b e f g h i l = (l ∙ ap contentKind e, i ∙ rw g (two-reported o a b ∙ rw (f, h, e)))
+
+-- a lay-down's number and length, or place
+pub laid-told :
+    (o p : List ℕ) (x y : Laid) (n a : ℕ) → x ≡ y → a ≡ laidReport x → p ≡ set o 0 a → n ≡ laidNumber x →
+    (n ≡ laidNumber y) × (p ≡ reported (laidReport y ∷ []) o)
+laid-told o p x y n a e f g h = (h ∙ ap laidNumber e, g ∙ one-reported o a ∙ rw (f, e))

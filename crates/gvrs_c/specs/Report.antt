@@ -1,8 +1,16 @@
 -- What `out` holds behind a call: the answer's numbers in their order, as many as it has room for; what stands behind them stays.
 use Prim.Native.Nat.{ℕ}
 use mathlib.Core.List.{List, [], _∷_}
+use Rattle.answer.specs.declared.Laid.{Laid}
+use Rattle.answer.specs.declared.Laid.the-variants.{Length, Refused}
+use Rattle.answer.specs.Refusals.{refusalPlace}
 
 unfoldable pub reported : List ℕ → List ℕ → List ℕ
 reported [] out = out
 reported (v ∷ vs) [] = []
 reported (v ∷ vs) (x ∷ xs) = v ∷ reported vs xs
+
+-- a lay-down's number: the file's length where it is done, and the place of its refusal
+abbrev pub laidReport : Laid → ℕ
+laidReport (Length n) = n
+laidReport (Refused r) = refusalPlace r

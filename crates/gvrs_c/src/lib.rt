@@ -1,14 +1,16 @@
 // The C interface: what a C program calls, declared in include/gvrs.h. A slice is a pointer and a count of elements.
 use answer::Cell;
+use answer::Laid;
 use cells::reads;
 ghost use mathlib.Core.Path.{_≡_};
 ghost use mathlib.Core.List.{[], _∷_};
-ghost use lib.ListN.{set};
+ghost use lib.ListN.{length, set};
 ghost use Rattle.answer.specs.Refusals.{verdictNumber, verdictPlace};
-ghost use Rattle.answer.specs.Answers.{cellKind, cellType, cellBits, cellPlace, contentKind, contentPlace, contentLength};
+ghost use Rattle.answer.specs.Answers.{cellKind, cellType, cellBits, cellPlace, contentKind, contentPlace, contentLength, laidNumber};
 ghost use Rattle.page_check.specs.Stages.{check};
 ghost use Rattle.cells.specs.Reads.{readContent};
-ghost use Rattle.gvrs_c.specs.Report.{reported};
+ghost use Rattle.lay_down.specs.Answer.{laid, laidOut};
+ghost use Rattle.gvrs_c.specs.Report.{reported, laidReport};
 ghost use Rattle.gvrs_c.specs.Route.{readBy};
 
 // A number of an answer at its place in `out`, if `out` is long enough.
@@ -75,4 +77,34 @@ pub extern "C" fn gvrs_content(file: &[u8], tile: u64, element: u64, out: &mut [
     report(out, 0, answer::content_place(content) as u64);
     report(out, 1, answer::content_length(content) as u64);
     answer::content_kind(content)
+}
+
+// The file's length where a lay-down is done, and the place of its refusal.
+fn laid_report(x: Laid) -> usize
+    ensures { λ r. ⌜ r ≡ laidReport x ⌝ }
+{
+    match x {
+        Laid::Length(n) => n,
+        Laid::Refused(r) => answer::refusal_place(r),
+    }
+}
+
+// 0 where the page is laid down, else the refusal's number; out[0] takes the file's length, or the refusal's place. The buffer holds
+// the file and behind it what stood there, or is as it was.
+#[no_mangle]
+pub extern "C" fn gvrs_lay_down(
+    front: &[u8],
+    time: u64,
+    indexes: &[u32],
+    cells: &[u8],
+    file: &mut [u8],
+    out: &mut [u64],
+) -> u32
+    ensures number { λ r. ⌜ r ≡ laidNumber (laid (now (front .entry)) time (now (indexes .entry)) (now (cells .entry)) (length (now (file .entry)))) ⌝ }
+    ensures length { λ _. ⌜ now (out .exit) ≡ reported (laidReport (laid (now (front .entry)) time (now (indexes .entry)) (now (cells .entry)) (length (now (file .entry)))) ∷ []) (now (out .entry)) ⌝ }
+    ensures buffer { λ _. ⌜ now (file .exit) ≡ laidOut (now (front .entry)) time (now (indexes .entry)) (now (cells .entry)) (now (file .entry)) ⌝ }
+{
+    let laid = lay_down::lay_down(front, time, indexes, cells, file);
+    report(out, 0, laid_report(laid) as u64);
+    answer::laid_number(laid)
 }

@@ -49,18 +49,39 @@ pub fn stages_1_to_8(file: &[u8]) -> Result<Passed<'_>, Answer> {
 }
 
 fn stages_1_to_5(file: &[u8]) -> Result<Header, Answer> {
+    let header = stages_1_to_3(file)?;
+    stage_4(file, &header)?;
+    if is_opened(&header) {
+        return Err((5, 0));
+    }
+    Ok(header)
+}
+
+/// Document 01, 'Laying down a page': "The front passes stages 1 to 4 taken by itself, a longer one
+/// being 3." That is part of stage 3, whatever the ceilings say (reading 9).
+pub fn stages_1_to_4_of_a_front(front: &[u8]) -> Result<Header, Answer> {
+    let header = stages_1_to_3(front)?;
+    if front.len() > header.end {
+        return Err((3, 0));
+    }
+    stage_4(front, &header)?;
+    Ok(header)
+}
+
+fn stages_1_to_3(file: &[u8]) -> Result<Header, Answer> {
     if !is_identified(file) {
         return Err((1, 0));
     }
     if !has_version_1_4(file) {
         return Err((2, 0));
     }
-    let header = header_of(file).ok_or((3, 0))?;
-    if passes_a_ceiling(file, &header) {
-        return Err((4, 0));
+    header_of(file).ok_or((3, 0))
+}
+
+fn stage_4(file: &[u8], header: &Header) -> Result<(), Answer> {
+    if passes_a_ceiling(file, header) {
+        Err((4, 0))
+    } else {
+        Ok(())
     }
-    if is_opened(&header) {
-        return Err((5, 0));
-    }
-    Ok(header)
 }

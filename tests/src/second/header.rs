@@ -7,7 +7,7 @@ use super::names::{is_identifier, LONGEST_NAME};
 /// Document 01, stage 3: the header record starts at 16.
 pub const HEADER_START: usize = 16;
 
-const FILE_CEILING: usize = 16_777_216;
+pub const FILE_CEILING: usize = 16_777_216;
 const GRID_SIDE_CEILING: u64 = 65_536;
 const TILE_SIDE_CEILING: u64 = 4_096;
 const TILE_CEILING: u64 = 65_536;

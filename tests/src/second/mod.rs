@@ -10,4 +10,5 @@ pub mod directories;
 pub mod fields;
 pub mod geometry;
 pub mod header;
+pub mod lay_down;
 pub mod names;

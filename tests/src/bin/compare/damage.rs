@@ -82,9 +82,16 @@ impl Aim {
     }
 }
 
-/// The damaged file and the place aimed at by the first of the damages. What later stages judge is
-/// damaged first, while what it depends on is still whole.
+/// The damaged file and the place aimed at by the first of the damages.
 pub fn damaged(page: &Page, damages: &[Damage], random: &mut Prng) -> Option<(Vec<u8>, u64)> {
+    let (built, at) = damaged_built(page, damages, random)?;
+    let place = place(at, &built);
+    Some((built.bytes, place))
+}
+
+/// The same with the places of fields as they were before. What later stages judge is damaged
+/// first, while what it depends on is still whole.
+pub fn damaged_built(page: &Page, damages: &[Damage], random: &mut Prng) -> Option<(Built, At)> {
     let mut page = page.clone();
     let mut at = At::Zero;
     for damage in damages.iter().rev() {
@@ -109,8 +116,7 @@ pub fn damaged(page: &Page, damages: &[Damage], random: &mut Prng) -> Option<(Ve
             at = change(&mut built, random)?;
         }
     }
-    let place = place(at, &built);
-    Some((built.bytes, place))
+    Some((built, at))
 }
 
 fn place(at: At, built: &Built) -> u64 {

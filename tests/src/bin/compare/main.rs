@@ -10,6 +10,7 @@ mod allowed;
 mod bytes_changed;
 mod damage;
 mod hostile;
+mod lay_downs;
 mod lengths;
 mod made;
 mod out;
@@ -48,7 +49,7 @@ fn main() -> ExitCode {
 
 /// Every section. Each has a generator of its own, so that one can change without the others.
 fn whole_run(seed: u64, small: bool) -> bool {
-    let sections: [fn(&mut Run, &mut Prng); 9] = [
+    let sections: [fn(&mut Run, &mut Prng); 10] = [
         sample_sums::section,
         made::section,
         allowed::section,
@@ -58,6 +59,7 @@ fn whole_run(seed: u64, small: bool) -> bool {
         hostile::section,
         out::section,
         reads::section,
+        lay_downs::section,
     ];
     let mut run = Run::new(small);
     for (number, section) in sections.into_iter().enumerate() {

@@ -6,7 +6,8 @@ use std::path::PathBuf;
 use gvrs_tests::library;
 use gvrs_tests::second::check::{check, Answer};
 
-use crate::reads::tally::Tally;
+use crate::lay_downs;
+use crate::reads;
 
 /// Faults printed in full and files kept; the rest is only counted.
 const MOST_SHOWN: usize = 20;
@@ -20,7 +21,8 @@ pub struct Run {
     aims: Vec<AimTally>,
     allowances: Vec<(&'static str, usize)>,
     pairs: Vec<PairTally>,
-    pub reads: Tally,
+    pub reads: reads::tally::Tally,
+    pub lay_downs: lay_downs::tally::Tally,
     faults: usize,
 }
 
@@ -46,7 +48,8 @@ impl Run {
             aims: Vec::new(),
             allowances: Vec::new(),
             pairs: Vec::new(),
-            reads: Tally::new(),
+            reads: reads::tally::Tally::new(),
+            lay_downs: lay_downs::tally::Tally::new(),
             faults: 0,
         }
     }
@@ -157,6 +160,7 @@ impl Run {
         }
         self.report_pairs();
         self.reads.report();
+        self.lay_downs.report();
         if !self.small {
             self.missed();
         }
@@ -204,6 +208,10 @@ impl Run {
         }
         for thing in self.reads.missed() {
             println!("FAULT: reads: never or wrongly reached: {thing}");
+            self.faults += 1;
+        }
+        for thing in self.lay_downs.missed() {
+            println!("FAULT: lay-downs: never reached: {thing}");
             self.faults += 1;
         }
     }

@@ -1,8 +1,8 @@
 //! Cells by every route, and contents of elements.
 
-mod ask;
+pub mod ask;
 mod bytes_changed;
-mod described;
+pub mod described;
 mod directories;
 mod long_files;
 mod made;

@@ -42,7 +42,7 @@ fn kind(cell: &Cell) -> Option<usize> {
     }
 }
 
-fn count(tally: &mut Vec<(String, usize)>, name: &str, times: usize) {
+pub fn count(tally: &mut Vec<(String, usize)>, name: &str, times: usize) {
     match tally.iter_mut().find(|(known, _)| known == name) {
         Some((_, number)) => *number += times,
         None => tally.push((name.to_string(), times)),
