@@ -1,9 +1,10 @@
-//! Times the library's check and reads against the second implementation's, in one run.
+//! Times the library's check, reads and lay-down against the second implementation's, in one run.
 //!
 //!     measure [--full]
 //!
 //! `--full` takes the lists in reverse order at 16 MiB too.
 
+mod lay_downs;
 mod look_up;
 mod reads;
 mod shapes;
@@ -20,7 +21,7 @@ use shapes::{CEILING, MEBIBYTE};
 
 /// A measurement is repeated until this much time has gone, at most `MOST_TIMES`.
 const ENOUGH: Duration = Duration::from_millis(600);
-const MOST_TIMES: usize = 5;
+const MOST_TIMES: usize = 25;
 
 fn main() -> ExitCode {
     let full = match env::args().nth(1).as_deref() {
@@ -51,6 +52,7 @@ fn main() -> ExitCode {
     checksum_speed(with_checksums, without);
     reads::measure();
     look_up::measure();
+    lay_downs::measure();
     ExitCode::SUCCESS
 }
 
@@ -77,7 +79,7 @@ fn measure(shape: &str, file: &[u8]) -> Duration {
 }
 
 /// The shortest of some repetitions.
-fn shortest(task: impl Fn()) -> Duration {
+fn shortest(mut task: impl FnMut()) -> Duration {
     let begin = Instant::now();
     let mut shortest = Duration::MAX;
     for _ in 0..MOST_TIMES {
