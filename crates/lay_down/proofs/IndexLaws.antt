@@ -1,11 +1,13 @@
--- The references that are laid down for ascending tile indexes. Assumes nothing.
+-- The compact references of ascending tile indexes. Assumes nothing.
 use Prim.Native.Nat.{ℕ, zero, suc, _+_, _*_, _/_, _%_, _≤_, _<_}
-use mathlib.Core.Path.{_≡_, refl, _∙_}
-use mathlib.Core.List.{List, [], _∷_}
+use mathlib.Core.Path.{_≡_, refl, ap, _∙_}
+use mathlib.Core.List.{List, [], _∷_, _++_}
 use mathlib.Core.Logic.{_⊎_, inl, inr, ⊎-elim}
 use mathlib.Core.Bool.{Bool, true, false}
 use native.Mathlib.Omega.{arith}
-use lib.ListN.{length, getD}
+use native.Mathlib.Numerals.{add-one}
+use lib.ListN.{length, getD, take}
+use lib.Seq.{take-suc, length-take-le, getD-take}
 use lib.Dec.{eqb}
 use borrow.Author.Tests.{eqb-true, eq-eqb, ne-eqb}
 use Rattle.wire.specs.Pick.{pick}
@@ -15,7 +17,7 @@ use Rattle.geometry.specs.Sizes.{plainTileLength}
 use Rattle.geometry.proofs.SizeLaws.{plain-eights}
 use Rattle.lay_down.specs.Page.{compactFrom}
 use Rattle.lay_down.specs.Answer.{ascending}
-use Rattle.lay_down.proofs.InputLaws.{ascending-each}
+use Rattle.lay_down.proofs.AscendLaws.{ascending-each}
 
 -- the reference of a given tile is its content
 pub compact-given :
@@ -29,6 +31,38 @@ compact-given f at n least (i ∷ is) a e (suc k) h =
     let r = ascending-each n (i + 1) is (b .1 .1 .0) k (omega arith) in
     let p = compact-given f (at + plainTileLength f) n (i + 1) is (omega (arith, plain-eights f)) (b .1 .1 .0) k (omega arith) in
     rw (ne-eqb i (getD is k 0) (λ z. omega (arith, r .0))) (p ∙ omega arith)
+
+-- one tile more, behind all the others
+
+compact-more :
+    (f : List ℕ) (at : ℕ) (l : List ℕ) (i j : ℕ) → ((m : ℕ) → m < length l → getD l m 0 < i) →
+    compactFrom f at (l ++ (i ∷ [])) j ≡ pick (eqb i j) (contentAt (at + length l * plainTileLength f) / 8) (compactFrom f at l j)
+unfolding compactFrom
+compact-more f at [] i j h = let e : at + 0 * plainTileLength f ≡ at = omega arith in rw e
+compact-more f at (x ∷ xs) i j h =
+    let n = plainTileLength f in
+    let r = compact-more f (at + n) xs i j (λ m k. h (suc m) (omega arith)) in
+    let a : at + n + length xs * n ≡ at + suc (length xs) * n = omega arith in
+    go (eqb x j) refl (rw (← a) r)
+  where
+    go :
+        (b : Bool) → eqb x j ≡ b →
+        compactFrom f (at + plainTileLength f) (xs ++ (i ∷ [])) j
+        ≡ pick (eqb i j) (contentAt (at + suc (length xs) * plainTileLength f) / 8) (compactFrom f (at + plainTileLength f) xs j) →
+        pick b (contentAt at / 8) (compactFrom f (at + plainTileLength f) (xs ++ (i ∷ [])) j)
+        ≡ pick (eqb i j) (contentAt (at + suc (length xs) * plainTileLength f) / 8) (pick b (contentAt at / 8) (compactFrom f (at + plainTileLength f) xs j))
+    go true e r = let q : x ≡ j = eqb-true x j e in rw (ne-eqb i j (λ z. let k : x < i = h 0 (omega arith) in absurd (omega arith)))
+    go false e r = r
+
+pub compact-next :
+    (f : List ℕ) (at : ℕ) (ix : List ℕ) (k : ℕ) → k < length ix → ((j : ℕ) → j < k → getD ix j 0 < getD ix k 0) → (j : ℕ) →
+    compactFrom f at (take (k + 1) ix) j ≡ pick (eqb (getD ix k 0) j) (contentAt (at + k * plainTileLength f) / 8) (compactFrom f at (take k ix) j)
+compact-next f at ix k h o j =
+    let l : length (take k ix) ≡ k = length-take-le k ix (omega arith) in
+    let e : take (k + 1) ix ≡ take k ix ++ (getD ix k 0 ∷ []) = ap (λ (n : ℕ). take n ix) (add-one k) ∙ take-suc ix k 0 h in
+    let m =
+    compact-more f at (take k ix) (getD ix k 0) j (λ i c. let u = getD-take k ix i 0 (omega arith) in omega (arith, o i (omega arith))) in
+    rw e (rw l at m)
 
 -- a tile is given as the one of that number, counted from 0
 pub record Given (ix : List ℕ) (j : ℕ) : Type 0 where

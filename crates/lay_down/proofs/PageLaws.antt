@@ -1,41 +1,33 @@
--- The lengths of what is laid down, and where an element's section stands. Assumes nothing.
-use Prim.Native.Nat.{ℕ, zero, suc, _+_, _*_, _/_, _-_, _≤_, _<_}
+-- The lengths of what is laid down. Assumes nothing.
+use Prim.Native.Nat.{ℕ, zero, suc, _+_, _*_, _-_, _≤_, _<_}
 use mathlib.Core.Path.{_≡_, refl, sym, ap, _∙_}
-use mathlib.Core.List.{List, [], _∷_, _++_, append-assoc, append-nil}
-use mathlib.Core.Logic.{by-cases}
-use native.Mathlib.Decide.{decLe}
+use mathlib.Core.List.{List, [], _∷_, _++_}
 use native.Mathlib.Omega.{arith}
 use lib.ListN.{length, take, drop, length-append, length-drop}
 use lib.Seq.{length-take-le}
-use mathlib.Core.Bool.{true}
 use Rattle.wire.specs.Tests.{sumBelow}
-use Rattle.wire.specs.Bytes.{bytesOf, part, largestInteger}
+use Rattle.wire.specs.Bytes.{bytesOf, part}
+use Rattle.wire.proofs.TestLaws.{sum-each}
 use Rattle.wire.proofs.ByteLaws.{bytes-length, part-length}
 use Rattle.header.specs.Fields.{checksumEnabled, elementCount}
 use Rattle.header.specs.Element.{entriesRead}
-use Rattle.record.specs.Record.{lengthAt, contentAt, recordOk}
-use Rattle.record.specs.Chain.{WellFormed, Whole, joined, startsOf}
-use Rattle.record.proofs.ChainLaws.{joined-whole}
-use Rattle.record.proofs.PlaceLaws.{Placed, placed-first, placed-next}
+use Rattle.record.specs.Record.{contentAt}
+use Rattle.record.specs.Chain.{joined}
 use Rattle.wire.proofs.PutLaws.{length-put}
 use Rattle.geometry.specs.Tiles.{tilesAcross, tilesDown, tileCount}
 use Rattle.geometry.specs.Sizes.{storedSize, leastLength, tileLength, elementBytes, tileBytes, plainTileLength}
-use Rattle.lay_down.specs.Pieces.{zeros, recordLength, recordOf, section, sealed}
+use Rattle.lay_down.specs.Pieces.{zeros, recordLength, section, sealed}
 use Rattle.lay_down.specs.Page.{sections, tileRecord, tileRecords, references, directoryForm, directoryBody, directoryRecord, compactFrom, directoryStart, fileLength, fieldsSet, laidFront, laidFile}
-use Rattle.lay_down.proofs.PieceLaws.{zeros-length, record-length, record-well}
+use Rattle.lay_down.proofs.PieceLaws.{zeros-length, least-holds, record-holds, record-length, section-length}
 
-pub section-length : (bytes : List ℕ) → length (section bytes) ≡ storedSize (length bytes)
-unfolding section storedSize
-section-length bytes =
-    let n = length bytes in
-    let a = length-append (bytesOf 4 n ++ bytes) (zeros ((n + 3) / 4 * 4 - n)) in
-    let b = length-append (bytesOf 4 n) bytes in
-    omega (arith, a, b, bytes-length 4 n, zeros-length ((n + 3) / 4 * 4 - n))
+-- the stored sizes of the elements before e
+abbrev pub storedBefore : List ℕ → ℕ → ℕ
+storedBefore f e = sumBelow e (λ d. storedSize (elementBytes f d))
 
 -- the sections of the first n elements, where the cell bytes hold them
 pub sections-length :
     (f : List ℕ) (n : ℕ) (c : List ℕ) → sumBelow n (elementBytes f) ≤ length c →
-    length (sections f n c) ≡ sumBelow n (λ e. storedSize (elementBytes f e))
+    length (sections f n c) ≡ storedBefore f n
 unfolding sections sumBelow
 sections-length f zero c h = refl
 sections-length f (suc n) c h =
@@ -48,32 +40,36 @@ sections-length f (suc n) c h =
     let g : storedSize (length (part c at u)) ≡ storedSize u = ap storedSize e in
     omega (arith, a, b, d, g)
 
--- where the sections stand from x on, the one of element e stands behind those before it
-module _ (f c : List ℕ) {s : List ℕ} {x : ℕ} where
-  pub section-there :
-      (n : ℕ) → sumBelow n (elementBytes f) ≤ length c → Placed s x (sections f n c) → (e : ℕ) → e < n →
-      Placed s (x + sumBelow e (λ d. storedSize (elementBytes f d))) (section (part c (sumBelow e (elementBytes f)) (elementBytes f e)))
-  unfolding sections sumBelow
-  section-there zero l h e k = absurd (omega arith)
-  section-there (suc n) l h e k =
-      let a = sections f n c in
-      let b = section (part c (sumBelow n (elementBytes f)) (elementBytes f n)) in
-      let m : sumBelow n (elementBytes f) ≤ length c = omega arith in
-      by-cases (decLe (e + 1) n) (λ i. section-there n m (placed-first a b h) e (omega arith))
-      (λ i. let z : e ≡ n = omega arith in rw z (rw (sections-length f n c m) at (placed-next a b h)))
+-- where the elements that are read are all of them, as in a front that passes
+module _ (f : List ℕ) (all : entriesRead f ≡ elementCount f) where
+  pub tile-sum : sumBelow (elementCount f) (elementBytes f) ≡ tileBytes f
+  unfolding tileBytes
+  tile-sum = ap (λ (n : ℕ). sumBelow n (elementBytes f)) (sym all)
 
--- a tile record has the length that geometry gives
-pub tile-length :
-    (f : List ℕ) (i : ℕ) (c : List ℕ) → entriesRead f ≡ elementCount f → length c ≡ tileBytes f → length (tileRecord f i c) ≡ plainTileLength f
-unfolding tileRecord plainTileLength tileLength tileBytes recordLength
-tile-length f i c r h =
-    let n = elementCount f in
-    let s : sumBelow n (elementBytes f) ≤ length c = omega (arith, ap (λ (k : ℕ). sumBelow k (elementBytes f)) r) in
-    let a = sections-length f n c s in
-    let b = length-append (bytesOf 4 i) (sections f n c) in
-    let d = record-length (checksumEnabled f) 2 (bytesOf 4 i ++ sections f n c) in
-    let e : 8 + length (bytesOf 4 i ++ sections f n c) ≡ 12 + sumBelow n (λ k. storedSize (elementBytes f k)) = omega (arith, a, b, bytes-length 4 i) in
-    d ∙ ap leastLength e ∙ ap (λ (k : ℕ). leastLength (12 + sumBelow k (λ j. storedSize (elementBytes f j)))) (sym r)
+  -- an element's bytes are among the tile's
+  pub element-within : (e : ℕ) → e < elementCount f → sumBelow e (elementBytes f) + elementBytes f e ≤ tileBytes f
+  element-within e h = omega (arith, sum-each (elementCount f) (elementBytes f) e h, tile-sum)
+
+  pub plain-is : plainTileLength f ≡ leastLength (12 + storedBefore f (elementCount f))
+  unfolding plainTileLength tileLength
+  plain-is = ap (λ (n : ℕ). leastLength (12 + storedBefore f n)) all
+
+  pub plain-holds : 16 + storedBefore f (elementCount f) ≤ plainTileLength f
+  plain-holds = omega (arith, plain-is, least-holds (12 + storedBefore f (elementCount f)) .0)
+
+  -- the body of a tile record, and the record, which has the length that geometry gives
+
+  pub tile-body-length : (i : ℕ) (c : List ℕ) → length c ≡ tileBytes f → length (bytesOf 4 i ++ sections f (elementCount f) c) ≡ 4 + storedBefore f (elementCount f)
+  tile-body-length i c h =
+      let a = sections-length f (elementCount f) c (omega (arith, tile-sum)) in
+      length-append (bytesOf 4 i) (sections f (elementCount f) c) ∙ omega (arith, bytes-length 4 i)
+
+  pub tile-length : (i : ℕ) (c : List ℕ) → length c ≡ tileBytes f → length (tileRecord f i c) ≡ plainTileLength f
+  unfolding tileRecord recordLength
+  tile-length i c h =
+      record-length (checksumEnabled f) 2 (bytesOf 4 i ++ sections f (elementCount f) c)
+      ∙ ap leastLength (omega (arith, tile-body-length i c h))
+      ∙ sym plain-is
 
 -- the cell bytes of the first tile, and those of the others
 pub cells-split : (t n : ℕ) (c : List ℕ) → length c ≡ suc n * t → (length (take t c) ≡ t) × (length (drop t c) ≡ n * t)
@@ -90,7 +86,7 @@ tiles-length f [] c all h = omega arith
 tiles-length f (i ∷ is) c all h =
     let p = cells-split (tileBytes f) (length is) c h in
     let a = length-append (tileRecord f i (take (tileBytes f) c)) (joined (tileRecords f is (drop (tileBytes f) c))) in
-    let b = tile-length f i (take (tileBytes f) c) all (p .0) in
+    let b = tile-length f all i (take (tileBytes f) c) (p .0) in
     let d = tiles-length f is (drop (tileBytes f) c) all (p .1) in
     omega arith
 
@@ -116,39 +112,16 @@ form-length f =
     let c = four-more (z ++ bytesOf 4 0 ++ bytesOf 4 0) (tilesDown f) in
     four-more (z ++ bytesOf 4 0 ++ bytesOf 4 0 ++ bytesOf 4 (tilesDown f)) (tilesAcross f) ∙ omega (arith, a, b, c, reserved-length)
 
+pub body-length : (f ix : List ℕ) → length (directoryBody f ix) ≡ 24 + 4 * tileCount f
+unfolding directoryBody
+body-length f ix = length-append (directoryForm f) (references f ix (tileCount f)) ∙ omega (arith, form-length f, references-length f ix (tileCount f))
+
 pub directory-length : (f ix : List ℕ) → length (directoryRecord f ix) ≡ recordLength (24 + 4 * tileCount f)
-unfolding directoryRecord directoryBody
-directory-length f ix =
-    let a = length-append (directoryForm f) (references f ix (tileCount f)) in
-    record-length (checksumEnabled f) 5 _ ∙ ap recordLength (omega (arith, a, form-length f, references-length f ix (tileCount f)))
-
--- each tile record is one by itself, and no byte more; so they make a whole chain with what comes behind them
-
-module _ (f : List ℕ) (all : entriesRead f ≡ elementCount f) (fits : plainTileLength f ≤ largestInteger) where
-  tile-well :
-      (i : ℕ) (c : List ℕ) → length c ≡ tileBytes f →
-      (recordOk (tileRecord f i c) 0 ≡ true) × (lengthAt (tileRecord f i c) 0 ≡ length (tileRecord f i c))
-  unfolding tileRecord
-  tile-well i c h =
-      let body = bytesOf 4 i ++ sections f (elementCount f) c in
-      let a : length (recordOf (checksumEnabled f) 2 body) ≡ plainTileLength f = tile-length f i c all h in
-      record-well (checksumEnabled f) 2 body (omega arith) (omega (arith, a, record-length (checksumEnabled f) 2 body))
-
-  pub tiles-well :
-      (ix c : List ℕ) (rest : List (List ℕ)) → length c ≡ length ix * tileBytes f → WellFormed rest → WellFormed (tileRecords f ix c ++ rest)
-  unfolding tileRecords
-  tiles-well [] c rest h w = w
-  tiles-well (i ∷ is) c rest h w =
-      let p = cells-split (tileBytes f) (length is) c h in
-      (tile-well i (take (tileBytes f) c) (p .0), tiles-well is (drop (tileBytes f) c) rest (p .1) w)
-
-pub directory-well :
-    (f ix : List ℕ) → recordLength (24 + 4 * tileCount f) ≤ largestInteger →
-    (recordOk (directoryRecord f ix) 0 ≡ true) × (lengthAt (directoryRecord f ix) 0 ≡ length (directoryRecord f ix))
 unfolding directoryRecord
-directory-well f ix h =
-    let a : length (recordOf (checksumEnabled f) 5 (directoryBody f ix)) ≡ recordLength (24 + 4 * tileCount f) = directory-length f ix in
-    record-well (checksumEnabled f) 5 (directoryBody f ix) (omega arith) (omega (arith, a, record-length (checksumEnabled f) 5 (directoryBody f ix)))
+directory-length f ix = record-length (checksumEnabled f) 5 (directoryBody f ix) ∙ ap recordLength (body-length f ix)
+
+pub directory-holds : (f : List ℕ) → 36 + 4 * tileCount f ≤ recordLength (24 + 4 * tileCount f)
+directory-holds f = omega (arith, record-holds (24 + 4 * tileCount f))
 
 -- the front keeps its length
 pub fields-length : (f : List ℕ) (t d : ℕ) → length (fieldsSet f t d) ≡ length f
@@ -172,28 +145,3 @@ module _ (f : List ℕ) (t : ℕ) (ix c : List ℕ) (all : entriesRead f ≡ ele
   laid-length =
       length-append (laidFront f t (contentAt (directoryStart f ix)) ++ joined (tileRecords f ix c)) (directoryRecord f ix)
       ∙ omega (arith, lead-length, directory-length f ix)
-
--- the records that stand behind it
-abbrev pub laidRecords : List ℕ → List ℕ → List ℕ → List (List ℕ)
-laidRecords f ix c = tileRecords f ix c ++ (directoryRecord f ix ∷ [])
-
-joined-last : (rs : List (List ℕ)) (r : List ℕ) → joined rs ++ r ≡ joined (rs ++ (r ∷ []))
-joined-last [] r = sym (append-nil r)
-joined-last (x ∷ xs) r = append-assoc x (joined xs) r ∙ ap (λ (l : List ℕ). x ++ l) (joined-last xs r)
-
-pub laid-joined : (f : List ℕ) (t : ℕ) (ix c : List ℕ) → laidFile f t ix c ≡ laidFront f t (contentAt (directoryStart f ix)) ++ joined (laidRecords f ix c)
-unfolding laidFile
-laid-joined f t ix c =
-    let a = laidFront f t (contentAt (directoryStart f ix)) in
-    append-assoc a (joined (tileRecords f ix c)) (directoryRecord f ix) ∙ ap (λ (l : List ℕ). a ++ l) (joined-last (tileRecords f ix c) (directoryRecord f ix))
-
--- and they are the whole chain from the front's end on
-pub laid-whole :
-    (f : List ℕ) (t : ℕ) (ix c : List ℕ) → entriesRead f ≡ elementCount f → plainTileLength f ≤ largestInteger →
-    recordLength (24 + 4 * tileCount f) ≤ largestInteger → length c ≡ length ix * tileBytes f →
-    Whole (laidFile f t ix c) (length f) (startsOf (length f) (laidRecords f ix c))
-laid-whole f t ix c all p q h =
-    let a = laidFront f t (contentAt (directoryStart f ix)) in
-    let e : length a ≡ length f = front-length f t (contentAt (directoryStart f ix)) in
-    let w = joined-whole a (laidRecords f ix c) (tiles-well f all p ix c (directoryRecord f ix ∷ []) h (directory-well f ix q, tt)) in
-    rw (laid-joined f t ix c, ← e) w

@@ -1,22 +1,28 @@
--- A record put together from its body is a record by itself, and no byte more; what it and a section say wherever they stand. Assumes
--- nothing.
-use Prim.Native.Nat.{ℕ, _+_, _%_, _-_, _≤_, _<_}
+-- A record put together from its body is a record by itself, and no byte more; what it and a section say wherever they stand.
+-- Assumes nothing.
+use Prim.Native.Nat.{ℕ, _+_, _*_, _/_, _%_, _-_, _≤_, _<_}
 use mathlib.Core.Path.{_≡_, sym, _∙_}
 use mathlib.Core.List.{List, [], _∷_, _++_}
 use mathlib.Core.Bool.{true}
 use native.Mathlib.Omega.{arith}
-use lib.ListN.{length, length-append, length-replicate}
+use lib.ListN.{length, length-append, length-replicate, replicate-append-replicate}
 use Rattle.wire.specs.Bytes.{bytesOf, byteAt, u32At, largestInteger}
 use Rattle.wire.proofs.ByteLaws.{bytes-length}
+use Rattle.wire.proofs.PlaceLaws.{Placed, placed-self, placed-last, placed-before, placed-first, placed-next, placed-byte, placed-value}
 use Rattle.record.specs.Record.{lengthAt, typeAt, recordOk}
 use Rattle.record.proofs.ChainLaws.{means-ok}
-use Rattle.record.proofs.PlaceLaws.{Placed, placed-self, placed-last, placed-before, placed-first, placed-next, placed-byte, placed-value}
-use Rattle.geometry.specs.Sizes.{leastLength}
+use Rattle.geometry.specs.Sizes.{storedSize, leastLength}
 use Rattle.lay_down.specs.Pieces.{zeros, checksumFor, recordHead, recordLength, unclosed, recordOf, section}
+
+-- lengths
 
 pub zeros-length : (n : ℕ) → length (zeros n) ≡ n
 unfolding zeros
 zeros-length n = length-replicate n _
+
+pub zeros-joined : (n m : ℕ) → zeros (n + m) ≡ zeros n ++ zeros m
+unfolding zeros
+zeros-joined n m = sym (replicate-append-replicate n m _)
 
 pub head-length : (n kind : ℕ) → length (recordHead n kind) ≡ 8
 unfolding recordHead
@@ -30,19 +36,24 @@ pub least-holds : (n : ℕ) → (n + 4 ≤ leastLength n) × ((leastLength n ≤
 unfolding leastLength
 least-holds n = (omega arith, (omega arith, omega arith))
 
+-- so the length of a record holds its head, its body and its checksum
+pub record-holds : (n : ℕ) → 8 + n + 4 ≤ recordLength n
+unfolding recordLength
+record-holds n = least-holds (8 + n) .0
+
 pub unclosed-length : (kind : ℕ) (body : List ℕ) → length (unclosed kind body) ≡ recordLength (length body) - 4
-unfolding unclosed recordLength
+unfolding unclosed
 unclosed-length kind body =
-    let n = leastLength (8 + length body) in
+    let n = recordLength (length body) in
     let a = length-append (recordHead n kind ++ body) (zeros (n - 4 - (8 + length body))) in
     let b = length-append (recordHead n kind) body in
-    omega (arith, a, b, head-length n kind, zeros-length (n - 4 - (8 + length body)), least-holds (8 + length body) .0)
+    omega (arith, a, b, head-length n kind, zeros-length (n - 4 - (8 + length body)), record-holds (length body))
 
 pub record-length : (flag kind : ℕ) (body : List ℕ) → length (recordOf flag kind body) ≡ recordLength (length body)
-unfolding recordOf recordLength
+unfolding recordOf
 record-length flag kind body =
     let a = length-append (unclosed kind body) (bytesOf 4 (checksumFor flag (unclosed kind body))) in
-    omega (arith, a, unclosed-length kind body, bytes-length 4 (checksumFor flag (unclosed kind body)), least-holds (8 + length body) .0)
+    omega (arith, a, unclosed-length kind body, bytes-length 4 (checksumFor flag (unclosed kind body)), record-holds (length body))
 
 -- its body stands behind its first eight bytes
 pub record-body : (flag kind : ℕ) (body : List ℕ) → Placed (recordOf flag kind body) 8 body
@@ -67,8 +78,8 @@ module _ {s : List ℕ} {at : ℕ} (flag kind : ℕ) (body : List ℕ) (p : Plac
   unfolding byteAt
   placed-kind =
       let n = recordLength (length body) in
-      let e : at + length (bytesOf 4 n) + 0 ≡ at + 4 = omega (arith, bytes-length 4 n) in
-      rw e at (placed-byte (placed-next (bytesOf 4 n) (kind ∷ []) length-type) 0 (omega arith))
+      let e : at + 4 + 0 ≡ at + 4 = omega arith in
+      rw e at (placed-byte (placed-next (bytesOf 4 n) (kind ∷ []) (bytes-length 4 n) length-type) 0 (omega arith))
 
   pub placed-stated : length (recordOf flag kind body) ≤ largestInteger → lengthAt s at ≡ length (recordOf flag kind body)
   placed-stated h =
@@ -97,7 +108,16 @@ record-well flag kind body k h =
       a,
     )
 
--- a section says the length of its bytes, which stand behind that
+-- a section: its length
+pub section-length : (bytes : List ℕ) → length (section bytes) ≡ storedSize (length bytes)
+unfolding section storedSize
+section-length bytes =
+    let n = length bytes in
+    let a = length-append (bytesOf 4 n ++ bytes) (zeros ((n + 3) / 4 * 4 - n)) in
+    let b = length-append (bytesOf 4 n) bytes in
+    omega (arith, a, b, bytes-length 4 n, zeros-length ((n + 3) / 4 * 4 - n))
+
+-- it says the length of its bytes, which stand behind that
 module _ (bytes : List ℕ) {s : List ℕ} {x : ℕ} (p : Placed s x (section bytes)) where
   section-parts : Placed s x (bytesOf 4 (length bytes) ++ bytes)
   unfolding section
@@ -107,4 +127,4 @@ module _ (bytes : List ℕ) {s : List ℕ} {x : ℕ} (p : Placed s x (section by
   section-states h = placed-value 4 _ (placed-first (bytesOf 4 (length bytes)) bytes section-parts) h
 
   pub bytes-there : Placed s (x + 4) bytes
-  bytes-there = rw (bytes-length 4 (length bytes)) at (placed-next (bytesOf 4 (length bytes)) bytes section-parts)
+  bytes-there = placed-next (bytesOf 4 (length bytes)) bytes (bytes-length 4 (length bytes)) section-parts

@@ -11,9 +11,9 @@ use Rattle.wire.specs.Pick.{pick}
 use Rattle.wire.specs.Bytes.{Bytes, part, numberAt, bytesOf}
 use Rattle.wire.proofs.ByteLaws.{Same, part-whole, part-before, part-same, number-of, number-behind, bytes-none, bytes-cons, bytes-append, bytes-part, bytes-of, zeros-of}
 use Rattle.wire.proofs.PutLaws.{put-same, put-number}
+use Rattle.wire.proofs.PlaceLaws.{Placed, placed-part, placed-number}
 use Rattle.crc32c.specs.Crc.{crcOf}
 use Rattle.crc32c.proofs.Range.{crc-small}
-use Rattle.record.proofs.PlaceLaws.{Placed, placed-part, placed-number}
 use Rattle.geometry.specs.Tiles.{tilesAcross, tilesDown, tileCount}
 use Rattle.lay_down.specs.Pieces.{zeros, checksumFor, recordHead, recordLength, unclosed, recordOf, section, sealed}
 use Rattle.lay_down.specs.Page.{sections, references, directoryForm, directoryBody}
@@ -33,7 +33,7 @@ unclosed-bytes : (kind : ℕ) {body : List ℕ} → kind < 256 → Bytes body �
 unfolding unclosed
 unclosed-bytes kind k w = bytes-append (bytes-append (head-bytes _ kind k) w) (zeros-bytes _)
 
-pub section-bytes : {s : List ℕ} → Bytes s → Bytes (section s)
+section-bytes : {s : List ℕ} → Bytes s → Bytes (section s)
 unfolding section
 section-bytes w = bytes-append (bytes-append (bytes-of 4 _) w) (zeros-bytes _)
 

@@ -9,19 +9,20 @@ use borrow.Author.Tests.{ne-eqb}
 use Rattle.wire.specs.Bytes.{Bytes, largestInteger}
 use Rattle.wire.proofs.TestLaws.{means, yes}
 use Rattle.wire.proofs.ByteLaws.{number-same, byte-same}
+use Rattle.wire.proofs.PlaceLaws.{Placed, placed-self, placed-before}
 use Rattle.crc32c.specs.Crc.{crcPart}
 use Rattle.header.specs.Fields.{checksumEnabled, headerEnd}
 use Rattle.record.specs.Record.{lengthAt, typeAt, contentAt}
-use Rattle.record.proofs.PlaceLaws.{Placed, placed-self, placed-before}
 use Rattle.check_header.specs.HeaderRecord.{frameRight, headerRight}
 use Rattle.check_records.specs.Checksum.{summedBytes, checksumOf, checksumAt, checksumRight}
 use Rattle.lay_down.specs.Pieces.{checksumFor, recordLength, recordOf}
 use Rattle.lay_down.specs.Page.{directoryStart, laidFront, laidFile}
 use Rattle.lay_down.proofs.PieceLaws.{least-holds, record-length, placed-kind, placed-stated}
-use Rattle.lay_down.proofs.PageLaws.{front-length, laid-joined}
+use Rattle.lay_down.proofs.PageLaws.{front-length}
+use Rattle.lay_down.proofs.ChainLaws.{laid-joined}
 use Rattle.lay_down.proofs.SealLaws.{Sealed, sealed-placed, record-sealed}
 use Rattle.lay_down.proofs.FieldLaws.{front-sealed}
-use Rattle.read_back.proofs.Setting.{Laying, front-long}
+use Rattle.read_back.proofs.Setting.{Laying}
 use Rattle.read_back.proofs.FrontLaws.{front-judged, front-kept}
 
 -- a record that is sealed has the right checksum, a free-space record left aside
@@ -45,17 +46,17 @@ record-checksum {s} {x} flag kind body p f w z k h =
 module _ {f : List ℕ} {t : ℕ} {ix c : List ℕ} (l : Laying f t ix c) where
   header-typed : typeAt f 16 ≡ 6
   unfolding headerRight frameRight
-  header-typed = means _ (means _ (l .header) .0) .1 .1 .0
+  header-typed = means _ (means _ (l .rules .header) .0) .1 .1 .0
 
   header-stated : lengthAt f 16 ≡ length f - 16
   unfolding headerEnd
-  header-stated = let e = l .no-more in omega arith
+  header-stated = let e = l .rules .no-more in omega arith
 
   pub header-checksum : checksumRight (laidFile f t ix c) 16 ≡ true
   header-checksum =
       let s = laidFile f t ix c in
       let j = front-judged l in
-      let k = front-long l in
+      let k = l .front .least in
       let d = contentAt (directoryStart f ix) in
       let p : typeAt s 16 ≡ 6 = sym (byte-same (j .frame) 20 (omega arith) (omega arith)) ∙ header-typed in
       let q : lengthAt s 16 ≡ length f - 16 = sym (number-same (j .frame) 4 16 (omega arith) (omega arith)) ∙ header-stated in

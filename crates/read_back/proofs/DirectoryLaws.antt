@@ -8,16 +8,16 @@ use native.Mathlib.Omega.{arith}
 use lib.ListN.{length, getD}
 use Rattle.wire.specs.Bytes.{byteAt, numberAt, bytesOf}
 use Rattle.wire.proofs.TestLaws.{yes}
+use Rattle.wire.proofs.PlaceLaws.{Placed, placed-byte, placed-value}
 use Rattle.header.specs.Fields.{gridRows, gridColumns, tileRows, tileColumns, tileDirectoryReference}
 use Rattle.record.specs.Record.{lengthAt, contentAt}
-use Rattle.record.proofs.PlaceLaws.{Placed, placed-byte, placed-inner, placed-value}
 use Rattle.geometry.specs.Tiles.{tilesAlong, tilesAcross, tilesDown, tileCount}
 use Rattle.geometry.specs.Sizes.{leastLength, plainTileLength}
 use Rattle.geometry.proofs.TileLaws.{along-small, count-is}
 use Rattle.check_records.specs.Chain.{recordLimit}
 use Rattle.directory.specs.Lists.{recordsOf}
 use Rattle.directory.specs.References.{padded}
-use Rattle.directory.specs.TileDirectory.{tileDirectoryAt, directoryFormat, standardReferences, firstRow, firstColumn, listedRows, listedColumns, formRight, spanRight, rectangleRight, referenceSize, referenceAt, referencesEnd, tileReference, tilesListed, tilesOnly, tileDirectoryRight}
+use Rattle.directory.specs.TileDirectory.{tileDirectoryAt, directoryFormat, standardReferences, firstRow, firstColumn, listedRows, listedColumns, formRight, spanRight, rectangleRight, referenceCount, referenceSize, referenceAt, referencesEnd, tileReference, tilesListed, tilesOnly, tileDirectoryRight}
 use Rattle.directory.specs.Correspondence.{TileRecord}
 use Rattle.directory.proofs.MemberLaws.{one-of-type}
 use Rattle.directory.proofs.OnlyLaws.{grid-reference}
@@ -25,12 +25,12 @@ use Rattle.directory.proofs.CorrespondLaws.{if-listed, if-only}
 use Rattle.listed_records.specs.Stage.{directoriesRight}
 use Rattle.listed_records.proofs.EmptyLaws.{metadata-empty, space-empty}
 use Rattle.lay_down.specs.Pieces.{recordLength}
-use Rattle.lay_down.specs.Page.{compactFrom, directoryRecord, directoryStart, fileLength, laidFile}
+use Rattle.lay_down.specs.Page.{compactFrom, directoryStart, fileLength, laidFile}
 use Rattle.lay_down.proofs.PieceLaws.{least-holds}
-use Rattle.lay_down.proofs.PlaceLaws.{fields-placed}
+use Rattle.lay_down.proofs.PlaceLaws.{DirectoryPlaced, fields-placed}
 use Rattle.lay_down.proofs.IndexLaws.{Given, compact-given, compact-found, compact-most}
 use Rattle.read_back.proofs.Setting.{Laying, front-range, front-eights, across-kept, down-kept, tiles-kept}
-use Rattle.read_back.proofs.FrontLaws.{length-laid, front-kept, front-referred}
+use Rattle.read_back.proofs.FrontLaws.{length-laid, front-kept, file-refers}
 use Rattle.read_back.proofs.TileLaws.{tile-indexed}
 use Rattle.read_back.proofs.RecordLaws.{index-below, tile-here, directory-placed, directory-stated, directories-of, none-of, tile-among, among-tiles}
 
@@ -57,45 +57,48 @@ module _ {f : List ℕ} {t : ℕ} {ix c : List ℕ} (l : Laying f t ix c) where
 
   -- the directory's fields
 
-  pub directory-at : tileDirectoryAt s ≡ directoryStart f ix
+  directory-at : tileDirectoryAt s ≡ directoryStart f ix
   unfolding tileDirectoryAt
-  directory-at = omega (arith, front-referred l .tiles)
+  directory-at = omega (arith, file-refers l .tiles)
+
+  fields-laid : DirectoryPlaced f ix s (directoryStart f ix)
+  fields-laid = fields-placed f ix (directory-placed l)
 
   form-byte : (i : ℕ) → i < 2 → byteAt s (tileDirectoryAt s + (8 + i)) ≡ byteAt (0 ∷ 0 ∷ []) i
   form-byte i h =
       let e : directoryStart f ix + (8 + i) ≡ directoryStart f ix + 8 + i = omega arith in
-      rw (directory-at, e) (placed-byte (placed-inner (directory-placed l) (fields-placed f ix .form)) i h)
+      rw (directory-at, e) (placed-byte (fields-laid .form) i h)
 
-  field : (i v : ℕ) → Placed (directoryRecord f ix) i (bytesOf 4 v) → v < 4294967296 → numberAt 4 s (tileDirectoryAt s + i) ≡ v
-  field i v p h = rw directory-at (placed-value 4 v (placed-inner (directory-placed l) p) h)
+  field : (i v : ℕ) → Placed s (directoryStart f ix + i) (bytesOf 4 v) → v < 4294967296 → numberAt 4 s (tileDirectoryAt s + i) ≡ v
+  field i v p h = rw directory-at (placed-value 4 v p h)
 
-  pub format-laid : directoryFormat s ≡ 0
+  format-laid : directoryFormat s (tileDirectoryAt s) ≡ 0
   unfolding byteAt
   format-laid = form-byte 0 (omega arith)
 
-  pub standard-laid : standardReferences s ≡ 0
+  standard-laid : standardReferences s (tileDirectoryAt s) ≡ 0
   unfolding byteAt
   standard-laid = form-byte 1 (omega arith)
 
-  pub row-laid : firstRow s ≡ 0
-  row-laid = field 16 0 (fields-placed f ix .row) (omega arith)
+  row-laid : firstRow s (tileDirectoryAt s) ≡ 0
+  row-laid = field 16 0 (fields-laid .row) (omega arith)
 
-  pub column-laid : firstColumn s ≡ 0
-  column-laid = field 20 0 (fields-placed f ix .column) (omega arith)
+  column-laid : firstColumn s (tileDirectoryAt s) ≡ 0
+  column-laid = field 20 0 (fields-laid .column) (omega arith)
 
-  pub rows-laid : listedRows s ≡ tilesDown f
-  rows-laid = field 24 (tilesDown f) (fields-placed f ix .rows) (omega (arith, down-small))
+  rows-laid : listedRows s (tileDirectoryAt s) ≡ tilesDown f
+  rows-laid = field 24 (tilesDown f) (fields-laid .rows) (omega (arith, down-small))
 
-  pub columns-laid : listedColumns s ≡ tilesAcross f
-  columns-laid = field 28 (tilesAcross f) (fields-placed f ix .columns) (omega (arith, across-small))
+  columns-laid : listedColumns s (tileDirectoryAt s) ≡ tilesAcross f
+  columns-laid = field 28 (tilesAcross f) (fields-laid .columns) (omega (arith, across-small))
 
   -- the references
 
-  pub reference-laid : (j : ℕ) → j < tileCount f → referenceAt s j ≡ compactFrom f (length f) ix j * 8
+  reference-laid : (j : ℕ) → j < tileCount f → referenceAt s (tileDirectoryAt s) j ≡ compactFrom f (length f) ix j * 8
   unfolding referenceAt
   reference-laid j h =
       let e : tileDirectoryAt s + 32 + 4 * j ≡ tileDirectoryAt s + (32 + 4 * j) = omega arith in
-      let n = field (32 + 4 * j) (compactFrom f (length f) ix j) (fields-placed f ix .reference j h) (compact-small j) in
+      let n = field (32 + 4 * j) (compactFrom f (length f) ix j) (fields-laid .reference j h) (compact-small j) in
       rw (standard-laid, e, n)
 
   pub tile-reference : (i : ℕ) → i < tileCount f → tileReference s i ≡ compactFrom f (length f) ix i * 8
@@ -132,7 +135,7 @@ module _ {f : List ℕ} {t : ℕ} {ix c : List ℕ} (l : Laying f t ix c) where
   directory-padded : padded s (tileDirectoryAt s) (referencesEnd s) ≡ true
   unfolding padded recordLimit referencesEnd referenceSize fileLength recordLength
   directory-padded =
-      let n : listedRows s * listedColumns s ≡ tileCount f = rw (rows-laid, columns-laid) (count-is f _ _ refl refl) in
+      let n : referenceCount s ≡ tileCount f = rw (rows-laid, columns-laid) (count-is f _ _ refl refl) in
       let a = directory-at in
       let b : lengthAt s (tileDirectoryAt s) ≡ leastLength (8 + (24 + 4 * tileCount f)) = rw directory-at (directory-stated l) in
       let h = least-holds (8 + (24 + 4 * tileCount f)) in
@@ -144,10 +147,10 @@ module _ {f : List ℕ} {t : ℕ} {ix c : List ℕ} (l : Laying f t ix c) where
 
   tiles-only : tilesOnly s ≡ true
   tiles-only =
-      if-only s (λ i h z. ⊎-elim (λ e. absurd (z e)) (there i) (reference-found i (omega (arith, tiles-kept (front-kept l)))))
+      if-only s (λ i h z. ⊎-elim (λ e. absurd (z e)) (record-there i) (reference-found i (omega (arith, tiles-kept (front-kept l)))))
     where
-      there : (i : ℕ) → Given ix i → TileRecord s i
-      there i g =
+      record-there : (i : ℕ) → Given ix i → TileRecord s i
+      record-there i g =
           record {
             start = length f + g .number * plainTileLength f;
             among = tile-among l (g .number) (g .among);
@@ -158,7 +161,7 @@ module _ {f : List ℕ} {t : ℕ} {ix c : List ℕ} (l : Laying f t ix c) where
   tile-directory-right : tileDirectoryRight s ≡ true
   unfolding tileDirectoryRight
   tile-directory-right =
-      let o = one-of-type s 5 (tileDirectoryReference s) (directoryStart f ix) (directories-of l) (front-referred l .tiles) in
+      let o = one-of-type s 5 (tileDirectoryReference s) (directoryStart f ix) (directories-of l) (file-refers l .tiles) in
       sym (yes _ (o .0, (o .1, (form-right, (rectangle-right, (directory-padded, (tiles-listed, (tiles-only, tt))))))))
 
   -- stage 9
@@ -170,7 +173,7 @@ module _ {f : List ℕ} {t : ℕ} {ix c : List ℕ} (l : Laying f t ix c) where
       (yes _ (
         tile-directory-right,
         (
-          metadata-empty s (front-referred l .metadata) (none 4 (λ e. omega arith) (λ e. omega arith)) (none 1 (λ e. omega arith) (λ e. omega arith)),
-          (space-empty s (front-referred l .space) (none 3 (λ e. omega arith) (λ e. omega arith)) (none 0 (λ e. omega arith) (λ e. omega arith)), tt),
+          metadata-empty s (file-refers l .metadata) (none 4 (λ e. omega arith) (λ e. omega arith)) (none 1 (λ e. omega arith) (λ e. omega arith)),
+          (space-empty s (file-refers l .space) (none 3 (λ e. omega arith) (λ e. omega arith)) (none 0 (λ e. omega arith) (λ e. omega arith)), tt),
         ),
       ))

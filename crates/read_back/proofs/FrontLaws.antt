@@ -16,13 +16,14 @@ use Rattle.check_header.proofs.Judged as judged
 use Rattle.check_header.proofs.Judged.{SameJudged, end-same, identified-to, version-same, header-to, ceilings-to}
 use Rattle.page_check.proofs.AcceptedLaws.{Headed}
 use Rattle.lay_down.specs.Page.{directoryStart, fileLength, laidFront, laidFile}
-use Rattle.lay_down.proofs.PageLaws.{front-length, laid-length, laid-joined}
+use Rattle.lay_down.proofs.PageLaws.{front-length, laid-length}
+use Rattle.lay_down.proofs.ChainLaws.{laid-joined}
 use Rattle.lay_down.proofs.FieldLaws.{Refers, refers-same, front-same, front-refers}
-use Rattle.read_back.proofs.Setting.{Laying, all-read, front-range, front-long, Kept, Referred}
+use Rattle.read_back.proofs.Setting.{Laying, Kept}
 
 module _ {f : List ℕ} {t : ℕ} {ix c : List ℕ} (l : Laying f t ix c) where
   pub length-laid : length (laidFile f t ix c) ≡ fileLength f ix
-  length-laid = laid-length f t ix c (all-read (front-range l)) (l .cells)
+  length-laid = laid-length f t ix c (l .front .all) (l .cells)
 
   -- the front stands whole at the file's start
   begins : (a b : ℕ) → b ≤ length f → Same (laidFront f t (contentAt (directoryStart f ix))) (laidFile f t ix c) a b
@@ -31,14 +32,14 @@ module _ {f : List ℕ} {t : ℕ} {ix c : List ℕ} (l : Laying f t ix c) where
 
   untouched : (a b : ℕ) → b ≤ length f - 4 → (b ≤ 40) ⊎ (88 ≤ a) → Same f (laidFile f t ix c) a b
   untouched a b h o =
-      let k = front-long l in
+      let k = l .front .least in
       same-trans (front-same f t (contentAt (directoryStart f ix)) (omega arith) a b h o) (begins a b (omega arith))
 
   -- what stages 1 to 4 judge is as it was
   pub front-judged : SameJudged f (laidFile f t ix c)
   front-judged =
-      let k = front-long l in
-      let e = l .no-more in
+      let k = l .front .least in
+      let e = l .rules .no-more in
       let n : length f ≤ length (laidFile f t ix c) = begins 0 (length f) (omega arith) .in-second in
       record {
         block = untouched 0 14 (omega arith) (inl (omega arith));
@@ -54,28 +55,25 @@ module _ {f : List ℕ} {t : ℕ} {ix c : List ℕ} (l : Laying f t ix c) where
   front-kept =
       let s = laidFile f t ix c in
       let j = front-judged in
-      let g = judged.header-fit f s j (length f) (l .header) in
+      let g = judged.header-fit f s j (length f) (l .rules .header) in
       record {
-        ends = sym (end-same (j .frame)) ∙ l .no-more;
+        ends = sym (end-same (j .frame)) ∙ l .rules .no-more;
         rows = sym (judged.rows f s j);
         columns = sym (judged.columns f s j);
         tile-rows = sym (judged.tile-rows f s j);
         tile-columns = sym (judged.tile-columns f s j);
         flag = sym (judged.option f s j 128 (omega arith) (omega arith));
         count = sym (g .count);
-        elements = λ e h. sym (element-same f s (judged.sameRest f s j) e (entriesRead f) (omega (arith, all-read (front-range l))) (g .last));
+        elements = λ e h. sym (element-same f s (judged.sameRest f s j) e (entriesRead f) (omega (arith, l .front .all)) (g .last));
       }
 
   -- the fields that are set
-  refers : Refers (laidFile f t ix c) (contentAt (directoryStart f ix))
+  pub file-refers : Refers (laidFile f t ix c) (contentAt (directoryStart f ix))
   unfolding fileLength
-  refers =
-      let k = front-long l in
+  file-refers =
+      let k = l .front .least in
       let h = l .file in
       refers-same (begins 48 88 (omega arith)) (front-refers f t (contentAt (directoryStart f ix)) (omega arith) (omega arith))
-
-  pub front-referred : Referred f ix (laidFile f t ix c)
-  front-referred = record { tiles = refers .tiles; metadata = refers .metadata; space = refers .space }
 
   -- stages 1 to 5 pass
   pub front-headed : Headed (laidFile f t ix c)
@@ -83,12 +81,12 @@ module _ {f : List ℕ} {t : ℕ} {ix c : List ℕ} (l : Laying f t ix c) where
   front-headed =
       let s = laidFile f t ix c in
       let j = front-judged in
-      let e = l .no-more in
+      let e = l .rules .no-more in
       let n = j .in-second in
       record {
-        block = identified-to (j .block) (length f) (length s) (l .block) (omega arith);
-        version = sym (version-same (j .block)) ∙ l .version;
-        header = header-to f s j (length f) (length s) (l .header) n;
-        ceilings = ceilings-to f s j (length f) (length s) (l .header) (l .ceilings) (omega (arith, length-laid, l .file));
-        not-opened = sym (yes _ (refers .opened, tt));
+        block = identified-to (j .block) (length f) (length s) (l .rules .block) (omega arith);
+        version = sym (version-same (j .block)) ∙ l .rules .version;
+        header = header-to f s j (length f) (length s) (l .rules .header) n;
+        ceilings = ceilings-to f s j (length f) (length s) (l .rules .header) (l .rules .ceilings) (omega (arith, length-laid, l .file));
+        not-opened = sym (yes _ (file-refers .opened, tt));
       }

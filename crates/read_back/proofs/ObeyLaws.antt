@@ -18,7 +18,7 @@ use Rattle.page_check.specs.Stages.{check}
 use Rattle.page_check.specs.Accepted.{ObeysBy}
 use Rattle.page_check.proofs.AcceptedLaws.{obeys-accepted}
 use Rattle.lay_down.specs.Page.{tileRecord, directoryBody, directoryRecord, directoryStart, laidFile}
-use Rattle.lay_down.proofs.PageLaws.{laidRecords}
+use Rattle.lay_down.proofs.ChainLaws.{laidRecords}
 use Rattle.lay_down.proofs.SealLaws.{sections-bytes, directory-bytes}
 use Rattle.read_back.proofs.Setting.{Laying}
 use Rattle.read_back.proofs.FrontLaws.{front-kept, front-headed}

@@ -11,7 +11,7 @@ use borrow.Author.Tests.{ne-eqb}
 use Rattle.wire.specs.Tests.{sumBelow}
 use Rattle.wire.specs.Bytes.{part, numberAt}
 use Rattle.wire.proofs.TestLaws.{yes}
-use Rattle.record.proofs.PlaceLaws.{placed-part, part-placed}
+use Rattle.wire.proofs.PlaceLaws.{part-placed, placed-part}
 use Rattle.answer.specs.declared.Cell.the-variants as cell
 use Rattle.answer.specs.declared.Content.the-variants.{Present}
 use Rattle.answer.specs.Values.{valueOf}
@@ -20,7 +20,7 @@ use Rattle.header.specs.Element.{cellSize, element}
 use Rattle.geometry.specs.Tiles.{cellTile}
 use Rattle.geometry.specs.Sizes.{elementBytes, tileBytes, plainTileLength}
 use Rattle.check_records.specs.TileBody.{elementContentAt}
-use Rattle.directory.specs.TileDirectory.{tileReference}
+use Rattle.directory.specs.TileDirectory.{tileDirectoryAt, tileReference}
 use Rattle.directory.specs.Correspondence.{OneToOne}
 use Rattle.page_check.proofs.GivenLaws.{obeys-range, obeys-one}
 use Rattle.cells.specs.Asked.{inGrid, inTiles}
@@ -34,10 +34,11 @@ use Rattle.cells.proofs.RouteLaws.{tile-less, directory-means, content-means}
 use Rattle.cells.proofs.ReadLaws.{demand-3}
 use Rattle.lay_down.specs.Page.{laidFile}
 use Rattle.lay_down.specs.Answer.{laidOut}
+use Rattle.lay_down.proofs.PageLaws.{element-within}
 use Rattle.read_back.specs.ReadBack.{contentGiven, contentLaid, cellGiven, cellLaid, ListedAs, ReadBack}
 use Rattle.read_back.proofs.Setting.{Laying, laying-of, front-range, tiles-kept, tile-kept, size-kept, grid-kept, offset-kept, fill-kept}
 use Rattle.read_back.proofs.FrontLaws.{length-laid, front-kept}
-use Rattle.read_back.proofs.TileLaws.{element-within, tile-section, tile-whole, tile-bytes}
+use Rattle.read_back.proofs.TileLaws.{tile-section, tile-whole, tile-bytes}
 use Rattle.read_back.proofs.RecordLaws.{index-below, cells-inside, tile-here}
 use Rattle.read_back.proofs.DirectoryLaws.{given-reference, reference-found}
 use Rattle.read_back.proofs.ObeyLaws.{laid-obeys, laid-accepted}
@@ -64,7 +65,7 @@ module _ {f : List ℕ} {t : ℕ} {ix c : List ℕ} (l : Laying f t ix c) where
     unfolding contentGiven
     bytes-given o n m =
         let b = sumBelow e (elementBytes f) in
-        let w : b + o + n ≤ tileBytes f = omega (arith, element-within (front-range l) e g) in
+        let w : b + o + n ≤ tileBytes f = omega (arith, element-within f (l .front .all) e g) in
         let q : k * tileBytes f + b + o ≡ k * tileBytes f + (b + o) = omega arith in
         rw (← content-place, q)
         (tile-bytes (tile-here l k h) e g o n m
@@ -90,7 +91,7 @@ module _ {f : List ℕ} {t : ℕ} {ix c : List ℕ} (l : Laying f t ix c) where
     asked : (row < gridRows f) × ((column < gridColumns f) × (e < elementCount f))
     asked = grid-means f row column e i
 
-    referred : meaning s row column e ≡ referredCell s row column e
+    referred : meaning s row column e ≡ referredCell s (tileDirectoryAt s) row column e
     unfolding directoryCell
     referred =
         let r = obeys-range s _ (laid-obeys l) in
@@ -110,7 +111,7 @@ module _ {f : List ℕ} {t : ℕ} {ix c : List ℕ} (l : Laying f t ix c) where
     module _ (k : ℕ) (q : ListedAs f ix k row column) where
       cell-given : cellGiven f k row column e + bytesOfCell f e ≤ length c
       unfolding cellGiven contentGiven
-      cell-given = omega (arith, cells-inside l k (q .among), element-within (front-range l) e (asked .1 .1), cell-inside)
+      cell-given = omega (arith, cells-inside l k (q .among), element-within f (l .front .all) e (asked .1 .1), cell-inside)
 
       cell-bytes : part s (cellLaid f k row column e) (bytesOfCell f e) ≡ part c (cellGiven f k row column e) (bytesOfCell f e)
       unfolding cellLaid cellGiven

@@ -10,26 +10,28 @@ use lib.Dec.{eqb}
 use borrow.Author.Tests.{eq-eqb}
 use Rattle.wire.specs.Bytes.{part, largestInteger}
 use Rattle.wire.proofs.ByteLaws.{part-length}
+use Rattle.wire.proofs.ItemLaws.{item-within}
+use Rattle.wire.proofs.PlaceLaws.{Placed, placed-last, placed-before, placed-inner}
 use Rattle.header.specs.Fields.{checksumEnabled}
 use Rattle.record.specs.Record.{lengthAt, typeAt, contentAt}
 use Rattle.record.specs.Chain.{Whole, joined, startsOf}
 use Rattle.record.proofs.ChainLaws.{whole-starts, starts-append}
-use Rattle.record.proofs.PlaceLaws.{Placed, placed-last, placed-before, placed-inner}
 use Rattle.geometry.specs.Tiles.{tileCount}
 use Rattle.geometry.specs.Sizes.{tileBytes, plainTileLength}
 use Rattle.check_records.specs.Chain.{records}
 use Rattle.directory.specs.Lists.{select, recordsOf}
 use Rattle.directory.proofs.MemberLaws.{select-append, select-all, select-none, no-type}
-use Rattle.cells.proofs.ApartLaws.{item-within}
 use Rattle.lay_down.specs.Pieces.{recordLength}
 use Rattle.lay_down.specs.Page.{tileRecord, tileRecords, directoryBody, directoryRecord, directoryStart, fileLength, laidFront, laidFile}
 use Rattle.lay_down.proofs.PieceLaws.{placed-kind, placed-stated}
-use Rattle.lay_down.proofs.PageLaws.{tiles-length, directory-length, front-length, lead-length, laidRecords, laid-whole}
+use Rattle.lay_down.proofs.PageLaws.{tiles-length, directory-length, front-length, lead-length}
 use Rattle.lay_down.proofs.PlaceLaws.{TileStart, tiles-placed, start-tile, tile-start}
-use Rattle.lay_down.proofs.InputLaws.{ascending-each}
-use Rattle.read_back.proofs.Setting.{Laying, all-read, front-range}
+use Rattle.lay_down.proofs.ChainLaws.{laidRecords, laid-whole}
+use Rattle.lay_down.proofs.FrontLaws.{plain-small}
+use Rattle.lay_down.proofs.AscendLaws.{ascending-each}
+use Rattle.read_back.proofs.Setting.{Laying, front-range}
 use Rattle.read_back.proofs.FrontLaws.{front-kept}
-use Rattle.read_back.proofs.TileLaws.{plain-fits, TileHere, tile-typed}
+use Rattle.read_back.proofs.TileLaws.{TileHere, tile-typed}
 
 module _ {f : List ℕ} {t : ℕ} {ix c : List ℕ} (l : Laying f t ix c) where
   pub index-below : (k : ℕ) → k < length ix → getD ix k 0 < tileCount f
@@ -49,14 +51,14 @@ module _ {f : List ℕ} {t : ℕ} {ix c : List ℕ} (l : Laying f t ix c) where
   tile-placed k h =
       let d = contentAt (directoryStart f ix) in
       placed-before
-      (placed-inner (placed-last (laidFront f t d) (joined (tileRecords f ix c)) (front-length f t d)) (tiles-placed f (all-read (front-range l)) ix c (l .cells) k h))
+      (placed-inner (placed-last (laidFront f t d) (joined (tileRecords f ix c)) (front-length f t d)) (tiles-placed f (l .front .all) ix c (l .cells) k h))
       (directoryRecord f ix)
 
   pub tile-here :
       (k : ℕ) → k < length ix →
       TileHere f (laidFile f t ix c) (part c (k * tileBytes f) (tileBytes f)) (getD ix k 0) (length f + k * plainTileLength f)
   tile-here k h =
-      record { kept = front-kept l; range = front-range l; below = index-below k h; long = part-length c _ _ (cells-inside k h); here = tile-placed k h }
+      record { kept = front-kept l; range = front-range l; front = l .front; below = index-below k h; long = part-length c _ _ (cells-inside k h); here = tile-placed k h }
 
   -- the directory is the last of them
 
@@ -64,7 +66,7 @@ module _ {f : List ℕ} {t : ℕ} {ix c : List ℕ} (l : Laying f t ix c) where
   unfolding laidFile
   directory-placed =
       placed-last (laidFront f t (contentAt (directoryStart f ix)) ++ joined (tileRecords f ix c)) (directoryRecord f ix)
-      (lead-length f t ix c (all-read (front-range l)) (l .cells))
+      (lead-length f t ix c (l .front .all) (l .cells))
 
   pub directory-short : length (directoryRecord f ix) ≤ largestInteger
   unfolding fileLength
@@ -82,23 +84,23 @@ module _ {f : List ℕ} {t : ℕ} {ix c : List ℕ} (l : Laying f t ix c) where
 
   pub chain-laid : Whole (laidFile f t ix c) (length f) (startsOf (length f) (laidRecords f ix c))
   chain-laid =
-      laid-whole f t ix c (all-read (front-range l)) (plain-fits (front-range l)) (omega (arith, directory-short, directory-length f ix)) (l .cells)
+      laid-whole f t ix c (l .front .all) (omega (arith, plain-small f (l .front))) (omega (arith, directory-short, directory-length f ix)) (l .cells)
 
   starts-laid : startsOf (length f) (laidRecords f ix c) ≡ startsOf (length f) (tileRecords f ix c) ++ (directoryStart f ix ∷ [])
   unfolding directoryStart
   starts-laid =
-      let e : length f + length (joined (tileRecords f ix c)) ≡ length f + length ix * plainTileLength f = rw (tiles-length f ix c (all-read (front-range l)) (l .cells)) in
+      let e : length f + length (joined (tileRecords f ix c)) ≡ length f + length ix * plainTileLength f = rw (tiles-length f ix c (l .front .all) (l .cells)) in
       starts-append (length f) (tileRecords f ix c) (directoryRecord f ix ∷ []) ∙ rw e
 
   tile-of : {x : ℕ} → List·Memᴰ x (startsOf (length f) (tileRecords f ix c)) → TileStart f ix (length f) x
-  tile-of m = start-tile f (all-read (front-range l)) ix c (l .cells) (length f) m
+  tile-of m = start-tile f (l .front .all) ix c (l .cells) (length f) m
 
   pub start-of : {x : ℕ} → List·Memᴰ x (startsOf (length f) (laidRecords f ix c)) → TileStart f ix (length f) x ⊎ (x ≡ directoryStart f ix)
   start-of m =
       ⊎-elim (λ a. inl (tile-of a)) (λ b. inr (List·Memᴰ·eq-of-singleton b))
       (List·Memᴰ·append-cases (startsOf (length f) (tileRecords f ix c)) (rw starts-laid at m))
 
-  pub records-laid : records (laidFile f t ix c) ≡ startsOf (length f) (laidRecords f ix c)
+  records-laid : records (laidFile f t ix c) ≡ startsOf (length f) (laidRecords f ix c)
   unfolding records
   records-laid = rw (front-kept l .ends) (whole-starts _ _ _ chain-laid)
 
@@ -131,7 +133,7 @@ module _ {f : List ℕ} {t : ℕ} {ix c : List ℕ} (l : Laying f t ix c) where
       (start-of (rw records-laid at m)))
 
   pub tile-among : (j : ℕ) → j < length ix → List·Memᴰ (length f + j * plainTileLength f) (recordsOf (laidFile f t ix c) 2)
-  tile-among j h = rw tiles-of (tile-start f (all-read (front-range l)) ix c (l .cells) (length f) j h)
+  tile-among j h = rw tiles-of (tile-start f (l .front .all) ix c (l .cells) (length f) j h)
 
   pub among-tiles : {x : ℕ} → List·Memᴰ x (recordsOf (laidFile f t ix c) 2) → TileStart f ix (length f) x
   among-tiles m = tile-of (rw tiles-of at m)

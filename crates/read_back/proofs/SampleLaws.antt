@@ -17,7 +17,7 @@ use Rattle.check_records.specs.TileBody.{elementContentAt, indexRight, sectionA
 use Rattle.crc32c.specs.Crc.{crcBit, crcByte, crcOf, crcOver, crcPart}
 use Rattle.directory.specs.Lists.{countBelow, every, oneIf, recordsOf, select, some}
 use Rattle.directory.specs.References.{entryCount, noOther, padded, refersOrZero, refersTo}
-use Rattle.directory.specs.TileDirectory.{formRight, givesTile, inRectangle, inSpan, numberOf, rectangleRight, referenceAt, referenceOf, referenceSize, referencesEnd, spanRight, tileDirectoryAt, tileDirectoryRight, tileReference, tilesListed, tilesOnly}
+use Rattle.directory.specs.TileDirectory.{formRight, givesTile, inRectangle, inSpan, numberOf, rectangleRight, referenceAt, referenceFrom, referenceOf, referenceSize, referencesEnd, spanRight, tileDirectoryAt, tileDirectoryRight, tilesListed, tilesOnly}
 use Rattle.geometry.specs.Sizes.{cellOffset, elementBytes, judge, judgeElement, leastLength, plainTileLength, storedSize, tileBytes, tileLength, uncompressed}
 use Rattle.geometry.specs.Tiles.{cellInside, cellTile, insideOf, tileCount, tileIn, tileOf, tilesAcross, tilesAlong, tilesDown, tilesIn}
 use Rattle.header.specs.Element.{blockAt, blockSize, cellSize, descriptionAt, element, elementName, entriesRead, entryAt, entryEnd, entryStart, fillBits, fillOffset, labelAt, stringEnd, stringSize, unitAt}
@@ -40,5 +40,5 @@ use Rattle.wire.specs.Tests.{allBelow, passes, sumBelow}
 use Rattle.read_back.specs.Sample.{SampleLaid}
 
 pub sample-laid : SampleLaid
-unfolding advance after allBelow ascending blockAt blockSize bodyFault bodyRight byteAt bytesOf carries cellIn cellInside cellOffset cellSize cellTile chainFault check checkDirectories checkFromRecords checkFront checkHeader checkRecords checksumAt checksumFault checksumFor checksumOf checksumRight closed compactFrom contentLengthAt countBelow crcBit crcByte crcOf crcOver crcPart dataType descriptionAt directoriesRight directoryBody directoryForm directoryRecord directoryStart element elementBytes elementContentAt elementName elementRight elementsRight endRight entriesRead entryAt entryCount entryEnd entryStart every fieldsEnd fieldsSet fileLength fileSpaceAt fileSpaceRight fillBits fillOf fillOffset find firstTwo fitsIn formRight frameRight freeCount freeEntryAt freeEntryIs freeEntryOf freeFits freeListed freeOnly frontRight gate givesTile headerEnd headerLimit headerRight identified identifier inGrid inRectangle inSpan indexRight inputRight insideOf judge judgeElement judged judgedInput keysDistinct labelAt laid laidFile laidFront leastLength lengthAllowed lengthRight lengthUnless letter listedOnce mark meaning metadataAt metadataCount metadataDirectoryRight metadataEnd metadataEntryAt metadataEntryEnd metadataEntryIs metadataEntryOf metadataEntrySize metadataFits metadataLength metadataListed metadataName metadataOnly metadataRight methodCount methodsAt nameByte nameBytes namesDiffer nextTwo noOther nothingElse number numberAt numberOf offsetIn oneIf optionsRight packed padded part passes placeIn plainTileLength positive productLabelAt put recordHead recordId recordIdAt recordLength recordLimit recordOf recordOk records recordsOf recordsWith rectangleRight referenceAt referenceOf referenceSize references referencesEnd refersOrZero refersTo rightOf sameBytes sameKey sealed section sectionAt sectionEnd sectionJudged sectionLength sectionRight sections select sidesRight sidesWithin some spanRight stages starts startsGo storedAt storedSize stringEnd stringSize sumBelow summedBytes tailRight tileBytes tileCount tileDirectoryAt tileDirectoryRight tileEnd tileIn tileIndex tileLength tileOf tileRecord tileRecords tileReference tileRight tilesAcross tilesAlong tilesDown tilesIn tilesListed tilesOnly unclosed uncompressed unitAt unless valueOf versionRight within withinCeilings wrongOf zeros
+unfolding advance after allBelow ascending blockAt blockSize bodyFault bodyRight byteAt bytesOf carries cellIn cellInside cellOffset cellSize cellTile chainFault check checkDirectories checkFromRecords checkFront checkHeader checkRecords checksumAt checksumFault checksumFor checksumOf checksumRight closed compactFrom contentLengthAt countBelow crcBit crcByte crcOf crcOver crcPart dataType descriptionAt directoriesRight directoryBody directoryForm directoryRecord directoryStart element elementBytes elementContentAt elementName elementRight elementsRight endRight entriesRead entryAt entryCount entryEnd entryStart every fieldsEnd fieldsSet fileLength fileSpaceAt fileSpaceRight fillBits fillOf fillOffset find firstTwo fitsIn formRight frameRight freeCount freeEntryAt freeEntryIs freeEntryOf freeFits freeListed freeOnly frontRight gate givesTile headerEnd headerLimit headerRight identified identifier inGrid inRectangle inSpan indexRight inputRight insideOf judge judgeElement judged judgedInput keysDistinct labelAt laid laidFile laidFront leastLength lengthAllowed lengthRight lengthUnless letter listedOnce mark meaning metadataAt metadataCount metadataDirectoryRight metadataEnd metadataEntryAt metadataEntryEnd metadataEntryIs metadataEntryOf metadataEntrySize metadataFits metadataLength metadataListed metadataName metadataOnly metadataRight methodCount methodsAt nameByte nameBytes namesDiffer nextTwo noOther nothingElse number numberAt numberOf offsetIn oneIf optionsRight packed padded part passes placeIn plainTileLength positive productLabelAt put recordHead recordId recordIdAt recordLength recordLimit recordOf recordOk records recordsOf recordsWith rectangleRight referenceAt referenceFrom referenceOf referenceSize references referencesEnd refersOrZero refersTo rightOf sameBytes sameKey sealed section sectionAt sectionEnd sectionJudged sectionLength sectionRight sections select sidesRight sidesWithin some spanRight stages starts startsGo storedAt storedSize stringEnd stringSize sumBelow summedBytes tailRight tileBytes tileCount tileDirectoryAt tileDirectoryRight tileEnd tileIn tileIndex tileLength tileOf tileRecord tileRecords tileRight tilesAcross tilesAlong tilesDown tilesIn tilesListed tilesOnly unclosed uncompressed unitAt unless valueOf versionRight within withinCeilings wrongOf zeros
 sample-laid = record { answer = refl; bytes = refl; accepted = refl; stored = refl; fill = refl }

@@ -9,16 +9,16 @@ use native.Mathlib.Nat.{mul-le-mul}
 use lib.ListN.{length}
 use Rattle.wire.specs.Tests.{sumBelow}
 use Rattle.wire.specs.Bytes.{bytesOf, part, u32At, largestInteger}
-use Rattle.wire.proofs.TestLaws.{no, yes, below-all, sum-within, sum-each}
+use Rattle.wire.proofs.TestLaws.{no, yes, below-all, sum-within}
 use Rattle.wire.proofs.ByteLaws.{bytes-length, part-length}
 use Rattle.wire.proofs.ItemLaws.{advance-none}
+use Rattle.wire.proofs.PlaceLaws.{Placed, placed-inner, placed-at, placed-first, placed-next, part-placed, placed-inside, placed-part, placed-value}
 use Rattle.header.specs.Fields.{tileRows, tileColumns, checksumEnabled, elementCount}
 use Rattle.header.specs.Element.{cellSize, element}
 use Rattle.record.specs.Record.{lengthAt, typeAt}
-use Rattle.record.proofs.PlaceLaws.{Placed, placed-inner, placed-first, placed-next, placed-inside, placed-part, placed-value, part-placed}
 use Rattle.geometry.specs.Tiles.{tileCount}
-use Rattle.geometry.specs.Sizes.{uncompressed, storedSize, leastLength, tileLength, elementBytes, judgeElement, tileBytes, plainTileLength}
-use Rattle.geometry.proofs.SizeLaws.{size-range, judge-whole, plain-most}
+use Rattle.geometry.specs.Sizes.{uncompressed, storedSize, leastLength, elementBytes, judgeElement, tileBytes, plainTileLength}
+use Rattle.geometry.proofs.SizeLaws.{size-range, judge-whole}
 use Rattle.check_records.specs.Chain.{recordLimit, endRight}
 use Rattle.check_records.specs.TileBody.{tileIndex, sectionEnd, sectionAt, sectionLength, elementContentAt, sectionRight, tileEnd, indexRight, tileRight}
 use Rattle.check_records.specs.Faults.{bodyRight}
@@ -28,46 +28,28 @@ use Rattle.cells.specs.TileCells.{packed}
 use Rattle.cells.proofs.ApartLaws.{section-next}
 use Rattle.lay_down.specs.Pieces.{section}
 use Rattle.lay_down.specs.Page.{sections, tileRecord}
-use Rattle.lay_down.proofs.PieceLaws.{least-holds, record-body, placed-kind, placed-stated, section-states, bytes-there}
-use Rattle.lay_down.proofs.PageLaws.{section-there, tile-length}
-use Rattle.read_back.proofs.Setting.{all-read, Kept, tiles-kept, size-kept}
-
--- the stored sizes of the elements before e
-abbrev pub storedBefore : List ℕ → ℕ → ℕ
-storedBefore f e = sumBelow e (λ d. storedSize (elementBytes f d))
+use Rattle.lay_down.proofs.PieceLaws.{record-body, placed-kind, placed-stated, section-states, bytes-there}
+use Rattle.lay_down.proofs.PageLaws.{storedBefore, tile-sum, element-within, plain-is, plain-holds, tile-length}
+use Rattle.lay_down.proofs.PlaceLaws.{section-there}
+use Rattle.lay_down.proofs.FrontLaws.{Front, plain-small}
+use Rattle.read_back.proofs.Setting.{Kept, tiles-kept, size-kept}
 
 -- the bytes of element e among a tile's cell bytes
 abbrev bytesGiven : List ℕ → List ℕ → ℕ → List ℕ
 bytesGiven f cs e = part cs (sumBelow e (elementBytes f)) (elementBytes f e)
 
--- the sizes of a front in range
-module _ {f : List ℕ} (r : InRange f) where
-  tile-sum : sumBelow (elementCount f) (elementBytes f) ≡ tileBytes f
-  unfolding tileBytes
-  tile-sum = ap (λ (n : ℕ). sumBelow n (elementBytes f)) (sym (all-read r))
-
-  plain-is : plainTileLength f ≡ leastLength (12 + storedBefore f (elementCount f))
-  unfolding plainTileLength tileLength
-  plain-is = ap (λ (n : ℕ). leastLength (12 + storedBefore f n)) (all-read r)
-
-  pub plain-fits : plainTileLength f ≤ largestInteger
-  plain-fits = omega (arith, plain-most f, all-read r, r .tile-size, r .elements .1)
-
-  -- an element's bytes are among the tile's
-  pub element-within : (e : ℕ) → e < elementCount f → sumBelow e (elementBytes f) + elementBytes f e ≤ tileBytes f
-  element-within e h = omega (arith, sum-each (elementCount f) (elementBytes f) e h, tile-sum)
-
-  element-some : (e : ℕ) → 1 ≤ elementBytes f e
-  unfolding elementBytes uncompressed
-  element-some e =
-      let a : 1 * 1 ≤ tileRows f * tileColumns f = mul-le-mul (r .tile-rows .0) (r .tile-columns .0) in
-      let b : 1 ≤ cellSize (element f e .kind) = omega (arith, size-range (element f e .kind)) in
-      mul-le-mul a b
+element-some : {f : List ℕ} → InRange f → (e : ℕ) → 1 ≤ elementBytes f e
+unfolding elementBytes uncompressed
+element-some {f} r e =
+    let a : 1 * 1 ≤ tileRows f * tileColumns f = mul-le-mul (r .tile-rows .0) (r .tile-columns .0) in
+    let b : 1 ≤ cellSize (element f e .kind) = omega (arith, size-range (element f e .kind)) in
+    mul-le-mul a b
 
 -- the record of tile i with the cell bytes cs stands in s, which has the front's fields, from x on
 pub record TileHere (f s cs : List ℕ) (i x : ℕ) : Type 0 where
   pub kept : Kept f s
   pub range : InRange f
+  pub front : Front f
   pub below : i < tileCount f
   pub long : length cs ≡ tileBytes f
   pub here : Placed s x (tileRecord f i cs)
@@ -78,12 +60,12 @@ module _ {f s cs : List ℕ} {i x : ℕ} (p : TileHere f s cs i x) where
   tile-typed = placed-kind _ 2 _ (p .here)
 
   tile-size : length (tileRecord f i cs) ≡ plainTileLength f
-  tile-size = tile-length f i cs (all-read (p .range)) (p .long)
+  tile-size = tile-length f (p .front .all) i cs (p .long)
 
   pub tile-short : length (tileRecord f i cs) ≤ largestInteger
-  tile-short = omega (arith, tile-size, plain-fits (p .range))
+  tile-short = omega (arith, tile-size, plain-small f (p .front))
 
-  pub tile-long : lengthAt s x ≡ plainTileLength f
+  tile-long : lengthAt s x ≡ plainTileLength f
   unfolding tileRecord
   tile-long = placed-stated _ 2 _ (p .here) tile-short ∙ tile-size
 
@@ -97,28 +79,27 @@ module _ {f s cs : List ℕ} {i x : ℕ} (p : TileHere f s cs i x) where
 
   pub tile-indexed : tileIndex s x ≡ i
   unfolding tileIndex
-  tile-indexed = placed-value 4 i (placed-first (bytesOf 4 i) (sections f (elementCount f) cs) indexed) (omega (arith, p .below, p .range .tiles))
+  tile-indexed = placed-value 4 i (placed-first (bytesOf 4 i) (sections f (elementCount f) cs) indexed) (omega (arith, p .below, p .front .tiles))
 
   -- the section of element e
   section-here : (e : ℕ) → e < elementCount f → Placed s (x + 12 + storedBefore f e) (section (bytesGiven f cs e))
   section-here e h =
-      let n = placed-next (bytesOf 4 i) (sections f (elementCount f) cs) indexed in
-      let q : x + 8 + length (bytesOf 4 i) ≡ x + 12 = omega (arith, bytes-length 4 i) in
-      section-there f cs (elementCount f) (omega (arith, tile-sum (p .range), p .long)) (rw q at n) e h
+      let n = placed-next (bytesOf 4 i) (sections f (elementCount f) cs) (bytes-length 4 i) indexed in
+      section-there f cs (elementCount f) (omega (arith, tile-sum f (p .front .all), p .long)) (placed-at n (omega arith)) e h
 
   given-length : (e : ℕ) → e < elementCount f → length (bytesGiven f cs e) ≡ elementBytes f e
-  given-length e h = part-length cs _ _ (omega (arith, element-within (p .range) e h, p .long))
+  given-length e h = part-length cs _ _ (omega (arith, element-within f (p .front .all) e h, p .long))
 
   -- its length field, by its place
   stated-here : (e : ℕ) → e < elementCount f → u32At s (x + 12 + storedBefore f e) ≡ elementBytes f e
   stated-here e h =
       let l = given-length e h in
-      section-states _ (section-here e h) (omega (arith, element-within (p .range) e h, p .range .tile-size)) ∙ l
+      section-states _ (section-here e h) (omega (arith, element-within f (p .front .all) e h, p .front .tile)) ∙ l
 
   -- the sections end before the checksum
   limit-here : x + 12 + storedBefore f (elementCount f) ≤ recordLimit s x
   unfolding recordLimit
-  limit-here = omega (arith, tile-inside, tile-long, plain-is (p .range), least-holds (12 + storedBefore f (elementCount f)) .0)
+  limit-here = omega (arith, tile-inside, tile-long, plain-holds f (p .front .all))
 
   pub tile-section : (e : ℕ) → e ≤ elementCount f → sectionAt s x e ≡ x + 12 + storedBefore f e
   unfolding sectionAt sectionEnd sumBelow
@@ -129,7 +110,7 @@ module _ {f s cs : List ℕ} {i x : ℕ} (p : TileHere f s cs i x) where
       let n : sectionAt s x (suc e) ≡ sectionEnd s (sectionAt s x e) = rw (← add-one e) (section-next s x e (omega (arith, limit-here))) in
       n ∙ rw (q, stated-here e h) (omega arith)
 
-  pub tile-states : (e : ℕ) → e < elementCount f → sectionLength s x e ≡ elementBytes f e
+  tile-states : (e : ℕ) → e < elementCount f → sectionLength s x e ≡ elementBytes f e
   unfolding sectionLength
   tile-states e h = rw (tile-section e (omega arith)) (stated-here e h)
 
@@ -142,7 +123,7 @@ module _ {f s cs : List ℕ} {i x : ℕ} (p : TileHere f s cs i x) where
       part s (elementContentAt s x e + o) n ≡ part cs (sumBelow e (elementBytes f) + o) n
   unfolding elementContentAt
   tile-bytes e h o n l =
-      let q = part-placed cs (sumBelow e (elementBytes f)) (elementBytes f e) (omega (arith, element-within (p .range) e h, p .long)) in
+      let q = part-placed cs (sumBelow e (elementBytes f)) (elementBytes f e) (omega (arith, element-within f (p .front .all) e h, p .long)) in
       let m : o + n ≤ length (bytesGiven f cs e) = omega (arith, given-length e h) in
       rw (tile-section e (omega arith)) (placed-part (bytes-there _ (section-here e h)) o n m ∙ sym (placed-part q o n m))
 
@@ -150,14 +131,14 @@ module _ {f s cs : List ℕ} {i x : ℕ} (p : TileHere f s cs i x) where
   unfolding indexRight
   index-right =
       let e = tile-indexed in
-      sym (yes _ (omega (arith, p .below, p .range .tiles), (omega (arith, p .below, tiles-kept (p .kept)), tt)))
+      sym (yes _ (omega (arith, p .below, p .front .tiles), (omega (arith, p .below, tiles-kept (p .kept)), tt)))
 
   end-right : endRight s x (tileEnd s x) ≡ true
   unfolding endRight tileEnd
   end-right =
       let q : sectionAt s x (elementCount s) ≡ x + 12 + storedBefore f (elementCount f) = rw (p .kept .count) (tile-section (elementCount f) (omega arith)) in
       let d : sectionAt s x (elementCount s) - x ≡ 12 + storedBefore f (elementCount f) = omega arith in
-      sym (yes _ (omega (arith, limit-here), (tile-long ∙ plain-is (p .range) ∙ ap leastLength (sym d), tt)))
+      sym (yes _ (omega (arith, limit-here), (tile-long ∙ plain-is f (p .front .all) ∙ ap leastLength (sym d), tt)))
 
   each-right : (e : ℕ) → e < elementCount f → sectionRight s x e ≡ true
   unfolding judgeElement sectionLength
@@ -167,7 +148,7 @@ module _ {f s cs : List ℕ} {i x : ℕ} (p : TileHere f s cs i x) where
       let g = element-some (p .range) e in
       sym (section-whole s x e _ _ _ refl refl refl (sym (judge-whole _ _ (λ z. omega arith) (d ∙ sym q))))
 
-  pub tile-right : tileRight s x ≡ true
+  tile-right : tileRight s x ≡ true
   unfolding tileRight
   tile-right = sym (yes _ (index-right, (end-right, (rw (p .kept .count) (below-all (elementCount f) _ each-right), tt))))
 

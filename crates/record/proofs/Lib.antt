@@ -1,3 +1,2 @@
 pub mod ChainLaws
-pub mod PlaceLaws
 pub mod SeekLaws

@@ -1,9 +1,10 @@
 -- Items one behind the other. Assumes nothing.
-use Prim.Native.Nat.{ℕ, zero, suc, _+_, _-_, _≤_, _<_}
+use Prim.Native.Nat.{ℕ, zero, suc, _+_, _*_, _-_, _≤_, _<_}
 use mathlib.Core.Path.{_≡_, refl, sym, ap, _∙_}
 use mathlib.Core.Bool.{Bool, true, false}
 use native.Mathlib.Omega.{arith}
 use native.Mathlib.Numerals.{add-one}
+use native.Mathlib.Nat.{mul-le-mul-right}
 use lib.Dec.{leb}
 use borrow.Author.Tests.{leb-true, leb-false, le-leb, lt-leb}
 use Rattle.wire.specs.Pick.{pick}
@@ -105,3 +106,7 @@ module _ (next : ℕ → ℕ) (limit left at : ℕ) where
   items-end x e h =
       let z : left ≡ 0 = omega arith in
       sym (advance-none next limit at) ∙ ap (λ (n : ℕ). advance next limit n at) (sym z) ∙ e
+
+-- of n items of one size, each ends among them
+pub item-within : (n k z : ℕ) → k < n → k * z + z ≤ n * z
+item-within n k z h = let m : (k + 1) * z ≤ n * z = mul-le-mul-right z (omega arith) in omega arith

@@ -2,3 +2,4 @@ pub mod TestLaws
 pub mod ByteLaws
 pub mod ItemLaws
 pub mod PutLaws
+pub mod PlaceLaws

@@ -120,6 +120,34 @@ put-put d at v w h =
     ∙ ap (λ (x : List ℕ). x ++ drop (at + length (v ++ w)) d) (append-assoc (take at d) v w)
     ∙ sym (put-fits d at (v ++ w) lvw)
 
+-- nothing, put
+pub put-nil : (d : List ℕ) (at : ℕ) → put d at [] ≡ d
+put-nil d at =
+    by-cases (decLe (at + 0) (length d)) (λ h. rw put-fits (sym (paste-zero d at [])))
+    (λ n. let h : length d < at + 0 = omega arith in rw put-not)
+
+-- l is d with v at `at`, and v is n long: where a writer stands
+pub record Wrote (d : List ℕ) (at : ℕ) (v : List ℕ) (n : ℕ) (l : List ℕ) : Type 0 where
+  pub long : length v ≡ n
+  pub is : l ≡ put d at v
+
+module _ {d : List ℕ} {at : ℕ} {v : List ℕ} {n : ℕ} {l : List ℕ} where
+  -- the first put
+  pub first : l ≡ put d at v → length v ≡ n → Wrote d at v n l
+  first e h = record { long = h; is = e }
+
+  -- one put more, of w, m long, where the last one ended
+  pub then :
+      Wrote d at v n l → (w : List ℕ) (m at′ : ℕ) {l′ : List ℕ} → l′ ≡ put l at′ w → length w ≡ m → at′ ≡ at + n → at + n + m ≤ length d →
+      Wrote d at (v ++ w) (n + m) l′
+  then s w m at′ e lw ea h =
+      let f : at + length v + length w ≤ length d = omega (arith, s .long) in
+      let g : at′ ≡ at + length v = omega (arith, s .long) in
+      record {
+        long = length-append v w ∙ omega (arith, s .long);
+        is = e ∙ rw (s .is, g) (put-put d at v w f);
+      }
+
 -- numbers: the bytes of a wider one are those of two narrower ones
 
 pub bytes-split : (a b v : ℕ) → bytesOf (a + b) v ≡ bytesOf a v ++ bytesOf b (v / 256 ^ a)

@@ -1,5 +1,5 @@
 -- `lay_down::directory_length` meets its contract. Assumes nothing.
-use Rattle.lay_down.proofs.InputLaws.{front-of, directory-is}
+use Rattle.lay_down.proofs.FrontLaws.{front-of, directory-is}
 use native.Mathlib.Omega.{arith}
 use borrow.Author.Needs.{needs}
 use Rattle.lay_down.proofs.directory_length.Statement.{statement}

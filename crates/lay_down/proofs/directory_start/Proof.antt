@@ -1,5 +1,5 @@
 -- `lay_down::directory_start` meets its contract. Assumes nothing.
-use Rattle.lay_down.proofs.InputLaws.{front-of, records-small}
+use Rattle.lay_down.proofs.FrontLaws.{front-of, records-small}
 use lib.ListN.{length}
 use mathlib.Core.Path.{ap}
 use native.Mathlib.Omega.{arith}

@@ -1,6 +1,6 @@
 -- `lay_down::element_sizes` meets its contract. Assumes nothing.
 use borrow.Author.Needs.{needs}
-use Rattle.lay_down.proofs.InputLaws.{front-of, size-small, size-exact, sizes-more}
+use Rattle.lay_down.proofs.FrontLaws.{front-of, size-small, size-exact, sizes-more}
 use Rattle.geometry.specs.Sizes.{elementBytes}
 use lib.ListN.{length, getD, length-set}
 use mathlib.Core.Path.{_≡_}

@@ -1,5 +1,5 @@
 -- `lay_down::file_length` meets its contract. Assumes nothing.
-use Rattle.lay_down.proofs.InputLaws.{front-of, records-small, directory-small}
+use Rattle.lay_down.proofs.FrontLaws.{front-of, records-small, directory-small}
 use native.Mathlib.Omega.{arith}
 use borrow.Author.Needs.{needs}
 use Rattle.lay_down.proofs.file_length.Statement.{statement}

@@ -1,5 +1,6 @@
 -- `lay_down::input_right` meets its contract. Assumes nothing.
-use Rattle.lay_down.proofs.InputLaws.{front-of, input-timeless, input-disordered, input-small, input-amiss, input-fine}
+use Rattle.lay_down.proofs.FrontLaws.{front-of}
+use Rattle.lay_down.proofs.JudgeLaws.{input-timeless, input-disordered, input-small, input-amiss, input-fine}
 use native.Mathlib.Omega.{arith}
 use borrow.Author.Needs.{needs}
 use Rattle.lay_down.proofs.input_right.Statement.{statement}

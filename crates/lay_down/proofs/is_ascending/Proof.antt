@@ -1,6 +1,6 @@
 -- `lay_down::is_ascending` meets its contract. Assumes nothing.
 use borrow.Author.Needs.{needs}
-use Rattle.lay_down.proofs.InputLaws.{ascending-low, ascending-high, ascending-more, ascending-end}
+use Rattle.lay_down.proofs.AscendLaws.{ascending-low, ascending-high, ascending-more, ascending-end}
 use Rattle.lay_down.specs.Answer.{ascending}
 use lib.ListN.{length, drop}
 use mathlib.Core.Path.{_≡_, refl}

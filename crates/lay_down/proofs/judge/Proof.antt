@@ -1,5 +1,5 @@
 -- `lay_down::judge` meets its contract. Assumes nothing.
-use Rattle.lay_down.proofs.InputLaws.{judged-front, judged-behind}
+use Rattle.lay_down.proofs.JudgeLaws.{judged-front, judged-behind}
 use mathlib.Core.Path.{sym, _∙_}
 use borrow.Author.Needs.{needs}
 use Rattle.lay_down.proofs.judge.Statement.{statement}

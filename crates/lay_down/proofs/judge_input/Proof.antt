@@ -1,5 +1,7 @@
 -- `lay_down::judge_input` meets its contract. Assumes nothing.
-use Rattle.lay_down.proofs.InputLaws.{front-of, ascending-few, input-means, length-is, judged-input, judged-ceiling, judged-room, judged-done}
+use Rattle.lay_down.proofs.FrontLaws.{front-of}
+use Rattle.lay_down.proofs.AscendLaws.{ascending-few}
+use Rattle.lay_down.proofs.JudgeLaws.{input-means, length-is, judged-input, judged-ceiling, judged-room, judged-done}
 use mathlib.Core.Path.{sym, _∙_}
 use native.Mathlib.Omega.{arith}
 use borrow.Author.Needs.{needs}

@@ -1,6 +1,6 @@
 -- `lay_down::lay_down` meets its contract. Assumes nothing.
-use Rattle.lay_down.proofs.InsideLaws.{laid-refused, laid-done}
-use Rattle.lay_down.proofs.InputLaws.{passed-of, length-is}
+use Rattle.lay_down.proofs.JudgeLaws.{passed-of, length-is}
+use Rattle.lay_down.proofs.PageWriting.{laid-refused, laid-done}
 use mathlib.Core.Path.{sym, _∙_}
 use borrow.Author.Needs.{needs}
 use Rattle.lay_down.proofs.lay_down.Statement.{statement}

@@ -1,6 +1,7 @@
 -- `lay_down::put_directory` meets its contract. Assumes nothing.
-use Rattle.lay_down.proofs.InsideLaws.{directory-holds, directory-put}
-use Rattle.lay_down.proofs.InputLaws.{front-of, directory-small}
+use Rattle.lay_down.proofs.PageLaws.{directory-holds}
+use Rattle.lay_down.proofs.FrontLaws.{front-of, directory-small}
+use Rattle.lay_down.proofs.DirectoryWriting.{directory-put}
 use mathlib.Core.Path.{refl}
 use native.Mathlib.Omega.{arith}
 use borrow.Author.Needs.{needs}

@@ -1,6 +1,6 @@
 -- `lay_down::put_front` meets its contract. Assumes nothing.
-use Rattle.lay_down.proofs.InsideLaws.{front-put}
-use Rattle.lay_down.proofs.InputLaws.{front-of}
+use Rattle.lay_down.proofs.FrontLaws.{front-of}
+use Rattle.lay_down.proofs.FrontWriting.{front-put}
 use mathlib.Core.Path.{refl}
 use native.Mathlib.Omega.{arith}
 use borrow.Author.Needs.{needs}

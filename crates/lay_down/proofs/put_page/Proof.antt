@@ -1,6 +1,7 @@
 -- `lay_down::put_page` meets its contract. Assumes nothing.
-use Rattle.lay_down.proofs.InsideLaws.{page-put}
-use Rattle.lay_down.proofs.InputLaws.{passed-of, front-of, laid-adds, start-adds}
+use Rattle.lay_down.proofs.FrontLaws.{front-of}
+use Rattle.lay_down.proofs.JudgeLaws.{passed-of}
+use Rattle.lay_down.proofs.PageWriting.{page-put}
 use mathlib.Core.Path.{refl}
 use native.Mathlib.Omega.{arith}
 use borrow.Author.Needs.{needs}
@@ -15,15 +16,15 @@ put-page-spec =
     (λ c κs. (passed-of _ _ _ _ _ (c .before .before .before .before .before .pre) .front, refl))
     (λ c κs. passed-of _ _ _ _ _ (c .before .before .before .before .before .before .before .pre) .front)
     (λ c κs. let w = passed-of _ _ _ _ _ (c .before .before .before .before .before .before .before .before .pre) in (w .front, w .few))
-    (λ c. let w = passed-of _ _ _ _ _ (c .before .before .before .before .before .before .before .before .before .before .pre) in omega (arith, laid-adds _ _ _ (w .ceiling), c .before .directory-start .ensures))
-    (λ c κs. let w = passed-of _ _ _ _ _ (c .before .before .before .before .before .before .before .before .before .before .pre) in (w .front, omega (arith, laid-adds _ _ _ (w .fits))))
+    (λ c. let w = passed-of _ _ _ _ _ (c .before .before .before .before .before .before .before .before .before .before .pre) in omega (arith, c .before .directory-start .ensures))
+    (λ c κs. let w = passed-of _ _ _ _ _ (c .before .before .before .before .before .before .before .before .before .before .pre) in (w .front, omega arith))
     (λ c. search needs)
     (λ c κs.
     let w = passed-of _ _ _ _ _ (c .before .before .before .before .before .before .before .before .before .before .before .before .before .before .before .pre) in
-    ((w .front, (w .cells, omega (arith, start-adds _ _ _ (w .fits), c .before .before .before .before .put-front .kept .0))), (c .before .before .before .before .before .before .before .tile-length .ensures, c .before .before .before .before .before .before .before .before .before .element-sizes .ensures)))
+    ((w .front, (w .cells, omega (arith, c .before .before .before .before .put-front .kept .0))), (c .before .before .before .before .before .before .before .tile-length .ensures, c .before .before .before .before .before .before .before .before .before .element-sizes .ensures)))
     (λ c κs.
     let w = passed-of _ _ _ _ _ (c .before .before .before .before .before .before .before .before .before .before .before .before .before .before .before .before .before .before .before .pre) in
-    ((w .front, (w .indexes, w .ceiling)), (c .before .before .before .before .before .before .before .before .before .before .before .tile-length .ensures, omega (arith, laid-adds _ _ _ (w .fits), c .before .before .before .before .before .before .before .before .before .before .directory-start .ensures, c .before .before .before .before .before .before .before .before .put-front .kept .0, c .before .before .before .put-tiles .kept .0))))
+    ((w .front, (w .indexes, w .ceiling)), (c .before .before .before .before .before .before .before .before .before .before .before .tile-length .ensures, omega (arith, c .before .before .before .before .before .before .before .before .before .before .directory-start .ensures, c .before .before .before .before .before .before .before .before .put-front .kept .0, c .before .before .before .put-tiles .kept .0))))
     (λ c. search needs)
     (λ c.
     let w = passed-of _ _ _ _ _ (c .before .before .before .before .before .before .before .before .before .before .before .before .before .before .before .before .before .before .before .before .before .before .pre) in

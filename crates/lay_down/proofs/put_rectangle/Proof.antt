@@ -1,5 +1,5 @@
 -- `lay_down::put_rectangle` meets its contract. Assumes nothing.
-use Rattle.lay_down.proofs.InsideLaws.{form-put}
+use Rattle.lay_down.proofs.DirectoryWriting.{form-put}
 use borrow.Author.Needs.{needs}
 use Rattle.lay_down.proofs.put_rectangle.Statement.{statement}
 use Rattle.lay_down.proofs.put_rectangle.Tie as tie

@@ -1,18 +1,20 @@
 -- `lay_down::put_references` meets its contract. Assumes nothing.
 use borrow.Author.Needs.{needs}
-use Rattle.lay_down.proofs.InsideLaws.{references-begin, references-more, references-all}
-use Rattle.lay_down.proofs.InputLaws.{front-of, ascending-each, ascending-order, start-small}
+use Rattle.lay_down.proofs.FrontLaws.{front-of}
+use Rattle.lay_down.proofs.AscendLaws.{ascending-each, ascending-order}
+use Rattle.lay_down.proofs.ReferenceWriting.{references-begin, references-more, references-all, start-small}
 use Rattle.lay_down.specs.Page.{references}
 use Rattle.wire.specs.Bytes.{put}
 use lib.ListN.{length, take}
 use mathlib.Core.Path.{_≡_, refl, _∙_}
 use Prim.Native.Nat.{_+_, _*_, _-_, _≤_}
+use Rattle.geometry.specs.Sizes.{plainTileLength}
 use native.Mathlib.Omega.{arith}
 use Rattle.lay_down.proofs.put_references.Statement.{statement}
 use Rattle.lay_down.proofs.put_references.Tie as tie
 
 abbrev Inv-loop : tie.InvT-loop
-Inv-loop out₀ at n front indexes count start₀ k₀ out start k = (k ≤ length indexes) × (length out ≡ length out₀) × (start ≡ length front + k * n) × (out ≡ put out₀ at (references front (take k indexes) count))
+Inv-loop out₀ at n front indexes count start₀ k₀ out start k = (k ≤ length indexes) × (length out ≡ length out₀) × (start ≡ length front + k * plainTileLength front) × (out ≡ put out₀ at (references front (take k indexes) count))
 
 abbrev μ-loop : tie.MeasureT-loop
 μ-loop out₀ at n front indexes count start₀ k₀ out start k = length indexes - k
@@ -32,20 +34,20 @@ put-references-spec =
     (λ c. search needs)
     (λ c. search needs)
     (λ c. omega (arith, c .shared-slice-known3 .given (c .before .before .loop .k)))
-    (λ c. let e = ascending-each _ _ _ (c .before .before .before .before .before .before .before .before .before .before .before .before .pre .0 .1 .0) (c .before .before .before .loop .k) (omega arith) in omega (arith, e .1, front-of _ (c .before .before .before .before .before .before .before .before .before .before .before .before .pre .0 .0) .tiles))
-    (λ c. let e = ascending-each _ _ _ (c .before .before .before .before .before .before .before .before .before .before .before .before .pre .0 .1 .0) (c .before .before .before .loop .k) (omega arith) in omega (arith, e .1, c .before .before .before .before .before .before .before .before .before .before .before .before .pre .1 .1))
-    (λ c. omega (arith, start-small _ _ _ _ _ (c .before .before .before .loop .inv .2) (c .before .before .before .before .before .before .before .before .before .before .before .before .pre .1 .0) (c .before .before .before .before .before .before .before .before .before .before .before .before .pre .0 .1 .1) (omega arith)))
-    (λ c. omega (arith, start-small _ _ _ _ _ (c .before .before .before .loop .inv .2) (c .before .before .before .before .before .before .before .before .before .before .before .before .pre .1 .0) (c .before .before .before .before .before .before .before .before .before .before .before .before .pre .0 .1 .1) (omega arith)))
+    (λ c. let e = ascending-each _ _ _ (c .before .before .before .before .before .before .before .before .before .before .before .before .pre .0 .1 .0) (c .before .before .before .loop .k) (c .before .before .loop-test .taken) in omega (arith, e .1, front-of _ (c .before .before .before .before .before .before .before .before .before .before .before .before .pre .0 .0) .tiles))
+    (λ c. let e = ascending-each _ _ _ (c .before .before .before .before .before .before .before .before .before .before .before .before .pre .0 .1 .0) (c .before .before .before .loop .k) (c .before .before .loop-test .taken) in omega (arith, e .1, c .before .before .before .before .before .before .before .before .before .before .before .before .pre .1 .1))
+    (λ c. omega (arith, c .before .before .before .before .before .before .before .before .before .before .before .before .pre .1 .0, start-small _ _ _ _ (c .before .before .before .loop .inv .2) (c .before .before .before .before .before .before .before .before .before .before .before .before .pre .0 .1 .1) (c .before .before .loop-test .taken)))
+    (λ c. omega (arith, c .before .before .before .before .before .before .before .before .before .before .before .before .pre .1 .0, start-small _ _ _ _ (c .before .before .before .loop .inv .2) (c .before .before .before .before .before .before .before .before .before .before .before .before .pre .0 .1 .1) (c .before .before .loop-test .taken)))
     (λ c κs. search needs)
-    (λ c. omega (arith, start-small _ _ _ _ _ (c .before .before .before .before .before .before .loop .inv .2) (c .before .before .before .before .before .before .before .before .before .before .before .before .before .before .before .pre .1 .0) (c .before .before .before .before .before .before .before .before .before .before .before .before .before .before .before .pre .0 .1 .1) (omega arith)))
+    (λ c. omega (arith, c .before .before .before .before .before .before .before .before .before .before .before .before .before .before .before .pre .1 .0, start-small _ _ _ _ (c .before .before .before .before .before .before .loop .inv .2) (c .before .before .before .before .before .before .before .before .before .before .before .before .before .before .before .pre .0 .1 .1) (c .before .before .before .before .before .loop-test .taken)))
     (λ c. search needs)
     (λ c. search needs)
     (λ c.
-    let s = c .before .before .before .before .before .before .before .before .before .before .before .before .before .before .before .pre in let k = c .before .before .before .before .before .before .loop .k in let e = ascending-each _ _ _ (s .0 .1 .0) k (omega arith) in let t = c .before .before .before .before .before .before .before .before .before .before .before .tile-count .ensures in (
+    let s = c .before .before .before .before .before .before .before .before .before .before .before .before .before .before .before .pre in let k = c .before .before .before .before .before .before .loop .k in let h = c .before .before .before .before .before .loop-test .taken in let e = ascending-each _ _ _ (s .0 .1 .0) k h in let t = c .before .before .before .before .before .before .before .before .before .before .before .tile-count .ensures in (
       search needs,
       c .before .before .put-u32 .kept .0 ∙ c .before .before .before .before .before .before .loop .inv .1,
       omega (arith, c .before .before .before .before .before .before .loop .inv .2),
-      references-more _ _ _ _ _ _ _ k _ _ (c .before .before .before .before .before .before .loop .inv .3) (s .1 .0) (c .before .before .before .before .before .before .loop .inv .2) (omega arith) (λ j h. ascending-order _ _ _ (s .0 .1 .0) j k h (omega arith)) (omega (arith, e .1, t)) (omega (arith, t, s .1 .1, c .before .before .before .before .before .before .before .before .before .put-zeros .kept .0)) (c .before .before .put-u32 .ensures),
+      references-more _ _ _ _ _ _ _ k _ (c .before .before .before .before .before .before .loop .inv .3) (c .before .before .before .before .before .before .loop .inv .2) h (λ j i. ascending-order _ _ _ (s .0 .1 .0) j k i h) (omega (arith, e .1, t)) (omega (arith, t, s .1 .1, c .before .before .before .before .before .before .before .before .before .put-zeros .kept .0)) (c .before .before .put-u32 .ensures),
     ))
     (λ c. c .before .loop .inv .1 ∙ c .before .before .before .before .put-zeros .kept .0)
     (λ c. references-all _ _ _ _ _ _ _ (c .before .loop .k) _ _ (c .before .loop .inv .3) (c .before .before .before .before .put-zeros .ensures) refl (c .before .before .before .before .before .before .tile-count .ensures) (omega arith) (omega arith) (c .before .before .before .before .before .before .before .before .before .before .pre .1 .1)))

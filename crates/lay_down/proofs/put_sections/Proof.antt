@@ -1,7 +1,7 @@
 -- `lay_down::put_sections` meets its contract. Assumes nothing.
 use borrow.Author.Needs.{needs}
-use Rattle.lay_down.proofs.InsideLaws.{Standing, standing-none, standing-fits, standing-given, standing-more, standing-all}
-use Rattle.lay_down.proofs.InputLaws.{front-of}
+use Rattle.lay_down.proofs.FrontLaws.{front-of}
+use Rattle.lay_down.proofs.SectionWriting.{Standing, standing-none, standing-fits, standing-given, standing-more, standing-all}
 use Prim.Native.Nat.{_-_, _≤_}
 use native.Mathlib.Omega.{arith}
 use Rattle.lay_down.proofs.put_sections.Statement.{statement}

@@ -1,6 +1,7 @@
 -- `lay_down::put_tile` meets its contract. Assumes nothing.
-use Rattle.lay_down.proofs.InsideLaws.{plain-holds, tile-put}
-use Rattle.lay_down.proofs.InputLaws.{front-of, plain-small}
+use Rattle.lay_down.proofs.PageLaws.{plain-holds}
+use Rattle.lay_down.proofs.FrontLaws.{front-of, plain-small}
+use Rattle.lay_down.proofs.TileWriting.{tile-put}
 use native.Mathlib.Omega.{arith}
 use borrow.Author.Needs.{needs}
 use Rattle.lay_down.proofs.put_tile.Statement.{statement}
@@ -18,7 +19,7 @@ put-tile-spec =
     (λ c. search needs)
     (λ c κs.
     let p = c .before .before .before .before .before .before .before .before .before .before .before .before .before .before .pre in let w = front-of _ (p .0 .0) in
-    (p .0 .0, (p .0 .1 .0, (p .0 .1 .1 .0, omega (arith, plain-holds _ w, p .1, p .0 .1 .1 .1, c .before .before .before .before .before .before .before .put-head .kept .0, c .before .before .before .put-u32 .kept .0)))))
+    (p .0 .0, (p .0 .1 .0, (p .0 .1 .1 .0, omega (arith, plain-holds _ (w .all), p .1, p .0 .1 .1 .1, c .before .before .before .before .before .before .before .put-head .kept .0, c .before .before .before .put-u32 .kept .0)))))
     (λ c κs. search needs)
     (λ c. search needs)
     (λ c.

@@ -1,6 +1,6 @@
 -- `lay_down::tile_length` meets its contract. Assumes nothing.
 use borrow.Author.Needs.{needs}
-use Rattle.lay_down.proofs.InputLaws.{front-of, size-small, size-exact, stored-small, stored-more, plain-is}
+use Rattle.lay_down.proofs.FrontLaws.{front-of, size-small, size-exact, stored-small, stored-more, plain-counted}
 use Rattle.geometry.specs.Sizes.{storedSize, elementBytes}
 use Rattle.wire.proofs.TestLaws.{sum-none}
 use Rattle.wire.specs.Tests.{sumBelow}
@@ -39,4 +39,4 @@ tile-length-spec =
     (λ c. let w = front-of _ (c .before .before .before .before .pre) in omega (arith, c .before .loop .inv .1, stored-small _ w (c .before .loop .e) (omega (arith, c .before .before .entries-read .ensures .0))))
     (λ c. let w = front-of _ (c .before .before .before .before .pre) in omega (arith, c .before .loop .inv .1, stored-small _ w (c .before .loop .e) (omega (arith, c .before .before .entries-read .ensures .0))))
     (λ c κs. search needs)
-    (λ c. plain-is _ (front-of _ (c .before .before .before .before .before .pre)) _ _ _ _ (c .before .before .before .entries-read .ensures .0) (omega arith) (omega arith) (c .before .before .loop .inv .1) (c .least-length .ensures)))
+    (λ c. plain-counted _ (front-of _ (c .before .before .before .before .before .pre)) _ _ _ _ (c .before .before .before .entries-read .ensures .0) (omega arith) (omega arith) (c .before .before .loop .inv .1) (c .least-length .ensures)))

@@ -1,5 +1,5 @@
 -- `lay_down::front::set_fields` meets its contract. Assumes nothing.
-use Rattle.lay_down.proofs.WriteLaws.{fields-are}
+use Rattle.lay_down.proofs.FrontWriting.{fields-are}
 use borrow.Author.Needs.{needs}
 use Rattle.lay_down.proofs.front.set_fields.Statement.{statement}
 use Rattle.lay_down.proofs.front.set_fields.Tie as tie

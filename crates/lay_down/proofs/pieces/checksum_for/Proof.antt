@@ -1,5 +1,5 @@
 -- `lay_down::pieces::checksum_for` meets its contract. Assumes nothing.
-use Rattle.lay_down.proofs.WriteLaws.{sum-on, sum-off}
+use Rattle.lay_down.proofs.PieceWriting.{sum-on, sum-off}
 use native.Mathlib.Omega.{arith}
 use borrow.Author.Needs.{needs}
 use Rattle.lay_down.proofs.pieces.checksum_for.Statement.{statement}

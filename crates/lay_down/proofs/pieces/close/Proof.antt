@@ -1,5 +1,5 @@
 -- `lay_down::pieces::close` meets its contract. Assumes nothing.
-use Rattle.lay_down.proofs.WriteLaws.{closed-out, closed-is}
+use Rattle.lay_down.proofs.PieceWriting.{closed-out, closed-is}
 use native.Mathlib.Omega.{arith}
 use borrow.Author.Needs.{needs}
 use Rattle.lay_down.proofs.pieces.close.Statement.{statement}

@@ -1,5 +1,5 @@
 -- `lay_down::pieces::put_head` meets its contract. Assumes nothing.
-use Rattle.lay_down.proofs.WriteLaws.{head-out, head-put}
+use Rattle.lay_down.proofs.PieceWriting.{head-out, head-put}
 use native.Mathlib.Omega.{arith}
 use borrow.Author.Needs.{needs}
 use Rattle.lay_down.proofs.pieces.put_head.Statement.{statement}

@@ -1,6 +1,6 @@
 -- `lay_down::pieces::put_section` meets its contract. Assumes nothing.
 use mathlib.Core.Path.{refl}
-use Rattle.lay_down.proofs.WriteLaws.{section-out, section-put}
+use Rattle.lay_down.proofs.PieceWriting.{section-out, section-put}
 use native.Mathlib.Omega.{arith}
 use borrow.Author.Needs.{needs}
 use Rattle.lay_down.proofs.pieces.put_section.Statement.{statement}

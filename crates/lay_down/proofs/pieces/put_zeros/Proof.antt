@@ -1,8 +1,7 @@
 -- `lay_down::pieces::put_zeros` meets its contract. Assumes nothing.
-use Rattle.lay_down.proofs.WriteLaws.{zeros-all}
+use Rattle.lay_down.proofs.PieceWriting.{zeros-all, zeros-none, zeros-put-more, zeros-out}
 use lib.ListN.{length, length-set}
 use borrow.Author.Needs.{needs}
-use Rattle.lay_down.proofs.WriteLaws.{zeros-none, zeros-put-more, zeros-out}
 use Rattle.lay_down.specs.Pieces.{zeros}
 use Rattle.wire.specs.Bytes.{put}
 use mathlib.Core.Path.{_≡_}

@@ -1,5 +1,5 @@
 -- `lay_down::pieces::seal` meets its contract. Assumes nothing.
-use Rattle.lay_down.proofs.WriteLaws.{sealed-out, sealed-is}
+use Rattle.lay_down.proofs.PieceWriting.{sealed-out, sealed-is}
 use native.Mathlib.Omega.{arith}
 use borrow.Author.Needs.{needs}
 use Rattle.lay_down.proofs.pieces.seal.Statement.{statement}

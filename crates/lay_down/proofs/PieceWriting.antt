@@ -1,81 +1,39 @@
--- What the writers of a record's pieces put, one behind the other. Assumes nothing.
-use Prim.Native.Nat.{ℕ, zero, suc, _+_, _*_, _/_, _%_, _-_, _^_, _≤_, _<_}
-use mathlib.Core.Path.{_≡_, refl, sym, ap, ap₂, _∙_}
-use mathlib.Core.List.{List, [], _∷_, _++_, append-assoc, append-nil}
+-- What the writers of a record's pieces put. Assumes nothing.
+use Prim.Native.Nat.{ℕ, _+_, _%_, _-_, _≤_, _<_}
+use mathlib.Core.Path.{_≡_, refl, sym, ap, _∙_}
+use mathlib.Core.List.{List, [], _∷_, _++_}
 use mathlib.Core.Logic.{by-cases}
 use native.Mathlib.Decide.{decLe}
 use native.Mathlib.Omega.{arith}
-use native.Mathlib.Numerals.{add-one}
-use lib.ListN.{length, replicate, set, drop, take, length-append}
-use lib.Seq.{paste-zero}
-use lib.Dec.{eqb}
-use borrow.Author.Tests.{eq-eqb, ne-eqb}
+use lib.ListN.{length, set, length-append}
+use borrow.Author.Tests.{ne-eqb}
 use Rattle.wire.specs.Pick.{roundUp}
-use Rattle.wire.specs.Bytes.{bytesOf, part, put}
+use Rattle.wire.specs.Bytes.{part, bytesOf, put}
 use Rattle.wire.proofs.ByteLaws.{bytes-length}
-use Rattle.wire.proofs.PutLaws.{put-fits, put-not, length-put, put-one, put-put, bytes-mod}
-use Rattle.crc32c.specs.Crc.{crcOf, crcPart}
-use Rattle.lay_down.specs.Pieces.{zeros, checksumFor, recordHead, section, sealed, closedAt}
-use Rattle.lay_down.specs.Page.{fieldsSet}
-use Rattle.lay_down.proofs.PieceLaws.{zeros-length, head-length}
-
-pub put-nil : (d : List ℕ) (at : ℕ) → put d at [] ≡ d
-put-nil d at =
-    by-cases (decLe (at + 0) (length d))
-    (λ h. rw put-fits (sym (paste-zero d at [])))
-    (λ n. let h : length d < at + 0 = omega arith in rw put-not)
+use Rattle.wire.proofs.PutLaws.{put-not, length-put, put-part, put-one, put-put, put-nil, first, then, bytes-mod}
+use Rattle.crc32c.specs.Crc.{crcPart}
+use Rattle.geometry.specs.Sizes.{storedSize}
+use Rattle.lay_down.specs.Pieces.{zeros, checksumFor, recordHead, recordLength, unclosed, recordOf, sealed, closedAt, section}
+use Rattle.lay_down.proofs.PieceLaws.{zeros-length, zeros-joined, head-length, record-holds, unclosed-length, section-length}
 
 -- zeros, one more at a time
-
-zeros-more : (n : ℕ) → zeros (n + 1) ≡ zeros n ++ (0 ∷ [])
-unfolding zeros
-zeros-more zero = refl
-zeros-more (suc n) = let e : suc n + 1 ≡ suc (n + 1) = omega arith in rw e (ap (λ (l : List ℕ). 0 ∷ l) (zeros-more n))
 
 pub zeros-none : (d : List ℕ) (at : ℕ) → d ≡ put d at (zeros 0)
 unfolding zeros
 zeros-none d at = sym (put-nil d at)
 
 pub zeros-put-more : (d l : List ℕ) (at i : ℕ) → l ≡ put d at (zeros i) → at + i < length d → set l (at + i) 0 ≡ put d at (zeros (i + 1))
+unfolding zeros
 zeros-put-more d l at i e h =
-    let a = zeros-length i in
     let b = length-put d at (zeros i) in
-    let f : at + i ≡ at + length (zeros i) = omega arith in
-    let g : at + i < length l = omega (arith, ap length e) in
-    let o : List ℕ = 0 ∷ [] in
-    let k : at + length (zeros i) + length o ≤ length d = omega arith in
-    put-one l (at + i) 0 g
-    ∙ ap₂ (λ (x : List ℕ) (p : ℕ). put x p o) e f
-    ∙ put-put d at (zeros i) o k
-    ∙ ap (put d at) (sym (zeros-more i))
-
-pub zeros-out : (d : List ℕ) (at n : ℕ) → length d < at + n → d ≡ put d at (zeros n)
-zeros-out d at n h = sym (put-not d at (zeros n) (omega (arith, zeros-length n)))
-
--- l is d with v at `at`, and v is n long: where a writer stands
-pub record Wrote (d : List ℕ) (at : ℕ) (v : List ℕ) (n : ℕ) (l : List ℕ) : Type 0 where
-  pub long : length v ≡ n
-  pub is : l ≡ put d at v
-
-module _ {d : List ℕ} {at : ℕ} {v : List ℕ} {n : ℕ} {l : List ℕ} where
-  -- the first put
-  pub first : l ≡ put d at v → length v ≡ n → Wrote d at v n l
-  first e h = record { long = h; is = e }
-
-  -- one put more, of w, m long, where the last one ended
-  pub then :
-      Wrote d at v n l → (w : List ℕ) (m at′ : ℕ) {l′ : List ℕ} → l′ ≡ put l at′ w → length w ≡ m → at′ ≡ at + n → at + n + m ≤ length d →
-      Wrote d at (v ++ w) (n + m) l′
-  then s w m at′ e lw ea h =
-      let f : at + length v + length w ≤ length d = omega (arith, s .long) in
-      let g : at′ ≡ at + length v = omega (arith, s .long) in
-      record {
-        long = length-append v w ∙ omega (arith, s .long);
-        is = e ∙ rw (s .is, g) (put-put d at v w f);
-      }
+    let o = put-one l (at + i) 0 (omega (arith, ap length e)) in
+    then (first e (zeros-length i)) (0 ∷ []) 1 (at + i) o refl refl (omega arith) .is ∙ ap (put d at) (sym (zeros-joined i 1))
 
 pub zeros-all : (d l : List ℕ) (at i n : ℕ) → l ≡ put d at (zeros i) → i ≤ n → n ≤ i → l ≡ put d at (zeros n)
 zeros-all d l at i n e h k = let q : i ≡ n = omega arith in rw (← q) e
+
+pub zeros-out : (d : List ℕ) (at n : ℕ) → length d < at + n → d ≡ put d at (zeros n)
+zeros-out d at n h = sym (put-not d at (zeros n) (omega (arith, zeros-length n)))
 
 -- a record's head
 
@@ -128,12 +86,8 @@ closed-is flag d a l at end n m k e f p q = q ∙ rw (p, f, e)
 -- an element's section
 
 pub section-out : (d : List ℕ) (at n pad : ℕ) (bytes : List ℕ) → n ≡ length bytes → pad ≡ roundUp 4 n - n → length d < at + (4 + n + pad) → d ≡ put d at (section bytes)
-unfolding section
-section-out d at n pad bytes e p h =
-    let a = length-append (bytesOf 4 (length bytes) ++ bytes) (zeros (roundUp 4 (length bytes) - length bytes)) in
-    let b = length-append (bytesOf 4 (length bytes)) bytes in
-    let q : roundUp 4 (length bytes) - length bytes ≡ pad = rw (← e) (sym p) in
-    sym (put-not d at _ (omega (arith, a, b, bytes-length 4 (length bytes), zeros-length (roundUp 4 (length bytes) - length bytes))))
+unfolding storedSize
+section-out d at n pad bytes e p h = sym (put-not d at (section bytes) (omega (arith, section-length bytes)))
 
 pub section-put :
     (d a b l : List ℕ) (at n pad v : ℕ) (bytes : List ℕ) → n ≡ length bytes → pad ≡ roundUp 4 n - n → v ≡ n % 4294967296 → a ≡ put d at (bytesOf 4 v) →
@@ -146,10 +100,30 @@ section-put d a b l at n pad v bytes e f g p q r h =
     let y = then x (zeros pad) pad (at + 4 + n) r (zeros-length pad) (omega arith) (omega arith) in
     y .is ∙ rw (f, e)
 
--- the fields of a front
+-- a record: its head and body, put and then padded and sealed
 
-pub fields-are :
-    (d a b c e l : List ℕ) (t r : ℕ) → a ≡ put d 40 (bytesOf 8 t) → b ≡ put a 48 (zeros 8) → c ≡ put b 56 (zeros 8) → e ≡ put c 64 (zeros 8) →
-    l ≡ put e 80 (bytesOf 8 r) → l ≡ fieldsSet d t r
-unfolding fieldsSet
-fields-are d a b c e l t r p q s u v = rw (← p, ← q, ← s, ← u) v
+unclosed-is :
+    (n kind k : ℕ) (body : List ℕ) → n ≡ recordLength (length body) → k ≡ n - 4 - (8 + length body) → recordHead n kind ++ body ++ zeros k ≡ unclosed kind body
+unfolding unclosed
+unclosed-is n kind k body e h = rw (h, e)
+
+sealed-put :
+    (flag : ℕ) (d w : List ℕ) (at n : ℕ) → length w ≡ n - 4 → 4 ≤ n → at + n ≤ length d →
+    sealed flag (put d at w) at n ≡ put d at (w ++ bytesOf 4 (checksumFor flag w))
+unfolding sealed
+sealed-put flag d w at n e h k =
+    let s = bytesOf 4 (checksumFor flag w) in
+    let l = bytes-length 4 (checksumFor flag w) in
+    rw (← e, put-part d at w (omega arith)) (put-put d at w s (omega arith))
+
+pub closed-put :
+    (d a l : List ℕ) (at end n flag kind : ℕ) (body : List ℕ) → a ≡ put d at (recordHead n kind ++ body) → n ≡ recordLength (length body) →
+    end ≡ at + (8 + length body) → at + n ≤ length d → l ≡ closedAt flag a at end n → l ≡ put d at (recordOf flag kind body)
+unfolding closedAt recordOf
+closed-put d a l at end n flag kind body p e g h q =
+    let k = at + (n - 4) - end in
+    let r = record-holds (length body) in
+    let b : length (recordHead n kind ++ body) ≡ 8 + length body = length-append (recordHead n kind) body ∙ omega (arith, head-length n kind) in
+    let w = then (first p b) (zeros k) k end refl (zeros-length k) g (omega arith) in
+    let u : put a end (zeros k) ≡ put d at (unclosed kind body) = w .is ∙ ap (put d at) (unclosed-is n kind k body e (omega arith)) in
+    q ∙ rw u (sealed-put flag d (unclosed kind body) at n (unclosed-length kind body ∙ omega arith) (omega arith) h)

@@ -1,12 +1,13 @@
--- Bytes that stand whole in others, and what is read there. Assumes nothing.
+-- Bytes that stand whole in others: what is read there, and what is put there. Assumes nothing.
 use Prim.Native.Nat.{ℕ, _+_, _^_, _≤_, _<_}
-use mathlib.Core.Path.{_≡_, refl, sym, ap, _∙_}
+use mathlib.Core.Path.{_≡_, refl, sym, ap, ap₂, _∙_}
 use mathlib.Core.List.{List, [], _++_, append-assoc, append-nil}
 use native.Mathlib.Omega.{arith}
 use lib.ListN.{length, take, drop, length-append, take-append-drop}
-use lib.Seq.{length-take-le}
-use Rattle.wire.specs.Bytes.{byteAt, part, number, numberAt, bytesOf}
-use Rattle.wire.proofs.ByteLaws.{part-in, part-behind, part-before, number-one, bytes-length, number-of}
+use lib.Seq.{take-at, drop-at, length-take-le}
+use Rattle.wire.specs.Bytes.{byteAt, part, number, numberAt, bytesOf, put}
+use Rattle.wire.proofs.ByteLaws.{part-in, part-length, part-behind, part-before, number-one, bytes-length, number-of}
+use Rattle.wire.proofs.PutLaws.{put-fits, length-put}
 
 -- the bytes r stand in s from `at` on
 pub record Placed (s : List ℕ) (at : ℕ) (r : List ℕ) : Type 0 where
@@ -54,8 +55,8 @@ placed-first u v p =
       start = p .start;
     }
 
-pub placed-next : (u v : List ℕ) {s : List ℕ} {at : ℕ} → Placed s at (u ++ v) → Placed s (at + length u) v
-placed-next u v p = placed-inner p (placed-last u v refl)
+pub placed-next : (u v : List ℕ) {n : ℕ} → length u ≡ n → {s : List ℕ} {at : ℕ} → Placed s at (u ++ v) → Placed s (at + n) v
+placed-next u v e p = placed-inner p (placed-last u v e)
 
 -- a part stands where it was taken from
 pub part-placed : (s : List ℕ) (at n : ℕ) → at + n ≤ length s → Placed s at (part s at n)
@@ -92,3 +93,51 @@ placed-value {at} w v p h =
     let n = bytes-length w v in
     let z : at + 0 ≡ at = omega arith in
     rw z at (placed-number p w 0 (omega arith) ∙ number-of w v h)
+
+-- bytes that are put stand there
+pub put-placed : (d : List ℕ) (at : ℕ) (v : List ℕ) → at + length v ≤ length d → Placed (put d at v) at v
+put-placed d at v h =
+    record {
+      before = take at d;
+      behind = drop (at + length v) d;
+      whole = put-fits d at v h ∙ append-assoc (take at d) v (drop (at + length v) d);
+      start = length-take-le at d (omega arith);
+    }
+
+-- v in place of bytes that stand there, which are as many
+pub put-there : {s m : List ℕ} {at : ℕ} (p : Placed s at m) (v : List ℕ) → length m ≡ length v → put s at v ≡ p .before ++ (v ++ p .behind)
+put-there {s} {m} {at} p v e =
+    let a = p .before in
+    let b = p .behind in
+    let l : length (a ++ m) ≡ at + length v = length-append a m ∙ omega (arith, p .start) in
+    put-fits s at v (omega (arith, placed-inside p))
+    ∙ ap₂ (λ (x y : List ℕ). x ++ v ++ y) (ap (take at) (p .whole) ∙ take-at a (m ++ b) at (p .start))
+    (ap (drop (at + length v)) (p .whole ∙ sym (append-assoc a m b)) ∙ drop-at (a ++ m) b (at + length v) l)
+    ∙ append-assoc a v b
+
+-- in the first of two lists, in place of the second, inside what was put, and over it
+
+pub put-before : (d b : List ℕ) (at : ℕ) (v : List ℕ) → at + length v ≤ length d → put (d ++ b) at v ≡ put d at v ++ b
+unfolding placed-before
+put-before d b at v h =
+    let p = part-placed d at (length v) h in
+    let e = part-length d at (length v) h in
+    put-there (placed-before p b) v e ∙ sym (rw (put-there p v e) (simp append-assoc))
+
+pub put-last : (a m v : List ℕ) {at : ℕ} → length a ≡ at → length m ≡ length v → put (a ++ m) at v ≡ a ++ v
+unfolding placed-last
+put-last a m v e h = put-there (placed-last a m e) v h ∙ rw append-nil
+
+pub put-inside : (d r : List ℕ) (at i : ℕ) (v : List ℕ) → at + length r ≤ length d → i + length v ≤ length r → put (put d at r) (at + i) v ≡ put d at (put r i v)
+unfolding put-placed placed-inner
+put-inside d r at i v h k =
+    let p = part-placed r i (length v) k in
+    let e = part-length r i (length v) k in
+    let l = length-put r i v in
+    put-there (placed-inner (put-placed d at r h) p) v e
+    ∙ sym (put-fits d at (put r i v) (omega arith) ∙ rw (l, put-there p v e) (simp append-assoc))
+
+pub put-over : (d : List ℕ) (at : ℕ) (v w : List ℕ) → length v ≡ length w → at + length v ≤ length d → put (put d at v) at w ≡ put d at w
+unfolding put-placed
+put-over d at v w e h =
+    put-there (put-placed d at v h) w e ∙ sym (put-fits d at w (omega arith) ∙ rw (← e) (append-assoc (take at d) w (drop (at + length v) d)))

@@ -1,0 +1,126 @@
+-- What a front that passes stages 1 to 4 gives: its rules, and its numbers as they are counted. Assumes nothing.
+use Prim.Native.Nat.{ℕ, min, _+_, _*_, _≤_, _<_}
+use mathlib.Core.Path.{_≡_, ap, _∙_}
+use mathlib.Core.List.{List}
+use mathlib.Core.Logic.{by-cases}
+use mathlib.Core.Bool.{true}
+use native.Mathlib.Decide.{decLe}
+use native.Mathlib.Omega.{arith}
+use native.Mathlib.Nat.{mul-le-mul}
+use lib.ListN.{length, getD, set}
+use lib.Seq.{getD-set-same, getD-set-other}
+use Rattle.wire.proofs.TestLaws.{means, sum-more, sum-within}
+use Rattle.answer.specs.declared.Verdict.the-variants.{Accepted}
+use Rattle.answer.proofs.VerdictLaws.{gate-passed}
+use Rattle.header.specs.Fields.{elementCount, headerEnd}
+use Rattle.header.specs.Element.{entriesRead}
+use Rattle.geometry.specs.Tiles.{tileCount}
+use Rattle.geometry.specs.Sizes.{storedSize, leastLength, tileLength, cap, elementBytes, tileBytes, plainTileLength}
+use Rattle.geometry.proofs.SizeLaws.{sum-stored, plain-most}
+use Rattle.check_header.specs.Identification.{identified, versionRight}
+use Rattle.check_header.specs.HeaderRecord.{headerRight}
+use Rattle.check_header.specs.Ceilings.{withinCeilings}
+use Rattle.check_header.specs.Stages.{firstTwo, nextTwo, stages, frontRight, checkFront}
+use Rattle.check_header.proofs.Judged.{header-long}
+use Rattle.lay_down.specs.Pieces.{recordLength}
+use Rattle.lay_down.proofs.PageLaws.{storedBefore, element-within}
+
+-- what each stage says
+pub record FrontRules (f : List ℕ) : Type 0 where
+  pub block : identified f (length f) ≡ true
+  pub version : versionRight f ≡ true
+  pub header : headerRight f (length f) ≡ true
+  pub no-more : headerEnd f ≡ length f
+  pub ceilings : withinCeilings f (length f) ≡ true
+
+pub rules-of : (f : List ℕ) → checkFront f ≡ Accepted → FrontRules f
+unfolding checkFront stages firstTwo nextTwo frontRight
+rules-of f e =
+    let a = gate-passed _ _ _ e in
+    let b = gate-passed _ _ _ (a .1) in
+    let c = gate-passed _ _ _ (b .1) in
+    let d = gate-passed _ _ _ (c .1) in
+    let h = means _ (c .0) in
+    record { block = a .0; version = b .0; header = h .0; no-more = h .1 .0; ceilings = d .0 }
+
+-- its numbers
+pub record Front (f : List ℕ) : Type 0 where
+  pub least : 288 ≤ length f
+  pub most : length f ≤ 16777216
+  pub all : entriesRead f ≡ elementCount f
+  pub few : entriesRead f ≤ 16
+  pub tile : tileBytes f ≤ 1048576
+  pub tiles : tileCount f ≤ 65536
+
+pub front-of : (f : List ℕ) → checkFront f ≡ Accepted → Front f
+unfolding withinCeilings entriesRead
+front-of f e =
+    let r = rules-of f e in
+    let w = means _ (r .ceilings) in
+    let n : elementCount f ≤ 16 = w .1 .1 .1 .0 in
+    record {
+      least = omega (arith, header-long f (length f) (r .header), r .no-more);
+      most = w .0;
+      all = omega arith;
+      few = omega arith;
+      tile = w .1 .1 .1 .1 .0;
+      tiles = w .1 .1 .0;
+    }
+
+module _ (f : List ℕ) (w : Front f) where
+  -- U of an element, as it is and as it is read
+  pub size-small : (e : ℕ) → e < entriesRead f → elementBytes f e ≤ 1048576
+  size-small e h = omega (arith, element-within f (w .all) e (omega (arith, w .all)), w .tile)
+
+  pub size-exact : (e x : ℕ) → x ≡ min (elementBytes f e) cap → e < entriesRead f → x ≡ elementBytes f e
+  size-exact e x p h = omega (arith, size-small e h)
+
+  pub tile-exact : (x : ℕ) → x ≡ min (tileBytes f) cap → x ≡ tileBytes f
+  tile-exact x p = omega (arith, w .tile)
+
+  -- a tile record's length, an element more at a time
+
+  pub stored-small : (e : ℕ) → e ≤ entriesRead f → storedBefore f e ≤ 1048688
+  unfolding tileBytes
+  stored-small e h =
+      let a = sum-stored (entriesRead f) (elementBytes f) in
+      let b = sum-within (entriesRead f) (λ d. storedSize (elementBytes f d)) e h in
+      omega (arith, a, b, w .tile, w .few)
+
+  pub stored-more :
+      (e u r sum : ℕ) → u ≡ min (elementBytes f e) cap → r ≡ storedSize u → sum ≡ storedBefore f e → e < entriesRead f →
+      sum + r ≡ storedBefore f (e + 1)
+  stored-more e u r sum p q s h =
+      let a : storedSize u ≡ storedSize (elementBytes f e) = ap storedSize (size-exact e u p h) in
+      omega (arith, a, sum-more e (λ d. storedSize (elementBytes f d)))
+
+  pub plain-counted :
+      (e n r sum : ℕ) → n ≡ entriesRead f → e ≤ n → n ≤ e → sum ≡ storedBefore f e → r ≡ leastLength (12 + sum) →
+      r ≡ plainTileLength f
+  unfolding plainTileLength tileLength
+  plain-counted e n r sum p h k q s = let x : e ≡ entriesRead f = omega arith in s ∙ rw (q, x)
+
+  -- no sum of lengths is too large
+
+  pub plain-small : plainTileLength f ≤ 1048711
+  plain-small = omega (arith, plain-most f, w .tile, w .few)
+
+  pub records-small : (k : ℕ) → k ≤ 65536 → k * plainTileLength f ≤ 68728324096
+  records-small k h = let a : k * plainTileLength f ≤ 65536 * 1048711 = mul-le-mul h plain-small in omega arith
+
+  pub directory-small : recordLength (24 + 4 * tileCount f) ≤ 262187
+  unfolding recordLength leastLength
+  directory-small = omega (arith, w .tiles)
+
+-- the directory's length
+pub directory-is : (f : List ℕ) (n r : ℕ) → n ≡ tileCount f → r ≡ leastLength (32 + 4 * n) → r ≡ recordLength (24 + 4 * tileCount f)
+unfolding recordLength
+directory-is f n r p q = let e : 32 + 4 * n ≡ 8 + (24 + 4 * tileCount f) = omega arith in q ∙ ap leastLength e
+
+-- the elements' sizes, one more at a time
+pub sizes-more :
+    (f us : List ℕ) (e u : ℕ) → u ≡ elementBytes f e → e < length us → ((d : ℕ) → d < e → getD us d 0 ≡ elementBytes f d) →
+    (d : ℕ) → d < e + 1 → getD (set us e u) d 0 ≡ elementBytes f d
+sizes-more f us e u p h r d k =
+    by-cases (decLe (d + 1) e) (λ m. getD-set-other us e d u 0 (λ q. absurd (omega arith)) ∙ r d (omega arith))
+    (λ m. let q : d ≡ e = omega arith in rw q (getD-set-same us e u 0 h ∙ p))
