@@ -6,11 +6,11 @@ use mathlib.Core.Logic.{_⊎_, inl, inr, ⊎-elim, by-cases}
 use mathlib.Core.Bool.{Bool, true, false}
 use native.Mathlib.Decide.{decLe}
 use native.Mathlib.Omega.{arith}
-use native.Mathlib.Nat.{div-add-mod', mod-lt, mul-le-mul-right, div-lt-iff-lt-mul}
+use native.Mathlib.Nat.{div-add-mod', mod-lt, div-lt-iff-lt-mul}
 use borrow.Author.Tests.{le-leb}
 use Rattle.wire.specs.Bytes.{u32At}
 use Rattle.wire.proofs.TestLaws.{means, fails}
-use Rattle.wire.proofs.ItemLaws.{advance-more, advance-mono, advance-grows}
+use Rattle.wire.proofs.ItemLaws.{advance-more, advance-mono, advance-grows, item-within}
 use Rattle.answer.specs.declared.Refusal.{Refusal}
 use Rattle.answer.specs.declared.Value.{Value}
 use Rattle.answer.specs.declared.Cell.the-variants.{Stored, Fill, Refused}
@@ -34,11 +34,7 @@ use Rattle.cells.specs.TileCells.{carries, packed, offsetIn, placeIn, st
 use Rattle.cells.specs.Meaning.{recordsWith, meaning}
 use Rattle.cells.specs.Demand3.{bytesOfCell}
 
--- items of one size, by their numbers
-
-pub item-within : (n k z : ℕ) → k < n → k * z + z ≤ n * z
-item-within n k z h = let m : (k + 1) * z ≤ n * z = mul-le-mul-right z (omega arith) in omega arith
-
+-- two items of one size are one, or share nothing
 pub items-apart : (j k z : ℕ) → (j ≡ k) ⊎ ((j * z + z ≤ k * z) ⊎ (k * z + z ≤ j * z))
 items-apart j k z =
     by-cases (decLe (j + 1) k) (λ h. inr (inl (item-within k j z (omega arith))))

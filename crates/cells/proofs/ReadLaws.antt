@@ -34,7 +34,7 @@ use Rattle.check_header.specs.Ceilings.{sidesWithin, withinCeilings}
 use Rattle.check_records.specs.Chain.{records}
 use Rattle.check_records.specs.TileBody.{sectionLength, elementContentAt}
 use Rattle.directory.specs.Lists.{recordsOf}
-use Rattle.directory.specs.TileDirectory.{tileReference}
+use Rattle.directory.specs.TileDirectory.{referenceFrom, tileDirectoryAt, tileReference}
 use Rattle.directory.specs.Correspondence.{TileRecord, OneToOne}
 use Rattle.directory.proofs.MemberLaws.{of-type}
 use Rattle.answer.specs.Refusals.{after}
@@ -47,8 +47,8 @@ use Rattle.page_check.proofs.GivenLaws.{obeys-one, obeys-tile}
 use Rattle.cells.specs.Asked.{inGrid, inTiles}
 use Rattle.cells.specs.TileCells.{carries, packed, cellIn, fillOf, contentIn, sidesLawful, withinReach, cellWithin, contentWithin}
 use Rattle.cells.specs.Meaning.{recordsWith, meaning, contentMeaning}
-use Rattle.cells.specs.DirectoryRoute.{referredCell, directoryCell, referredContent, directoryContent, lookedInside, lookedUp, lookedUpContent}
-use Rattle.cells.specs.Walk.{walkedTo, found, walkCell}
+use Rattle.cells.specs.DirectoryRoute.{referredCell, directoryCell, referredContent, directoryContent, lookedInside, lookedFrom, lookedUp, lookedUpContent}
+use Rattle.cells.specs.Walk.{walkedTo, found, walkCell, walkedCell}
 use Rattle.cells.specs.Reads.{unlessRefused, contentUnless, readByDirectory, readByWalk, readByRecords, readMeaning, recordsMeaning, readContent}
 use Rattle.cells.specs.Demand3.{bytesOfCell, OneAnswer, Demand3, ContentInside}
 use Rattle.cells.proofs.CellLaws.{sides-mean, reach-is, grid-means, tiles-mean}
@@ -57,53 +57,58 @@ use Rattle.cells.proofs.ApartLaws.{content-extent, carries-tile, stored
 
 -- what a look-up answers, by its tests
 
-module _ (s : List ℕ) (row column e : ℕ) (b : Bool) (p : b ≡ sidesLawful s) where
-  pub looked-unlawful : b ≡ false → cell.Refused Directory ≡ lookedInside s row column e
+module _ (s : List ℕ) (at row column e : ℕ) (b : Bool) (p : b ≡ sidesLawful s) where
+  pub looked-unlawful : b ≡ false → cell.Refused Directory ≡ lookedInside s at row column e
   unfolding lookedInside
   looked-unlawful f = rw (← p, f)
 
-  module _ (f : b ≡ true) (r : ℕ) (q : r ≡ tileReference s (cellTile s row column)) (x : Cell) where
-    pub looked-fill : r ≡ 0 → x ≡ fillOf s e → x ≡ lookedInside s row column e
+  module _ (f : b ≡ true) (r : ℕ) (q : r ≡ referenceFrom s at (cellTile s row column)) (x : Cell) where
+    pub looked-fill : r ≡ 0 → x ≡ fillOf s e → x ≡ lookedInside s at row column e
     unfolding lookedInside
     looked-fill z g = rw (← p, f, ← q, z) g
 
-    pub looked-cell : (d : ℕ) → (r ≡ 0 → ⊥) → d ≡ r - 8 → x ≡ cellWithin s d row column e → x ≡ lookedInside s row column e
+    pub looked-cell : (d : ℕ) → (r ≡ 0 → ⊥) → d ≡ r - 8 → x ≡ cellWithin s d row column e → x ≡ lookedInside s at row column e
     unfolding lookedInside
     looked-cell d z g h = rw (← p, f, ← q, ne-eqb r 0 z, ← g) h
 
-module _ (s : List ℕ) (row column e : ℕ) (b : Bool) (p : b ≡ inGrid s row column e) where
-  pub up-inside : (x : Cell) → b ≡ true → x ≡ lookedInside s row column e → x ≡ lookedUp s row column e
-  unfolding lookedUp
+module _ (s : List ℕ) (at row column e : ℕ) (b : Bool) (p : b ≡ inGrid s row column e) where
+  pub up-inside : (x : Cell) → b ≡ true → x ≡ lookedInside s at row column e → x ≡ lookedFrom s at row column e
+  unfolding lookedFrom
   up-inside x f g = rw (← p, f) g
 
-  pub up-outside : b ≡ false → cell.Refused OutsideGrid ≡ lookedUp s row column e
-  unfolding lookedUp
+  pub up-outside : b ≡ false → cell.Refused OutsideGrid ≡ lookedFrom s at row column e
+  unfolding lookedFrom
   up-outside f = rw (← p, f)
 
-  pub walk-in : (x : Cell) → b ≡ true → x ≡ found s row column e (walkedTo s (cellTile s row column)) → x ≡ walkCell s row column e
-  unfolding walkCell
-  walk-in x f g = rw (← p, f) g
-
-  pub walk-out : b ≡ false → cell.Refused OutsideGrid ≡ walkCell s row column e
-  unfolding walkCell
+  pub walk-out : b ≡ false → cell.Refused OutsideGrid ≡ walkedCell s at row column e
+  unfolding walkedCell
   walk-out f = rw (← p, f)
 
-module _ (s : List ℕ) (tile e : ℕ) (a : Bool) (q : a ≡ inTiles s tile e) where
-  pub content-outside : a ≡ false → content.Refused OutsideGrid ≡ lookedUpContent s tile e
+  module _ (c : Bool) (q : c ≡ sidesLawful s) (f : b ≡ true) where
+    pub walk-unlawful : c ≡ false → cell.Refused Directory ≡ walkedCell s at row column e
+    unfolding walkedCell
+    walk-unlawful g = rw (← p, f, ← q, g)
+
+    pub walk-in : (x : Cell) → c ≡ true → x ≡ found s row column e (walkedTo s at (cellTile s row column)) → x ≡ walkedCell s at row column e
+    unfolding walkedCell
+    walk-in x g h = rw (← p, f, ← q, g) h
+
+module _ (s : List ℕ) (at tile e : ℕ) (a : Bool) (q : a ≡ inTiles s tile e) where
+  pub content-outside : a ≡ false → content.Refused OutsideGrid ≡ lookedUpContent s at tile e
   unfolding lookedUpContent
   content-outside f = rw (← q, f)
 
   module _ (b : Bool) (p : b ≡ sidesLawful s) (f : a ≡ true) where
-    pub content-unlawful : b ≡ false → content.Refused Directory ≡ lookedUpContent s tile e
+    pub content-unlawful : b ≡ false → content.Refused Directory ≡ lookedUpContent s at tile e
     unfolding lookedUpContent
     content-unlawful g = rw (← q, f, ← p, g)
 
-    module _ (g : b ≡ true) (r : ℕ) (t : r ≡ tileReference s tile) where
-      pub content-absent : r ≡ 0 → content.Absent ≡ lookedUpContent s tile e
+    module _ (g : b ≡ true) (r : ℕ) (t : r ≡ referenceFrom s at tile) where
+      pub content-absent : r ≡ 0 → content.Absent ≡ lookedUpContent s at tile e
       unfolding lookedUpContent
       content-absent z = rw (← q, f, ← p, g, ← t, z)
 
-      pub content-given : (d : ℕ) (x : Content) → (r ≡ 0 → ⊥) → d ≡ r - 8 → x ≡ contentWithin s d e → x ≡ lookedUpContent s tile e
+      pub content-given : (d : ℕ) (x : Content) → (r ≡ 0 → ⊥) → d ≡ r - 8 → x ≡ contentWithin s d e → x ≡ lookedUpContent s at tile e
       unfolding lookedUpContent
       content-given d x z h k = rw (← q, f, ← p, g, ← t, ne-eqb r 0 z, ← h) k
 
@@ -140,9 +145,9 @@ found-member p (y ∷ ys) {x} e = go (p y) e (λ f. found-member p ys f)
     go true f r = List·Memᴰ·head (sym (at-one f))
     go false f r = List·Memᴰ·tail (r f)
 
-walked-inside : (s : List ℕ) (i x : ℕ) → walkedTo s i ≡ At x → x < length s
+walked-inside : (s : List ℕ) (at i x : ℕ) → walkedTo s at i ≡ At x → x < length s
 unfolding walkedTo firstRecord
-walked-inside s i x e = starts-inside (length s) s (headerEnd s) (omega arith) (found-member (carries s i) (starts s (headerEnd s)) e)
+walked-inside s at i x e = starts-inside (length s) s at (omega arith) (found-member (carries s i) (starts s at) e)
 
 -- a cell that can be reached
 reached : (s : List ℕ) (x row column e : ℕ) → x < length s → sidesLawful s ≡ true → cellWithin s x row column e ≡ cellIn s x row column e
@@ -153,18 +158,28 @@ content-reach : (s : List ℕ) (x e : ℕ) → x < length s → sidesLawful s �
 unfolding contentWithin
 content-reach s x e h l = rw (← reach-is s x true h (sym l))
 
-module _ (s : List ℕ) (row column e i : ℕ) (f : Found) (t : i ≡ cellTile s row column) (p : f ≡ walkedTo s i) (r : Cell) where
-  pub walk-found : (x : ℕ) → sidesLawful s ≡ true → f ≡ At x → r ≡ cellWithin s x row column e → r ≡ found s row column e (walkedTo s (cellTile s row column))
+module _ (s : List ℕ) (at row column e i : ℕ) (f : Found) (t : i ≡ cellTile s row column) (p : f ≡ walkedTo s at i) (r : Cell) where
+  pub walk-found : (x : ℕ) → sidesLawful s ≡ true → f ≡ At x → r ≡ cellWithin s x row column e → r ≡ found s row column e (walkedTo s at (cellTile s row column))
   unfolding found
   walk-found x l g h =
-      let w : walkedTo s (cellTile s row column) ≡ At x = ap (walkedTo s) (sym t) ∙ sym p ∙ g in
-      rw w (h ∙ reached s x row column e (walked-inside s (cellTile s row column) x w) l)
+      let w : walkedTo s at (cellTile s row column) ≡ At x = ap (walkedTo s at) (sym t) ∙ sym p ∙ g in
+      rw w (h ∙ reached s x row column e (walked-inside s at (cellTile s row column) x w) l)
 
-  pub walk-none : f ≡ Nothing → r ≡ fillOf s e → r ≡ found s row column e (walkedTo s (cellTile s row column))
+  pub walk-none : f ≡ Nothing → r ≡ fillOf s e → r ≡ found s row column e (walkedTo s at (cellTile s row column))
   unfolding found
   walk-none g h =
-      let w : walkedTo s (cellTile s row column) ≡ Nothing = ap (walkedTo s) (sym t) ∙ sym p ∙ g in
+      let w : walkedTo s at (cellTile s row column) ≡ Nothing = ap (walkedTo s at) (sym t) ∙ sym p ∙ g in
       rw w h
+
+-- where the sides are lawful nothing else is said
+pub walked-lawful : (s : List ℕ) (at row column e : ℕ) → sidesLawful s ≡ true → walkedCell s at row column e ≡ walkCell s at row column e
+unfolding walkedCell walkCell
+walked-lawful s at row column e l = rw l
+
+walked-own :
+    (s : List ℕ) (at row column e : ℕ) (x : Cell) → sidesLawful s ≡ true → at ≡ headerEnd s → x ≡ walkedCell s at row column e →
+    x ≡ walkCell s (headerEnd s) row column e
+walked-own s at row column e x l h g = g ∙ walked-lawful s at row column e l ∙ rw h
 
 -- lawful sides, from the check
 
@@ -201,7 +216,7 @@ module _ (s : List ℕ) (o : Obeys s) where
       let g = grid-means s row column e f in
       tile-less s row column (omega (arith, d .tile-rows .0)) (omega (arith, d .tile-columns .0)) (g .0) (g .1 .0)
 
-  looked-referred : (row column e : ℕ) → cellTile s row column < tileCount s → lookedInside s row column e ≡ referredCell s row column e
+  looked-referred : (row column e : ℕ) → cellTile s row column < tileCount s → lookedInside s (tileDirectoryAt s) row column e ≡ referredCell s (tileDirectoryAt s) row column e
   unfolding lookedInside referredCell
   looked-referred row column e h = rw (obeys-lawful s o) (go (eqb (tileReference s (cellTile s row column)) 0) refl)
     where
@@ -212,22 +227,22 @@ module _ (s : List ℕ) (o : Obeys s) where
       go true f = refl
       go false f = reached s _ row column e (referred-inside (cellTile s row column) h (eqb-false _ _ f)) (obeys-lawful s o)
 
-  looked-directory : (row column e : ℕ) → lookedUp s row column e ≡ directoryCell s row column e
-  unfolding lookedUp directoryCell
+  looked-directory : (row column e : ℕ) → lookedUp s row column e ≡ directoryCell s (tileDirectoryAt s) row column e
+  unfolding lookedFrom directoryCell
   looked-directory row column e = go (inGrid s row column e) refl
     where
       go :
           (b : Bool) → inGrid s row column e ≡ b →
-          pick b (lookedInside s row column e) (cell.Refused OutsideGrid) ≡ pick b (referredCell s row column e) (cell.Refused OutsideGrid)
+          pick b (lookedInside s (tileDirectoryAt s) row column e) (cell.Refused OutsideGrid) ≡ pick b (referredCell s (tileDirectoryAt s) row column e) (cell.Refused OutsideGrid)
       go true f = looked-referred row column e (grid-tile row column e f)
       go false f = refl
 
-  routes-one : (row column e : ℕ) → directoryCell s row column e ≡ meaning s row column e
+  routes-one : (row column e : ℕ) → directoryCell s (tileDirectoryAt s) row column e ≡ meaning s row column e
   routes-one row column e =
       let d = sides-mean s (obeys-lawful s o) in
       directory-means s correspond (omega (arith, d .tile-rows .0)) (omega (arith, d .tile-columns .0)) row column e
 
-  looked-content : (tile e : ℕ) → lookedUpContent s tile e ≡ directoryContent s tile e
+  looked-content : (tile e : ℕ) → lookedUpContent s (tileDirectoryAt s) tile e ≡ directoryContent s (tileDirectoryAt s) tile e
   unfolding lookedUpContent directoryContent referredContent
   looked-content tile e = go (inTiles s tile e) refl
     where
@@ -247,10 +262,12 @@ module _ (s : List ℕ) (o : Obeys s) where
       go true f = rw (obeys-lawful s o) (by (eqb (tileReference s tile) 0) refl (tiles-mean s tile e f .0))
       go false f = refl
 
-pub looked-means : (s : List ℕ) (row column e : ℕ) (x : Cell) → x ≡ lookedUp s row column e → check s ≡ Accepted → x ≡ meaning s row column e
-looked-means s row column e x p a =
-    let o = accepted-obeys s a in
-    p ∙ looked-directory s o row column e ∙ routes-one s o row column e
+pub looked-means :
+    (s : List ℕ) (at row column e : ℕ) (x : Cell) → x ≡ lookedFrom s at row column e → at ≡ tileDirectoryAt s →
+    (x ≡ lookedUp s row column e) × (check s ≡ Accepted → x ≡ meaning s row column e)
+looked-means s at row column e x p q =
+    let u : x ≡ lookedUp s row column e = p ∙ rw q in
+    (u, λ a. let o = accepted-obeys s a in u ∙ looked-directory s o row column e ∙ routes-one s o row column e)
 
 -- the reads
 
@@ -271,21 +288,23 @@ module _ (s : List ℕ) (v : Verdict) (p : v ≡ check s) where
     unfolding readByWalk readMeaning unlessRefused
     walk-refused x f = (rw (← p, f), rw (← p, f))
 
-    pub walk-answers : (x : Cell) → v ≡ Accepted → x ≡ walkCell s row column e → (x ≡ readByWalk s row column e) × (x ≡ readMeaning s row column e)
+    pub walk-answers : (at : ℕ) (x : Cell) → v ≡ Accepted → at ≡ headerEnd s → x ≡ walkedCell s at row column e → (x ≡ readByWalk s row column e) × (x ≡ readMeaning s row column e)
     unfolding readByWalk readMeaning unlessRefused
-    walk-answers x f g = (rw (← p, f) g, rw (← p, f) (g ∙ walk-means s row column e))
+    walk-answers at x f h g =
+        let w = walked-own s at row column e x (check-lawful s v p f) h g in
+        (rw (← p, f) w, rw (← p, f) (w ∙ walk-means s row column e))
 
   module _ (tile e : ℕ) where
     pub content-refused : (x : Refusal) → v ≡ Refused x → content.Refused x ≡ readContent s tile e
     unfolding readContent contentUnless
     content-refused x f = rw (← p, f)
 
-    pub content-answers : (x : Content) → v ≡ Accepted → x ≡ lookedUpContent s tile e → x ≡ readContent s tile e
+    pub content-answers : (at : ℕ) (x : Content) → v ≡ Accepted → at ≡ tileDirectoryAt s → x ≡ lookedUpContent s at tile e → x ≡ readContent s tile e
     unfolding readContent contentUnless
-    content-answers x f g =
+    content-answers at x f h g =
         let a : check s ≡ Accepted = sym p ∙ f in
         let o = accepted-obeys s a in
-        rw a (g ∙ looked-content s o tile e ∙ content-means s (correspond s o) tile e)
+        rw a (g ∙ rw h (looked-content s o tile e) ∙ content-means s (correspond s o) tile e)
 
 bodies-passed : (s : List ℕ) → check s ≡ Accepted → checkToBodies s ≡ Accepted
 bodies-passed s a = after-passed _ _ (sym (bodies-then s) ∙ a) .0
@@ -299,9 +318,11 @@ module _ (s : List ℕ) (v : Verdict) (p : v ≡ checkToBodies s) (row column e 
   unfolding readByRecords recordsMeaning unlessRefused
   records-refused x f = (rw (← p, f), rw (← p, f))
 
-  pub records-answer : (x : Cell) → v ≡ Accepted → x ≡ walkCell s row column e → (x ≡ readByRecords s row column e) × (x ≡ recordsMeaning s row column e)
+  pub records-answer : (at : ℕ) (x : Cell) → v ≡ Accepted → at ≡ headerEnd s → x ≡ walkedCell s at row column e → (x ≡ readByRecords s row column e) × (x ≡ recordsMeaning s row column e)
   unfolding readByRecords recordsMeaning unlessRefused
-  records-answer x f g = (rw (← p, f) g, rw (← p, f) (g ∙ walk-means s row column e))
+  records-answer at x f h g =
+      let w = walked-own s at row column e x (bodies-lawful s v p f) h g in
+      (rw (← p, f) w, rw (← p, f) (w ∙ walk-means s row column e))
 
 -- each read is the check's refusal or the meaning, on any bytes
 
@@ -311,7 +332,7 @@ module _ (s : List ℕ) (row column e : ℕ) where
   directory-read = go (check s) refl
     where
       go :
-          (v : Verdict) → check s ≡ v → unlessRefused v (directoryCell s row column e) ≡ unlessRefused v (meaning s row column e)
+          (v : Verdict) → check s ≡ v → unlessRefused v (directoryCell s (tileDirectoryAt s) row column e) ≡ unlessRefused v (meaning s row column e)
       go Accepted f = routes-one s (accepted-obeys s f) row column e
       go (Refused r) f = refl
 
@@ -322,6 +343,15 @@ module _ (s : List ℕ) (row column e : ℕ) where
   pub records-read : readByRecords s row column e ≡ recordsMeaning s row column e
   unfolding readByRecords recordsMeaning
   records-read = rw (walk-means s row column e)
+
+pub content-read : (s : List ℕ) (tile e : ℕ) → contentUnless (check s) (directoryContent s (tileDirectoryAt s) tile e) ≡ readContent s tile e
+unfolding readContent contentUnless
+content-read s tile e = go (check s) refl
+  where
+    go :
+        (v : Verdict) → check s ≡ v → contentUnless v (directoryContent s (tileDirectoryAt s) tile e) ≡ contentUnless v (contentMeaning s tile e)
+    go Accepted f = let o = accepted-obeys s f in content-means s (correspond s o) tile e
+    go (Refused r) f = refl
 
 -- what is stored lies in the file
 
@@ -384,11 +414,11 @@ demand-3 s a =
 
 -- an element's content as a part of the file
 pub part-is :
-    (s l : List ℕ) (tile e a n : ℕ) (x : Content) → x ≡ readContent s tile e → a ≡ contentPlace x → n ≡ contentLength x → l ≡ part s a n →
-    l ≡ part s (contentPlace (readContent s tile e)) (contentLength (readContent s tile e))
-part-is s l tile e a n x p q t f = f ∙ rw (q, t, p)
+    (s l : List ℕ) (a n : ℕ) (x y : Content) → x ≡ y → a ≡ contentPlace x → n ≡ contentLength x → l ≡ part s a n →
+    l ≡ part s (contentPlace y) (contentLength y)
+part-is s l a n x y p q t f = f ∙ rw (q, t, p)
 
 pub offset-at :
-    (s : List ℕ) (tile e a n o b : ℕ) (x : Content) → x ≡ readContent s tile e → a ≡ contentPlace x → n ≡ contentLength x → o ≡ b + partAt s a n →
-    o ≡ b + partAt s (contentPlace (readContent s tile e)) (contentLength (readContent s tile e))
-offset-at s tile e a n o b x p q t f = f ∙ rw (q, t, p)
+    (s : List ℕ) (a n o b : ℕ) (x y : Content) → x ≡ y → a ≡ contentPlace x → n ≡ contentLength x → o ≡ b + partAt s a n →
+    o ≡ b + partAt s (contentPlace y) (contentLength y)
+offset-at s a n o b x y p q t f = f ∙ rw (q, t, p)

@@ -27,7 +27,7 @@ use Rattle.check_header.specs.Ceilings.{sidesWithin, withinCeilings}
 use Rattle.check_records.specs.Chain.{records}
 use Rattle.check_records.specs.TileBody.{tileIndex}
 use Rattle.directory.specs.Lists.{select, recordsOf}
-use Rattle.directory.specs.TileDirectory.{tileReference}
+use Rattle.directory.specs.TileDirectory.{tileDirectoryAt, tileReference}
 use Rattle.directory.specs.Correspondence.{TileRecord, OneToOne}
 use Rattle.directory.proofs.OnlyLaws.{grid-less}
 use Rattle.directory.proofs.MemberLaws.{member-select, of-type}
@@ -53,7 +53,7 @@ first-selected s row column e p (x ∷ xs) = go (p x) (first-selected s row colu
     go true r = refl
     go false r = r
 
-pub walk-means : (s : List ℕ) (row column e : ℕ) → walkCell s row column e ≡ meaning s row column e
+pub walk-means : (s : List ℕ) (row column e : ℕ) → walkCell s (headerEnd s) row column e ≡ meaning s row column e
 unfolding walkCell meaning walkedTo firstRecord recordsWith records
 walk-means s row column e = rw (first-selected s row column e (carries s (cellTile s row column)) (starts s (headerEnd s)))
 
@@ -115,7 +115,7 @@ module _ (s : List ℕ) (o : OneToOne s) (i : ℕ) (h : i < tileCount s) where
 -- so for a cell, and for an element's content
 
 module _ (s : List ℕ) (o : OneToOne s) (row column e : ℕ) (h : cellTile s row column < tileCount s) where
-  pub referred-decided : referredCell s row column e ≡ decided s row column e (recordsWith s (cellTile s row column))
+  pub referred-decided : referredCell s (tileDirectoryAt s) row column e ≡ decided s row column e (recordsWith s (cellTile s row column))
   unfolding referredCell
   referred-decided = go (eqb (tileReference s (cellTile s row column)) 0) refl
     where
@@ -129,7 +129,7 @@ module _ (s : List ℕ) (o : OneToOne s) (row column e : ℕ) (h : cellTile s ro
           (λ x xs g q. rw (f, g) (ap (λ (y : ℕ). cellIn s y row column e) (sym q)))
 
 module _ (s : List ℕ) (o : OneToOne s) (tile e : ℕ) (h : tile < tileCount s) where
-  pub content-decided : referredContent s tile e ≡ contentDecided s e (recordsWith s tile)
+  pub content-decided : referredContent s (tileDirectoryAt s) tile e ≡ contentDecided s e (recordsWith s tile)
   unfolding referredContent
   content-decided = go (eqb (tileReference s tile) 0) refl
     where
@@ -140,25 +140,25 @@ module _ (s : List ℕ) (o : OneToOne s) (tile e : ℕ) (h : tile < tileCount s)
       go false f = first-with s o tile h (eqb-false _ _ f) (λ x xs g q. rw (f, g) (ap (λ (y : ℕ). contentIn s y e) (sym q)))
 
 module _ (s : List ℕ) (o : OneToOne s) (h : 0 < tileRows s) (w : 0 < tileColumns s) where
-  pub directory-means : (row column e : ℕ) → directoryCell s row column e ≡ meaning s row column e
+  pub directory-means : (row column e : ℕ) → directoryCell s (tileDirectoryAt s) row column e ≡ meaning s row column e
   unfolding directoryCell meaning
   directory-means row column e = go (inGrid s row column e) refl
     where
       go :
           (b : Bool) → inGrid s row column e ≡ b →
-          pick b (referredCell s row column e) (cell.Refused OutsideGrid)
+          pick b (referredCell s (tileDirectoryAt s) row column e) (cell.Refused OutsideGrid)
           ≡ pick b (decided s row column e (recordsWith s (cellTile s row column))) (cell.Refused OutsideGrid)
       go true f =
           let g = grid-means s row column e f in
           referred-decided s o row column e (tile-less s row column h w (g .0) (g .1 .0))
       go false f = refl
 
-pub content-means : (s : List ℕ) → OneToOne s → (tile e : ℕ) → directoryContent s tile e ≡ contentMeaning s tile e
+pub content-means : (s : List ℕ) → OneToOne s → (tile e : ℕ) → directoryContent s (tileDirectoryAt s) tile e ≡ contentMeaning s tile e
 unfolding directoryContent contentMeaning
 content-means s o tile e = go (inTiles s tile e) refl
   where
     go :
         (b : Bool) → inTiles s tile e ≡ b →
-        pick b (referredContent s tile e) (content.Refused OutsideGrid) ≡ pick b (contentDecided s e (recordsWith s tile)) (content.Refused OutsideGrid)
+        pick b (referredContent s (tileDirectoryAt s) tile e) (content.Refused OutsideGrid) ≡ pick b (contentDecided s e (recordsWith s tile)) (content.Refused OutsideGrid)
     go true f = content-decided s o tile e (tiles-mean s tile e f .0)
     go false f = refl

@@ -7,9 +7,11 @@ use Rattle.answer.specs.declared.Cell.{Cell}
 use Rattle.answer.specs.declared.Cell.the-variants as cell
 use Rattle.answer.specs.declared.Content.{Content}
 use Rattle.answer.specs.declared.Content.the-variants as content
+use Rattle.header.specs.Fields.{headerEnd}
+use Rattle.directory.specs.TileDirectory.{tileDirectoryAt}
 use Rattle.page_check.specs.Stages.{check, checkToBodies}
 use Rattle.cells.specs.Meaning.{meaning, contentMeaning}
-use Rattle.cells.specs.DirectoryRoute.{directoryCell, directoryContent}
+use Rattle.cells.specs.DirectoryRoute.{directoryCell}
 use Rattle.cells.specs.Walk.{walkCell}
 
 -- a check's refusal, or the answer behind it
@@ -23,13 +25,13 @@ contentUnless (verdict.Refused r) x = content.Refused r
 
 -- the read through the directory, by the walk, and by the walk without stage 9
 unfoldable pub readByDirectory : List ℕ → ℕ → ℕ → ℕ → Cell
-readByDirectory s row column e = unlessRefused (check s) (directoryCell s row column e)
+readByDirectory s row column e = unlessRefused (check s) (directoryCell s (tileDirectoryAt s) row column e)
 
 unfoldable pub readByWalk : List ℕ → ℕ → ℕ → ℕ → Cell
-readByWalk s row column e = unlessRefused (check s) (walkCell s row column e)
+readByWalk s row column e = unlessRefused (check s) (walkCell s (headerEnd s) row column e)
 
 unfoldable pub readByRecords : List ℕ → ℕ → ℕ → ℕ → Cell
-readByRecords s row column e = unlessRefused (checkToBodies s) (walkCell s row column e)
+readByRecords s row column e = unlessRefused (checkToBodies s) (walkCell s (headerEnd s) row column e)
 
 -- the check's refusal or the meaning
 unfoldable pub readMeaning : List ℕ → ℕ → ℕ → ℕ → Cell

@@ -9,6 +9,7 @@ use answer::Verdict;
 use directory::entries;
 use directory::tile_directory;
 use geometry::tiles;
+use header::fields;
 use record::Found;
 ghost use mathlib.Core.Path.{_≡_};
 ghost use mathlib.Core.Bool.{true};
@@ -18,29 +19,29 @@ ghost use Rattle.answer.specs.Answers.{contentPlace, contentLength};
 ghost use Rattle.answer.specs.declared.Verdict.the-variants.{Accepted};
 ghost use Rattle.header.specs.Fields.{gridRows, gridColumns};
 ghost use Rattle.geometry.specs.Tiles.{cellTile};
-ghost use Rattle.directory.specs.TileDirectory.{tileReference};
+ghost use Rattle.directory.specs.TileDirectory.{referenceFrom};
 ghost use Rattle.page_check.specs.Stages.{check};
 ghost use Rattle.cells.specs.Meaning.{meaning};
 ghost use Rattle.cells.specs.TileCells.{sidesLawful};
-ghost use Rattle.cells.specs.DirectoryRoute.{lookedInside, lookedUp, lookedUpContent};
-ghost use Rattle.cells.specs.Walk.{walkedTo, found, walkCell};
+ghost use Rattle.cells.specs.DirectoryRoute.{lookedInside, lookedFrom, lookedUp, lookedUpContent};
+ghost use Rattle.cells.specs.Walk.{walkedTo, found, walkedCell};
 ghost use Rattle.cells.specs.Reads.{readByDirectory, readByWalk, readByRecords, readMeaning, recordsMeaning, readContent};
 
-// What the directory gives for the tile of a cell of the grid.
-fn cell_reference(s: &[u8], row: u32, column: u32) -> u64
+// What the directory at a position gives for the tile of a cell of the grid.
+fn cell_reference(s: &[u8], at: usize, row: u32, column: u32) -> u64
     requires { ⌜ (sidesLawful (now s) ≡ true) × ((row < gridRows (now s)) × (column < gridColumns (now s))) ⌝ }
-    ensures { λ r. ⌜ r ≡ tileReference (now (s .entry)) (cellTile (now (s .entry)) row column) ⌝ }
+    ensures { λ r. ⌜ r ≡ referenceFrom (now (s .entry)) at (cellTile (now (s .entry)) row column) ⌝ }
 {
-    tile_directory::tile_reference(s, tiles::cell_tile(s, row, column) as u32)
+    tile_directory::reference_from(s, at, tiles::cell_tile(s, row, column) as u32)
 }
 
 // A cell of the grid by the directory, without the check.
-fn look_up(s: &[u8], row: u32, column: u32, e: u32) -> Cell
+fn look_up(s: &[u8], at: usize, row: u32, column: u32, e: u32) -> Cell
     requires { ⌜ (row < gridRows (now s)) × (column < gridColumns (now s)) ⌝ }
-    ensures { λ r. ⌜ r ≡ lookedInside (now (s .entry)) row column e ⌝ }
+    ensures { λ r. ⌜ r ≡ lookedInside (now (s .entry)) at row column e ⌝ }
 {
     if tile_cells::sides_lawful(s) {
-        let reference = cell_reference(s, row, column);
+        let reference = cell_reference(s, at, row, column);
         if reference == 0 {
             return tile_cells::fill_of(s, e);
         }
@@ -49,16 +50,23 @@ fn look_up(s: &[u8], row: u32, column: u32, e: u32) -> Cell
     Cell::Refused(Refusal::Directory)
 }
 
-// The cell by the directory, without the check. On an accepted file it is the cell's meaning; on other bytes it is what the
-// directory's entries give, believed as they stand; 9 where the sides are not lawful or a reference lies past the file.
+// The cell by the directory at a position, without the check: what its entries give, believed as they stand; 9 where the
+// sides are not lawful or a reference lies past the file.
+pub fn look_up_unchecked(s: &[u8], at: usize, row: u64, column: u64, e: u64) -> Cell
+    ensures { λ r. ⌜ r ≡ lookedFrom (now (s .entry)) at row column e ⌝ }
+{
+    if asked::in_grid(s, row, column, e) {
+        return look_up(s, at, row as u32, column as u32, e as u32);
+    }
+    Cell::Refused(Refusal::OutsideGrid)
+}
+
+// The same by the file's own directory. On an accepted file it is the cell's meaning.
 pub fn cell_of_accepted(s: &[u8], row: u64, column: u64, e: u64) -> Cell
     ensures looked { λ r. ⌜ r ≡ lookedUp (now (s .entry)) row column e ⌝ }
     ensures accepted { λ r. ⌜ (check (now (s .entry)) ≡ Accepted → r ≡ meaning (now (s .entry)) row column e) ⌝ }
 {
-    if asked::in_grid(s, row, column, e) {
-        return look_up(s, row as u32, column as u32, e as u32);
-    }
-    Cell::Refused(Refusal::OutsideGrid)
+    look_up_unchecked(s, tile_directory::tile_directory_at(s), row, column, e)
 }
 
 // The read through the tile directory.
@@ -72,23 +80,26 @@ pub fn read_by_directory(s: &[u8], row: u64, column: u64, e: u64) -> Cell
     }
 }
 
-// A cell of the grid by the walk.
-fn walk_inside(s: &[u8], row: u32, column: u32, e: u32) -> Cell
+// A cell of the grid by the walk from a position.
+fn walk_inside(s: &[u8], at: usize, row: u32, column: u32, e: u32) -> Cell
     requires { ⌜ sidesLawful (now s) ≡ true ⌝ }
-    ensures { λ r. ⌜ r ≡ found (now (s .entry)) row column e (walkedTo (now (s .entry)) (cellTile (now (s .entry)) row column)) ⌝ }
+    ensures { λ r. ⌜ r ≡ found (now (s .entry)) row column e (walkedTo (now (s .entry)) at (cellTile (now (s .entry)) row column)) ⌝ }
 {
-    match walk::walked_to(s, tiles::cell_tile(s, row, column)) {
+    match walk::walked_to(s, at, tiles::cell_tile(s, row, column)) {
         Found::At(x) => tile_cells::cell_within(s, x, row, column, e),
         Found::Nothing => tile_cells::fill_of(s, e),
     }
 }
 
-fn walk_cell(s: &[u8], row: u64, column: u64, e: u64) -> Cell
-    requires { ⌜ sidesLawful (now s) ≡ true ⌝ }
-    ensures { λ r. ⌜ r ≡ walkCell (now (s .entry)) row column e ⌝ }
+// The same for any cell and any bytes, without the check: 9 where the sides are not lawful.
+pub fn walk_unchecked(s: &[u8], at: usize, row: u64, column: u64, e: u64) -> Cell
+    ensures { λ r. ⌜ r ≡ walkedCell (now (s .entry)) at row column e ⌝ }
 {
     if asked::in_grid(s, row, column, e) {
-        return walk_inside(s, row as u32, column as u32, e as u32);
+        if tile_cells::sides_lawful(s) {
+            return walk_inside(s, at, row as u32, column as u32, e as u32);
+        }
+        return Cell::Refused(Refusal::Directory);
     }
     Cell::Refused(Refusal::OutsideGrid)
 }
@@ -100,7 +111,7 @@ pub fn read_by_walk(s: &[u8], row: u64, column: u64, e: u64) -> Cell
 {
     match page_check::check(s) {
         Verdict::Refused(r) => Cell::Refused(r),
-        Verdict::Accepted => walk_cell(s, row, column, e),
+        Verdict::Accepted => walk_unchecked(s, fields::header_end(s), row, column, e),
     }
 }
 
@@ -111,17 +122,17 @@ pub fn read_by_records(s: &[u8], row: u64, column: u64, e: u64) -> Cell
 {
     match page_check::check_to_bodies(s) {
         Verdict::Refused(r) => Cell::Refused(r),
-        Verdict::Accepted => walk_cell(s, row, column, e),
+        Verdict::Accepted => walk_unchecked(s, fields::header_end(s), row, column, e),
     }
 }
 
-// What the directory gives for a tile, and an element's content there, without the check.
-fn look_up_content(s: &[u8], tile: u64, e: u64) -> Content
-    ensures { λ r. ⌜ r ≡ lookedUpContent (now (s .entry)) tile e ⌝ }
+// What the directory at a position gives for a tile, and an element's content there, without the check.
+pub fn content_unchecked(s: &[u8], at: usize, tile: u64, e: u64) -> Content
+    ensures { λ r. ⌜ r ≡ lookedUpContent (now (s .entry)) at tile e ⌝ }
 {
     if asked::in_tiles(s, tile, e) {
         if tile_cells::sides_lawful(s) {
-            let reference = tile_directory::tile_reference(s, tile as u32);
+            let reference = tile_directory::reference_from(s, at, tile as u32);
             if reference == 0 {
                 return Content::Absent;
             }
@@ -138,7 +149,7 @@ pub fn content(s: &[u8], tile: u64, e: u64) -> Content
 {
     match page_check::check(s) {
         Verdict::Refused(r) => Content::Refused(r),
-        Verdict::Accepted => look_up_content(s, tile, e),
+        Verdict::Accepted => content_unchecked(s, tile_directory::tile_directory_at(s), tile, e),
     }
 }
 

@@ -1,5 +1,4 @@
 // The walk over the chain.
-use header::fields;
 use record::Cursor;
 use record::Found;
 use record::Step;
@@ -20,13 +19,11 @@ fn carries_index(s: &[u8], tile: u64, at: usize) -> bool
     true
 }
 
-// The first such record behind the header: the walk stops there.
-pub fn walked_to(s: &[u8], tile: u64) -> Found
-    ensures { λ r. ⌜ r ≡ walkedTo (now (s .entry)) tile ⌝ }
+// The first such record from a position on, where the header ends: the walk stops there.
+pub fn walked_to(s: &[u8], at: usize, tile: u64) -> Found
+    ensures { λ r. ⌜ r ≡ walkedTo (now (s .entry)) at tile ⌝ }
 {
-    let mut c = Cursor {
-        at: fields::header_end(s),
-    };
+    let mut c = Cursor { at };
     let start = 'walk: loop {
         match c.step(s) {
             Step::Record {

@@ -18,7 +18,7 @@ use Rattle.geometry.specs.Tiles.{tilesAcross, tilesDown, tileCount, tilesIn}
 use Rattle.check_records.specs.Chain.{records}
 use Rattle.check_records.specs.TileBody.{tileIndex}
 use Rattle.directory.specs.Lists.{select, every, some, countBelow, recordsOf}
-use Rattle.directory.specs.TileDirectory.{firstRow, firstColumn, listedRows, listedColumns, spanRight, rectangleRight, referenceAt, gives, inSpan, inRectangle, numberOf, referenceOf, tileReference, tilesListed, givesTile, tilesOnly}
+use Rattle.directory.specs.TileDirectory.{tileDirectoryAt, firstRow, firstColumn, listedRows, listedColumns, spanRight, rectangleRight, referenceCount, referenceAt, gives, inSpan, inRectangle, numberOf, referenceOf, referenceFrom, tileReference, tilesListed, givesTile, tilesOnly}
 use Rattle.directory.proofs.CountLaws.{Behind, behind-more, behind-select, every-each, count-one, count-both, count-same, count-named}
 
 -- the records of a type increase
@@ -85,59 +85,59 @@ some-gives C p (x ∷ xs) e f = go (p x) refl (some-gives C p xs)
 
 -- a tile in the rectangle
 
-record Inside (s : List ℕ) (row column : ℕ) : Type 0 where
-  below : firstRow s ≤ row
-  rows : row < firstRow s + listedRows s
-  right : firstColumn s ≤ column
-  columns : column < firstColumn s + listedColumns s
+record Inside (s : List ℕ) (at row column : ℕ) : Type 0 where
+  below : firstRow s at ≤ row
+  rows : row < firstRow s at + listedRows s at
+  right : firstColumn s at ≤ column
+  columns : column < firstColumn s at + listedColumns s at
 
-inside-means : (s : List ℕ) (row column : ℕ) → inRectangle s row column ≡ true → Inside s row column
+inside-means : (s : List ℕ) (at row column : ℕ) → inRectangle s at row column ≡ true → Inside s at row column
 unfolding inRectangle inSpan
-inside-means s row column e =
+inside-means s at row column e =
     let h = means _ e in
     let a = means _ (h .0) in
     let b = means _ (h .1 .0) in
     record { below = a .0; rows = omega (arith, a .1 .0); right = b .0; columns = omega (arith, b .1 .0) }
 
-means-inside : (s : List ℕ) (row column : ℕ) → Inside s row column → inRectangle s row column ≡ true
+means-inside : (s : List ℕ) (at row column : ℕ) → Inside s at row column → inRectangle s at row column ≡ true
 unfolding inRectangle inSpan
-means-inside s row column i =
+means-inside s at row column i =
     sym (yes _ (sym (yes _ (i .below, (omega (arith, i .rows), tt))), (sym (yes _ (i .right, (omega (arith, i .columns), tt))), tt)))
 
-reference-inside : (s : List ℕ) (row column : ℕ) → Inside s row column → referenceOf s row column ≡ referenceAt s (numberOf s row column)
+reference-inside : (s : List ℕ) (at row column : ℕ) → Inside s at row column → referenceOf s at row column ≡ referenceAt s at (numberOf s at row column)
 unfolding referenceOf
-reference-inside s row column i = rw (means-inside s row column i)
+reference-inside s at row column i = rw (means-inside s at row column i)
 
 -- what is referred to lies inside
-inside-if : (s : List ℕ) (row column : ℕ) → (referenceOf s row column ≡ 0 → ⊥) → Inside s row column
+inside-if : (s : List ℕ) (at row column : ℕ) → (referenceOf s at row column ≡ 0 → ⊥) → Inside s at row column
 unfolding referenceOf
-inside-if s row column h = go (inRectangle s row column) refl
+inside-if s at row column h = go (inRectangle s at row column) refl
   where
-    go : (b : Bool) → inRectangle s row column ≡ b → Inside s row column
-    go true e = inside-means s row column e
+    go : (b : Bool) → inRectangle s at row column ≡ b → Inside s at row column
+    go true e = inside-means s at row column e
     go false e = absurd (h (rw e))
 
-number-less : (s : List ℕ) (row column : ℕ) → Inside s row column → numberOf s row column < listedRows s * listedColumns s
+number-less : (s : List ℕ) (at row column : ℕ) → Inside s at row column → numberOf s at row column < listedRows s at * listedColumns s at
 unfolding numberOf
-number-less s row column i =
-    grid-less (listedColumns s) (row - firstRow s) (column - firstColumn s) (omega (arith, i .columns, i .right)) (listedRows s) (omega (arith, i .rows, i .below))
+number-less s at row column i =
+    grid-less (listedColumns s at) (row - firstRow s at) (column - firstColumn s at) (omega (arith, i .columns, i .right)) (listedRows s at) (omega (arith, i .rows, i .below))
 
 -- a number fixes the tile
-number-one : (s : List ℕ) (a b c d : ℕ) → Inside s a b → Inside s c d → numberOf s a b ≡ numberOf s c d → (a ≡ c) × (b ≡ d)
+number-one : (s : List ℕ) (at a b c d : ℕ) → Inside s at a b → Inside s at c d → numberOf s at a b ≡ numberOf s at c d → (a ≡ c) × (b ≡ d)
 unfolding numberOf
-number-one s a b c d i j e =
-    let w = listedColumns s in
-    let k : b - firstColumn s < w = omega (arith, i .columns, i .right) in
-    let l : d - firstColumn s < w = omega (arith, j .columns, j .right) in
-    let m : a - firstRow s ≡ c - firstRow s = sym (row-of w _ _ k) ∙ ap (λ (x : ℕ). x / w) e ∙ row-of w _ _ l in
-    let n : b - firstColumn s ≡ d - firstColumn s = sym (column-of w _ _ k) ∙ ap (λ (x : ℕ). x % w) e ∙ column-of w _ _ l in
+number-one s at a b c d i j e =
+    let w = listedColumns s at in
+    let k : b - firstColumn s at < w = omega (arith, i .columns, i .right) in
+    let l : d - firstColumn s at < w = omega (arith, j .columns, j .right) in
+    let m : a - firstRow s at ≡ c - firstRow s at = sym (row-of w _ _ k) ∙ ap (λ (x : ℕ). x / w) e ∙ row-of w _ _ l in
+    let n : b - firstColumn s at ≡ d - firstColumn s at = sym (column-of w _ _ k) ∙ ap (λ (x : ℕ). x % w) e ∙ column-of w _ _ l in
     (omega (arith, i .below, j .below), omega (arith, i .right, j .right))
 
 -- an index that the directory gives a reference for is below the tile count
 pub referenced-below : (s : List ℕ) → rectangleRight s ≡ true → (i : ℕ) → (tileReference s i ≡ 0 → ⊥) → i < tileCount s
-unfolding rectangleRight spanRight tileReference tileCount tilesIn tilesAcross tilesDown
+unfolding rectangleRight spanRight referenceFrom tileCount tilesIn tilesAcross tilesDown
 referenced-below s right i z =
-    let p = inside-if s (i / tilesAcross s) (i % tilesAcross s) z in
+    let p = inside-if s (tileDirectoryAt s) (i / tilesAcross s) (i % tilesAcross s) z in
     let a = means _ (means _ right .0) in
     let b = means _ (means _ right .1 .0) in
     let r : i / tilesAcross s < tilesDown s = omega (arith, p .rows, a .1 .1 .0) in
@@ -148,19 +148,19 @@ referenced-below s right i z =
 
 -- where the rectangle is the whole grid of tiles, each tile's number is its index
 pub grid-reference :
-    (s : List ℕ) → firstRow s ≡ 0 → firstColumn s ≡ 0 → listedRows s ≡ tilesDown s → listedColumns s ≡ tilesAcross s →
-    (i : ℕ) → i < tileCount s → tileReference s i ≡ referenceAt s i
-unfolding tileReference tileCount tilesIn tilesAcross tilesDown numberOf
+    (s : List ℕ) → firstRow s (tileDirectoryAt s) ≡ 0 → firstColumn s (tileDirectoryAt s) ≡ 0 → listedRows s (tileDirectoryAt s) ≡ tilesDown s →
+    listedColumns s (tileDirectoryAt s) ≡ tilesAcross s → (i : ℕ) → i < tileCount s → tileReference s i ≡ referenceAt s (tileDirectoryAt s) i
+unfolding referenceFrom tileCount tilesIn tilesAcross tilesDown numberOf
 grid-reference s p q d a i h =
     let w = tilesAcross s in
     let pos : 0 < w = go (tilesAcross s) refl in
     let r : i / w < tilesDown s = div-lt-iff-lt-mul pos .1 h in
     let c : i % w < w = mod-lt i pos in
-    let m : i / w - firstRow s ≡ i / w = omega arith in
-    let n : i % w - firstColumn s ≡ i % w = omega arith in
-    let e : (i / w - firstRow s) * listedColumns s + (i % w - firstColumn s) ≡ i = rw (m, n, a) (div-add-mod' i w) in
-    reference-inside s (i / w) (i % w) (record { below = omega arith; rows = omega arith; right = omega arith; columns = omega arith })
-    ∙ ap (referenceAt s) e
+    let m : i / w - firstRow s (tileDirectoryAt s) ≡ i / w = omega arith in
+    let n : i % w - firstColumn s (tileDirectoryAt s) ≡ i % w = omega arith in
+    let e : (i / w - firstRow s (tileDirectoryAt s)) * listedColumns s (tileDirectoryAt s) + (i % w - firstColumn s (tileDirectoryAt s)) ≡ i = rw (m, n, a) (div-add-mod' i w) in
+    reference-inside s (tileDirectoryAt s) (i / w) (i % w) (record { below = omega arith; rows = omega arith; right = omega arith; columns = omega arith })
+    ∙ ap (referenceAt s (tileDirectoryAt s)) e
   where
     go : (n : ℕ) → tilesAcross s ≡ n → 0 < tilesAcross s
     go zero e = let z : tilesDown s * tilesAcross s ≡ tilesDown s * 0 = ap (λ (x : ℕ). tilesDown s * x) e in absurd (omega arith)
@@ -168,32 +168,35 @@ grid-reference s p q d a i h =
 
 -- the index of reference k, and that its tile has number k
 
-module _ (s : List ℕ) (right : rectangleRight s ≡ true) (k : ℕ) (h : k < listedRows s * listedColumns s) where
-  wide : 0 < listedColumns s
-  wide = go (listedColumns s) refl
+module _ (s : List ℕ) (right : rectangleRight s ≡ true) (k : ℕ) (h : k < referenceCount s) where
+  abbrev d : ℕ
+  d = tileDirectoryAt s
+
+  wide : 0 < listedColumns s d
+  wide = go (listedColumns s d) refl
     where
-      go : (c : ℕ) → listedColumns s ≡ c → 0 < listedColumns s
-      go zero e = let z : listedRows s * listedColumns s ≡ listedRows s * 0 = ap (λ (x : ℕ). listedRows s * x) e in absurd (omega arith)
+      go : (c : ℕ) → listedColumns s d ≡ c → 0 < listedColumns s d
+      go zero e = let z : referenceCount s ≡ listedRows s d * 0 = ap (λ (x : ℕ). listedRows s d * x) e in absurd (omega arith)
       go (suc c) e = omega arith
 
   abbrev indexRow : ℕ
-  indexRow = firstRow s + k / listedColumns s
+  indexRow = firstRow s d + k / listedColumns s d
 
   abbrev indexColumn : ℕ
-  indexColumn = firstColumn s + k % listedColumns s
+  indexColumn = firstColumn s d + k % listedColumns s d
 
-  inside : Inside s indexRow indexColumn
+  inside : Inside s d indexRow indexColumn
   inside =
-      let a : k / listedColumns s < listedRows s = div-lt-iff-lt-mul wide .1 h in
-      let b : k % listedColumns s < listedColumns s = mod-lt k wide in
+      let a : k / listedColumns s d < listedRows s d = div-lt-iff-lt-mul wide .1 h in
+      let b : k % listedColumns s d < listedColumns s d = mod-lt k wide in
       record { below = omega arith; rows = omega arith; right = omega arith; columns = omega arith }
 
-  number-back : numberOf s indexRow indexColumn ≡ k
+  number-back : numberOf s d indexRow indexColumn ≡ k
   unfolding numberOf
   number-back =
-      let a : firstRow s + k / listedColumns s - firstRow s ≡ k / listedColumns s = omega arith in
-      let b : firstColumn s + k % listedColumns s - firstColumn s ≡ k % listedColumns s = omega arith in
-      rw (a, b) (div-add-mod' k (listedColumns s))
+      let a : firstRow s d + k / listedColumns s d - firstRow s d ≡ k / listedColumns s d = omega arith in
+      let b : firstColumn s d + k % listedColumns s d - firstColumn s d ≡ k % listedColumns s d = omega arith in
+      rw (a, b) (div-add-mod' k (listedColumns s d))
 
   across : indexColumn < tilesAcross s
   unfolding rectangleRight spanRight
@@ -216,21 +219,24 @@ module _ (s : List ℕ) (right : rectangleRight s ≡ true) (k : ℕ) (h : k < l
   index-column : index % tilesAcross s ≡ indexColumn
   index-column = column-of (tilesAcross s) indexRow indexColumn across
 
-  index-reference : tileReference s index ≡ referenceAt s k
-  unfolding tileReference
-  index-reference = rw (index-row, index-column) (reference-inside s indexRow indexColumn inside ∙ ap (referenceAt s) number-back)
+  index-reference : tileReference s index ≡ referenceAt s d k
+  unfolding referenceFrom
+  index-reference = rw (index-row, index-column) (reference-inside s d indexRow indexColumn inside ∙ ap (referenceAt s d) number-back)
 
 -- records and references
 
 module _ (s : List ℕ) (right : rectangleRight s ≡ true) (listed : tilesListed s ≡ true) where
+  abbrev own : ℕ
+  own = tileDirectoryAt s
+
   abbrev total : ℕ
-  total = listedRows s * listedColumns s
+  total = referenceCount s
 
   abbrev ownNumber : ℕ → ℕ
-  ownNumber x = numberOf s (tileIndex s x / tilesAcross s) (tileIndex s x % tilesAcross s)
+  ownNumber x = numberOf s own (tileIndex s x / tilesAcross s) (tileIndex s x % tilesAcross s)
 
   abbrev names : ℕ → ℕ → Bool
-  names x k = passes ((ownNumber x ≡? k) ∷ (referenceAt s k ≡? contentAt x) ∷ [])
+  names x k = passes ((ownNumber x ≡? k) ∷ (referenceAt s own k ≡? contentAt x) ∷ [])
 
   abbrev covered : ℕ → Bool
   covered k = some (λ x. names x k) (recordsOf s 2)
@@ -238,18 +244,18 @@ module _ (s : List ℕ) (right : rectangleRight s ≡ true) (listed : tilesListe
   abbrev isListed : ℕ → Bool
   isListed x = eqb (tileReference s (tileIndex s x)) (contentAt x)
 
-  own-inside : (x : ℕ) → isListed x ≡ true → Inside s (tileIndex s x / tilesAcross s) (tileIndex s x % tilesAcross s)
-  unfolding tileReference
-  own-inside x e = inside-if s _ _ (λ z. let y : tileReference s (tileIndex s x) ≡ contentAt x = eqb-true _ _ e in absurd (omega arith))
+  own-inside : (x : ℕ) → isListed x ≡ true → Inside s own (tileIndex s x / tilesAcross s) (tileIndex s x % tilesAcross s)
+  unfolding referenceFrom
+  own-inside x e = inside-if s own _ _ (λ z. let y : tileReference s (tileIndex s x) ≡ contentAt x = eqb-true _ _ e in absurd (omega arith))
 
-  own-reference : (x : ℕ) → isListed x ≡ true → referenceAt s (ownNumber x) ≡ contentAt x
-  unfolding tileReference
-  own-reference x e = sym (reference-inside s _ _ (own-inside x e)) ∙ eqb-true _ _ e
+  own-reference : (x : ℕ) → isListed x ≡ true → referenceAt s own (ownNumber x) ≡ contentAt x
+  unfolding referenceFrom
+  own-reference x e = sym (reference-inside s own _ _ (own-inside x e)) ∙ eqb-true _ _ e
 
   named-once : (x : ℕ) → isListed x ≡ true → eqb (countBelow total (names x)) 1 ≡ true
   named-once x e =
       eq-eqb _ _
-      (count-one total (names x) (ownNumber x) (number-less s _ _ (own-inside x e)) (sym (yes _ (refl, (own-reference x e, tt))))
+      (count-one total (names x) (ownNumber x) (number-less s own _ _ (own-inside x e)) (sym (yes _ (refl, (own-reference x e, tt))))
       (λ k f. sym (means _ f .0)))
 
   one-name : (x y k : ℕ) → names x k ≡ true → names y k ≡ true → x ≡ y
@@ -262,9 +268,9 @@ module _ (s : List ℕ) (right : rectangleRight s ≡ true) (listed : tilesListe
   covered-gives : (k : ℕ) → covered k ≡ true → gives s k ≡ true
   unfolding gives
   covered-gives k e =
-      some-gives _ _ (recordsOf s 2) e (λ x f. let y = means _ f .1 .0 in rw (ne-eqb (referenceAt s k) 0 (λ z. absurd (omega arith))))
+      some-gives _ _ (recordsOf s 2) e (λ x f. let y = means _ f .1 .0 in rw (ne-eqb (referenceAt s own k) 0 (λ z. absurd (omega arith))))
 
-  gives-not : (k : ℕ) → gives s k ≡ true → referenceAt s k ≡ 0 → ⊥
+  gives-not : (k : ℕ) → gives s k ≡ true → referenceAt s own k ≡ 0 → ⊥
   unfolding gives
   gives-not k e z = not-both e (rw z)
 
@@ -286,23 +292,23 @@ module _ (s : List ℕ) (right : rectangleRight s ≡ true) (listed : tilesListe
           (every-more isListed (λ x. true) (recordsOf s 2) (λ x a. refl) listed)
           (rw n at t)
 
-  gives-if : (k : ℕ) → (referenceAt s k ≡ 0 → ⊥) → gives s k ≡ true
+  gives-if : (k : ℕ) → (referenceAt s own k ≡ 0 → ⊥) → gives s k ≡ true
   unfolding gives
-  gives-if k h = rw (ne-eqb (referenceAt s k) 0 h)
+  gives-if k h = rw (ne-eqb (referenceAt s own k) 0 h)
 
   -- and where there are as many, nothing else is
 
   given-tile : countBelow total (gives s) ≡ length (recordsOf s 2) → (i : ℕ) → (tileReference s i ≡ 0 → ⊥) → givesTile s i ≡ true
-  unfolding givesTile tileReference tilesListed
+  unfolding givesTile referenceFrom tilesListed
   given-tile e i z =
-      let p = inside-if s (i / tilesAcross s) (i % tilesAcross s) z in
-      let k = numberOf s (i / tilesAcross s) (i % tilesAcross s) in
-      let f = reference-inside s (i / tilesAcross s) (i % tilesAcross s) p in
-      let c = count-both (gives s) covered covered-gives total (e ∙ sym covered-count) k (number-less s _ _ p) (gives-if k (λ y. z (f ∙ y))) in
+      let p = inside-if s own (i / tilesAcross s) (i % tilesAcross s) z in
+      let k = numberOf s own (i / tilesAcross s) (i % tilesAcross s) in
+      let f = reference-inside s own (i / tilesAcross s) (i % tilesAcross s) p in
+      let c = count-both (gives s) covered covered-gives total (e ∙ sym covered-count) k (number-less s own _ _ p) (gives-if k (λ y. z (f ∙ y))) in
       every-some isListed _ _ (recordsOf s 2)
       (λ x a b.
       let y = means _ b in
-      let o = number-one s _ _ _ _ (own-inside x a) p (y .0) in
+      let o = number-one s own _ _ _ _ (own-inside x a) p (y .0) in
       sym (yes _ (sym (y .1 .0) ∙ sym f, (same-index (tilesAcross s) (tileIndex s x) i (o .0) (o .1), tt))))
       listed c
 

@@ -1,5 +1,5 @@
 -- The tile directory, whole: the ways out of its rule. Assumes nothing.
-use Prim.Native.Nat.{ℕ, _*_}
+use Prim.Native.Nat.{ℕ}
 use mathlib.Core.Path.{_≡_, refl, sym, _∙_}
 use mathlib.Core.List.{List}
 use mathlib.Core.Bool.{Bool, true, false, not}
@@ -9,7 +9,7 @@ use Rattle.wire.proofs.TestLaws.{yes, no, not-both}
 use Rattle.header.specs.Fields.{tileDirectoryReference}
 use Rattle.directory.specs.Lists.{countBelow, recordsOf}
 use Rattle.directory.specs.References.{refersTo, noOther, padded}
-use Rattle.directory.specs.TileDirectory.{tileDirectoryAt, formRight, rectangleRight, referencesEnd, listedRows, listedColumns, gives, tilesListed, tilesOnly, tileDirectoryRight}
+use Rattle.directory.specs.TileDirectory.{tileDirectoryAt, formRight, rectangleRight, referenceCount, referencesEnd, gives, tilesListed, tilesOnly, tileDirectoryRight}
 use Rattle.directory.proofs.OnlyLaws.{only-is}
 
 -- what an answer tells of the rule that it is equal to, where the code asks for its opposite
@@ -36,7 +36,7 @@ module _ (s : List ℕ) (r : ℕ) (a b : Bool) (p : r ≡ tileDirectoryReference
     pub all-right :
         (c d e f : Bool) (g m : ℕ) → not a ≡ false → not b ≡ false → c ≡ formRight s → not c ≡ false → d ≡ rectangleRight s → not d ≡ false →
         e ≡ padded s (tileDirectoryAt s) (referencesEnd s) → not e ≡ false → f ≡ tilesListed s → not f ≡ false →
-        g ≡ countBelow (listedRows s * listedColumns s) (gives s) → m ≡ length (recordsOf s 2) → g ≡ m → true ≡ tileDirectoryRight s
+        g ≡ countBelow (referenceCount s) (gives s) → m ≡ length (recordsOf s 2) → g ≡ m → true ≡ tileDirectoryRight s
     unfolding tileDirectoryRight
     all-right c d e f g m a1 b1 c2 c1 d2 d1 e2 e1 f2 f1 i j k =
         let u = is-told d2 d1 in
@@ -62,7 +62,7 @@ module _ (s : List ℕ) (b : Bool) (e : not b ≡ true) where
   one-unlisted q = no _ (λ y. not-both (y .1 .1 .1 .1 .1 .0) (not-told q e))
 
 pub one-more :
-    (s : List ℕ) (g m : ℕ) → g ≡ countBelow (listedRows s * listedColumns s) (gives s) → m ≡ length (recordsOf s 2) → (g ≡ m → ⊥) →
+    (s : List ℕ) (g m : ℕ) → g ≡ countBelow (referenceCount s) (gives s) → m ≡ length (recordsOf s 2) → (g ≡ m → ⊥) →
     false ≡ tileDirectoryRight s
 unfolding tileDirectoryRight
 one-more s g m i j k =

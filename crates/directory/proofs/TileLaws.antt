@@ -9,58 +9,74 @@ use Rattle.directory.specs.Lists.{oneIf}
 use Rattle.directory.proofs.CountLaws.{one-yes, one-no}
 use borrow.Author.Tests.{ne-eqb}
 use Rattle.wire.specs.Bytes.{numberAt}
+use Rattle.wire.proofs.TestLaws.{yes, no}
 use Rattle.wire.proofs.ByteLaws.{number-out}
 use Rattle.geometry.specs.Tiles.{tilesAcross}
-use Rattle.directory.specs.TileDirectory.{tileDirectoryAt, standardReferences, firstRow, firstColumn, listedColumns, inSpan, referenceAt, referenceOf, tileReference, inRectangle, numberOf, referenceSize, referencesEnd, listedRows, gives}
+use Rattle.directory.specs.TileDirectory.{tileDirectoryAt, directoryFormat, standardReferences, firstRow, firstColumn, listedColumns, referenceCount, inSpan, referenceAt, referenceOf, referenceFrom, inRectangle, numberOf, referenceSize, referencesEnd, gives, formRight}
 use Rattle.directory.specs.References.{padded}
+
+-- the form
+
+module _ (s : List ℕ) (at : ℕ) (p : at ≡ tileDirectoryAt s) where
+  pub format-other : (f : ℕ) → f ≡ directoryFormat s at → (f ≡ 0 → ⊥) → false ≡ formRight s
+  unfolding formRight
+  format-other f q h = rw (← p) (no _ (λ y. h (q ∙ y .0)))
+
+  pub standard-other : (f : ℕ) → f ≡ standardReferences s at → 1 < f → false ≡ formRight s
+  unfolding formRight
+  standard-other f q h = rw (← p) (no _ (λ y. omega (arith, y .1 .0)))
+
+  pub form-is : (f g : ℕ) → f ≡ directoryFormat s at → f ≡ 0 → g ≡ standardReferences s at → g ≤ 1 → true ≡ formRight s
+  unfolding formRight
+  form-is f g q h t k = rw (← p) (yes _ (sym q ∙ h, (omega arith, tt)))
 
 -- a reference, by its form; one that lies past every slice is 0
 
-module _ (s : List ℕ) (k f : ℕ) (p : f ≡ standardReferences s) where
-  pub standard-is : (r d : ℕ) → f ≡ 1 → d ≡ tileDirectoryAt s → r ≡ numberAt 8 s (d + (32 + 8 * k)) → r ≡ referenceAt s k
+module _ (s : List ℕ) (at k f : ℕ) (p : f ≡ standardReferences s at) where
+  pub standard-is : (r : ℕ) → f ≡ 1 → r ≡ numberAt 8 s (at + (32 + 8 * k)) → r ≡ referenceAt s at k
   unfolding referenceAt
-  standard-is r d h q e =
-      let m : d + (32 + 8 * k) ≡ tileDirectoryAt s + 32 + 8 * k = omega arith in
+  standard-is r h e =
+      let m : at + (32 + 8 * k) ≡ at + 32 + 8 * k = omega arith in
       rw (← p, h) (e ∙ ap (numberAt 8 s) m)
 
-  pub compact-is : (r d : ℕ) → (f ≡ 1 → ⊥) → d ≡ tileDirectoryAt s → r ≡ numberAt 4 s (d + (32 + 4 * k)) → r * 8 ≡ referenceAt s k
+  pub compact-is : (r : ℕ) → (f ≡ 1 → ⊥) → r ≡ numberAt 4 s (at + (32 + 4 * k)) → r * 8 ≡ referenceAt s at k
   unfolding referenceAt
-  compact-is r d h q e =
-      let m : d + (32 + 4 * k) ≡ tileDirectoryAt s + 32 + 4 * k = omega arith in
+  compact-is r h e =
+      let m : at + (32 + 4 * k) ≡ at + 32 + 4 * k = omega arith in
       rw (← p, ne-eqb f 1 h) (ap (λ (n : ℕ). n * 8) (e ∙ ap (numberAt 4 s) m))
 
-  pub standard-past : f ≡ 1 → 1152921504606846976 ≤ k → length s < 9223372036854775808 → 0 ≡ referenceAt s k
+  pub standard-past : f ≡ 1 → 1152921504606846976 ≤ k → length s < 9223372036854775808 → 0 ≡ referenceAt s at k
   unfolding referenceAt
-  standard-past h l n = rw (← p, h) (number-out 8 s (tileDirectoryAt s + 32 + 8 * k) (omega arith))
+  standard-past h l n = rw (← p, h) (number-out 8 s (at + 32 + 8 * k) (omega arith))
 
-  pub compact-past : (f ≡ 1 → ⊥) → 2305843009213693952 ≤ k → length s < 9223372036854775808 → 0 ≡ referenceAt s k
+  pub compact-past : (f ≡ 1 → ⊥) → 2305843009213693952 ≤ k → length s < 9223372036854775808 → 0 ≡ referenceAt s at k
   unfolding referenceAt
   compact-past h l n =
-      let z : 0 ≡ numberAt 4 s (tileDirectoryAt s + 32 + 4 * k) = number-out 4 s (tileDirectoryAt s + 32 + 4 * k) (omega arith) in
+      let z : 0 ≡ numberAt 4 s (at + 32 + 4 * k) = number-out 4 s (at + 32 + 4 * k) (omega arith) in
       rw (← p, ne-eqb f 1 h) (omega arith)
 
 -- inside the rectangle, and outside
 
 pub reference-in :
-    (s : List ℕ) (row column k r : ℕ) (a : Bool) → a ≡ inRectangle s row column → a ≡ true → k ≡ numberOf s row column → r ≡ referenceAt s k →
-    r ≡ referenceOf s row column
+    (s : List ℕ) (at row column k r : ℕ) (a : Bool) → a ≡ inRectangle s at row column → a ≡ true → k ≡ numberOf s at row column →
+    r ≡ referenceAt s at k → r ≡ referenceOf s at row column
 unfolding referenceOf
-reference-in s row column k r a p e q z = rw (← p, e, ← q) z
+reference-in s at row column k r a p e q z = rw (← p, e, ← q) z
 
-pub reference-out : (s : List ℕ) (row column : ℕ) (a : Bool) → a ≡ inRectangle s row column → a ≡ false → 0 ≡ referenceOf s row column
+pub reference-out : (s : List ℕ) (at row column : ℕ) (a : Bool) → a ≡ inRectangle s at row column → a ≡ false → 0 ≡ referenceOf s at row column
 unfolding referenceOf
-reference-out s row column a p e = rw (← p, e)
+reference-out s at row column a p e = rw (← p, e)
 
 pub number-is :
-    (s : List ℕ) (row column f l c d r : ℕ) → f ≡ firstRow s → l ≡ firstColumn s → c ≡ listedColumns s → d ≡ row - f → r ≡ column - l →
-    d * c + r ≡ numberOf s row column
+    (s : List ℕ) (at row column f l c d r : ℕ) → f ≡ firstRow s at → l ≡ firstColumn s at → c ≡ listedColumns s at → d ≡ row - f →
+    r ≡ column - l → d * c + r ≡ numberOf s at row column
 unfolding numberOf
-number-is s row column f l c d r p q t u v = rw (u, v, p, q, t)
+number-is s at row column f l c d r p q t u v = rw (u, v, p, q, t)
 
 pub reference-is :
-    (s : List ℕ) (i a r c x : ℕ) → a ≡ tilesAcross s → r ≡ i / a → c ≡ i % a → x ≡ referenceOf s r c → x ≡ tileReference s i
-unfolding tileReference
-reference-is s i a r c x p q t e = e ∙ rw (q, t, p)
+    (s : List ℕ) (at i a r c x : ℕ) → a ≡ tilesAcross s → r ≡ i / a → c ≡ i % a → x ≡ referenceOf s at r c → x ≡ referenceFrom s at i
+unfolding referenceFrom
+reference-is s at i a r c x p q t e = e ∙ rw (q, t, p)
 
 -- what a function's answer tells of its definition
 pub told : {r b v : Bool} → r ≡ b → r ≡ v → b ≡ v
@@ -71,24 +87,26 @@ in-span-told a b d e x r v p q u w = rw (← p, ← q) (sym u ∙ w)
 
 -- counts
 
-pub size-standard : (s : List ℕ) (f : ℕ) → f ≡ standardReferences s → f ≡ 1 → 8 ≡ referenceSize s
-unfolding referenceSize
-size-standard s f p h = rw (← p, h)
+module _ (s : List ℕ) (at f : ℕ) (q : at ≡ tileDirectoryAt s) (p : f ≡ standardReferences s at) where
+  pub size-standard : f ≡ 1 → 8 ≡ referenceSize s
+  unfolding referenceSize
+  size-standard h = rw (← q, ← p, h)
 
-pub size-compact : (s : List ℕ) (f : ℕ) → f ≡ standardReferences s → (f ≡ 1 → ⊥) → 4 ≡ referenceSize s
-unfolding referenceSize
-size-compact s f p h = rw (← p, ne-eqb f 1 h)
+  pub size-compact : (f ≡ 1 → ⊥) → 4 ≡ referenceSize s
+  unfolding referenceSize
+  size-compact h = rw (← q, ← p, ne-eqb f 1 h)
 
 pub fit-is :
-    (s : List ℕ) (d n z : ℕ) (b : Bool) → d ≡ tileDirectoryAt s → n ≡ listedRows s * listedColumns s → z ≡ referenceSize s →
+    (s : List ℕ) (d n z : ℕ) (b : Bool) → d ≡ tileDirectoryAt s → n ≡ referenceCount s → z ≡ referenceSize s →
     b ≡ padded s d (d + 32 + n * z) → b ≡ padded s (tileDirectoryAt s) (referencesEnd s)
 unfolding referencesEnd
 fit-is s d n z b p q t e = e ∙ rw (p, q, t)
 
-pub given-one : (s : List ℕ) (k r : ℕ) → r ≡ referenceAt s k → (r ≡ 0 → ⊥) → (1 ≡ oneIf (gives s k)) × (1 ≤ 1)
-unfolding gives
-given-one s k r q h = one-yes _ (rw (← q, ne-eqb r 0 h))
+module _ (s : List ℕ) (at k r : ℕ) (p : at ≡ tileDirectoryAt s) (q : r ≡ referenceAt s at k) where
+  pub given-one : (r ≡ 0 → ⊥) → (1 ≡ oneIf (gives s k)) × (1 ≤ 1)
+  unfolding gives
+  given-one h = one-yes _ (rw (← p, ← q, ne-eqb r 0 h))
 
-pub given-none : (s : List ℕ) (k r : ℕ) → r ≡ referenceAt s k → r ≡ 0 → (0 ≡ oneIf (gives s k)) × (0 ≤ 1)
-unfolding gives
-given-none s k r q h = one-no _ (rw (← q, h))
+  pub given-none : r ≡ 0 → (0 ≡ oneIf (gives s k)) × (0 ≤ 1)
+  unfolding gives
+  given-none h = one-no _ (rw (← p, ← q, h))

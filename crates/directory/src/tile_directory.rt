@@ -3,10 +3,9 @@ use crate::entries;
 use geometry::tiles;
 use header::fields;
 ghost use mathlib.Core.Path.{_≡_};
-ghost use Prim.Native.Nat.{_+_, _*_, _-_, _≤_};
-ghost use Rattle.wire.specs.Bytes.{byteAt, u32At};
+ghost use Prim.Native.Nat.{_-_, _≤_};
 ghost use Rattle.geometry.specs.Tiles.{tilesAcross, tilesDown};
-ghost use Rattle.directory.specs.TileDirectory.{tileDirectoryAt, directoryFormat, standardReferences, firstRow, firstColumn, listedRows, listedColumns, formRight, spanRight, rectangleRight, referenceAt, referenceOf, tileReference, inSpan, inRectangle, numberOf, referenceSize, referencesEnd};
+ghost use Rattle.directory.specs.TileDirectory.{tileDirectoryAt, directoryFormat, standardReferences, firstRow, firstColumn, listedRows, listedColumns, formRight, spanRight, rectangleRight, referenceCount, referenceAt, referenceOf, referenceFrom, tileReference, inSpan, inRectangle, numberOf, referenceSize, referencesEnd};
 ghost use Rattle.directory.specs.References.{padded};
 
 // The start of the record that the header refers to.
@@ -16,64 +15,52 @@ pub fn tile_directory_at(s: &[u8]) -> usize
     entries::record_of(fields::tile_directory_reference(s))
 }
 
-// A number of four bytes, and a byte, at an offset of that record.
-fn number_in(s: &[u8], d: usize) -> u32
-    ensures { λ r. ⌜ r ≡ u32At (now (s .entry)) (tileDirectoryAt (now (s .entry)) + d) ⌝ }
+// The fields of a tile directory, whose record starts at a position.
+pub fn directory_format(s: &[u8], at: usize) -> u32
+    ensures { λ r. ⌜ r ≡ directoryFormat (now (s .entry)) at ⌝ }
 {
-    wire::u32_off(s, tile_directory_at(s), d)
+    wire::byte_off(s, at, 8)
 }
 
-fn byte_in(s: &[u8], d: usize) -> u32
-    ensures { λ r. ⌜ r ≡ byteAt (now (s .entry)) (tileDirectoryAt (now (s .entry)) + d) ⌝ }
+pub fn standard_references(s: &[u8], at: usize) -> u32
+    ensures { λ r. ⌜ r ≡ standardReferences (now (s .entry)) at ⌝ }
 {
-    wire::byte_off(s, tile_directory_at(s), d)
+    wire::byte_off(s, at, 9)
 }
 
-// Its fields.
-pub fn directory_format(s: &[u8]) -> u32
-    ensures { λ r. ⌜ r ≡ directoryFormat (now (s .entry)) ⌝ }
+pub fn first_row(s: &[u8], at: usize) -> u32
+    ensures { λ r. ⌜ r ≡ firstRow (now (s .entry)) at ⌝ }
 {
-    byte_in(s, 8)
+    wire::u32_off(s, at, 16)
 }
 
-pub fn standard_references(s: &[u8]) -> u32
-    ensures { λ r. ⌜ r ≡ standardReferences (now (s .entry)) ⌝ }
+pub fn first_column(s: &[u8], at: usize) -> u32
+    ensures { λ r. ⌜ r ≡ firstColumn (now (s .entry)) at ⌝ }
 {
-    byte_in(s, 9)
+    wire::u32_off(s, at, 20)
 }
 
-pub fn first_row(s: &[u8]) -> u32
-    ensures { λ r. ⌜ r ≡ firstRow (now (s .entry)) ⌝ }
+pub fn listed_rows(s: &[u8], at: usize) -> u32
+    ensures { λ r. ⌜ r ≡ listedRows (now (s .entry)) at ⌝ }
 {
-    number_in(s, 16)
+    wire::u32_off(s, at, 24)
 }
 
-pub fn first_column(s: &[u8]) -> u32
-    ensures { λ r. ⌜ r ≡ firstColumn (now (s .entry)) ⌝ }
+pub fn listed_columns(s: &[u8], at: usize) -> u32
+    ensures { λ r. ⌜ r ≡ listedColumns (now (s .entry)) at ⌝ }
 {
-    number_in(s, 20)
-}
-
-pub fn listed_rows(s: &[u8]) -> u32
-    ensures { λ r. ⌜ r ≡ listedRows (now (s .entry)) ⌝ }
-{
-    number_in(s, 24)
-}
-
-pub fn listed_columns(s: &[u8]) -> u32
-    ensures { λ r. ⌜ r ≡ listedColumns (now (s .entry)) ⌝ }
-{
-    number_in(s, 28)
+    wire::u32_off(s, at, 28)
 }
 
 // The fields that pick the form have a printed value.
 pub fn form_right(s: &[u8]) -> bool
     ensures { λ r. ⌜ r ≡ formRight (now (s .entry)) ⌝ }
 {
-    if directory_format(s) != 0 {
+    let at = tile_directory_at(s);
+    if directory_format(s, at) != 0 {
         return false;
     }
-    if 1 < standard_references(s) {
+    if 1 < standard_references(s, at) {
         return false;
     }
     true
@@ -99,15 +86,21 @@ fn span_right(start: u32, side: u32, tiles: u32) -> bool
 }
 
 fn rows_right(s: &[u8]) -> bool
-    ensures { λ r. ⌜ r ≡ spanRight (firstRow (now (s .entry))) (listedRows (now (s .entry))) (tilesDown (now (s .entry))) ⌝ }
+    ensures { λ r. ⌜ r ≡ spanRight (firstRow (now (s .entry)) (tileDirectoryAt (now (s .entry)))) (listedRows (now (s .entry)) (tileDirectoryAt (now (s .entry)))) (tilesDown (now (s .entry))) ⌝ }
 {
-    span_right(first_row(s), listed_rows(s), tiles::tiles_down(s))
+    let at = tile_directory_at(s);
+    span_right(first_row(s, at), listed_rows(s, at), tiles::tiles_down(s))
 }
 
 fn columns_right(s: &[u8]) -> bool
-    ensures { λ r. ⌜ r ≡ spanRight (firstColumn (now (s .entry))) (listedColumns (now (s .entry))) (tilesAcross (now (s .entry))) ⌝ }
+    ensures { λ r. ⌜ r ≡ spanRight (firstColumn (now (s .entry)) (tileDirectoryAt (now (s .entry)))) (listedColumns (now (s .entry)) (tileDirectoryAt (now (s .entry)))) (tilesAcross (now (s .entry))) ⌝ }
 {
-    span_right(first_column(s), listed_columns(s), tiles::tiles_across(s))
+    let at = tile_directory_at(s);
+    span_right(
+        first_column(s, at),
+        listed_columns(s, at),
+        tiles::tiles_across(s),
+    )
 }
 
 // The rectangle ends inside the tile grid.
@@ -134,11 +127,10 @@ fn in_span(start: u32, side: u32, x: u32) -> bool
 }
 
 // The position that reference number k gives; 0 where the number does not lie in the file.
-pub fn reference_at(s: &[u8], k: u64) -> u64
-    ensures { λ r. ⌜ r ≡ referenceAt (now (s .entry)) k ⌝ }
+pub fn reference_at(s: &[u8], at: usize, k: u64) -> u64
+    ensures { λ r. ⌜ r ≡ referenceAt (now (s .entry)) at k ⌝ }
 {
-    let at = tile_directory_at(s);
-    if standard_references(s) == 1 {
+    if standard_references(s, at) == 1 {
         if 1152921504606846976 <= k {
             return 0;
         }
@@ -151,32 +143,32 @@ pub fn reference_at(s: &[u8], k: u64) -> u64
 }
 
 // Whether a tile, by its row and column of tiles, lies in the rectangle.
-fn in_rectangle(s: &[u8], row: u32, column: u32) -> bool
-    ensures { λ r. ⌜ r ≡ inRectangle (now (s .entry)) row column ⌝ }
+fn in_rectangle(s: &[u8], at: usize, row: u32, column: u32) -> bool
+    ensures { λ r. ⌜ r ≡ inRectangle (now (s .entry)) at row column ⌝ }
 {
-    if in_span(first_row(s), listed_rows(s), row) {
-        return in_span(first_column(s), listed_columns(s), column);
+    if in_span(first_row(s, at), listed_rows(s, at), row) {
+        return in_span(first_column(s, at), listed_columns(s, at), column);
     }
     false
 }
 
 // What the directory gives for the tile in a row and a column of tiles.
-fn reference_of(s: &[u8], row: u32, column: u32) -> u64
-    ensures { λ r. ⌜ r ≡ referenceOf (now (s .entry)) row column ⌝ }
+fn reference_of(s: &[u8], at: usize, row: u32, column: u32) -> u64
+    ensures { λ r. ⌜ r ≡ referenceOf (now (s .entry)) at row column ⌝ }
 {
-    if in_rectangle(s, row, column) {
-        return reference_at(s, number_of(s, row, column));
+    if in_rectangle(s, at, row, column) {
+        return reference_at(s, at, number_of(s, at, row, column));
     }
     0
 }
 
 // The number of a tile inside the rectangle, row by row.
-fn number_of(s: &[u8], row: u32, column: u32) -> u64
-    ensures { λ r. ⌜ r ≡ numberOf (now (s .entry)) row column ⌝ }
+fn number_of(s: &[u8], at: usize, row: u32, column: u32) -> u64
+    ensures { λ r. ⌜ r ≡ numberOf (now (s .entry)) at row column ⌝ }
 {
-    let down = less(row, first_row(s)) as u64;
-    let right = less(column, first_column(s)) as u64;
-    down * (listed_columns(s) as u64) + right
+    let down = less(row, first_row(s, at)) as u64;
+    let right = less(column, first_column(s, at)) as u64;
+    down * (listed_columns(s, at) as u64) + right
 }
 
 fn less(a: u32, b: u32) -> u32
@@ -190,18 +182,30 @@ fn less(a: u32, b: u32) -> u32
 }
 
 // What the directory gives for a tile index.
+pub fn reference_from(s: &[u8], at: usize, i: u32) -> u64
+    ensures { λ r. ⌜ r ≡ referenceFrom (now (s .entry)) at i ⌝ }
+{
+    let across = tiles::tiles_across(s);
+    reference_of(
+        s,
+        at,
+        tiles::quotient(i, across),
+        tiles::remainder(i, across),
+    )
+}
+
+// The same from the directory that the header refers to.
 pub fn tile_reference(s: &[u8], i: u32) -> u64
     ensures { λ r. ⌜ r ≡ tileReference (now (s .entry)) i ⌝ }
 {
-    let across = tiles::tiles_across(s);
-    reference_of(s, tiles::quotient(i, across), tiles::remainder(i, across))
+    reference_from(s, tile_directory_at(s), i)
 }
 
 // The bytes of a reference.
 fn reference_size(s: &[u8]) -> u64
     ensures { λ r. ⌜ r ≡ referenceSize (now (s .entry)) ⌝ }
 {
-    if standard_references(s) == 1 {
+    if standard_references(s, tile_directory_at(s)) == 1 {
         return 8;
     }
     4
@@ -209,10 +213,11 @@ fn reference_size(s: &[u8]) -> u64
 
 // How many references the rectangle has.
 pub fn reference_count(s: &[u8]) -> u64
-    ensures { λ r. ⌜ r ≡ listedRows (now (s .entry)) * listedColumns (now (s .entry)) ⌝ }
+    ensures { λ r. ⌜ r ≡ referenceCount (now (s .entry)) ⌝ }
 {
-    let rows = listed_rows(s) as u64;
-    let columns = listed_columns(s) as u64;
+    let at = tile_directory_at(s);
+    let rows = listed_rows(s, at) as u64;
+    let columns = listed_columns(s, at) as u64;
     rows * columns
 }
 

@@ -3,16 +3,17 @@ use crate::references;
 use crate::tile_directory;
 use header::fields;
 ghost use mathlib.Core.Path.{_≡_};
-ghost use Prim.Native.Nat.{_*_, _≤_};
+ghost use Prim.Native.Nat.{_≤_};
 ghost use Rattle.directory.specs.Lists.{oneIf, countBelow};
-ghost use Rattle.directory.specs.TileDirectory.{listedRows, listedColumns, gives, tileDirectoryRight};
+ghost use Rattle.directory.specs.TileDirectory.{referenceCount, gives, tileDirectoryRight};
 
 // 1 where reference number k is not zero, else 0.
 fn given_at(s: &[u8], k: u64) -> u64
     ensures is { λ r. ⌜ r ≡ oneIf (gives (now (s .entry)) k) ⌝ }
     ensures small { λ r. ⌜ r ≤ 1 ⌝ }
 {
-    if tile_directory::reference_at(s, k) == 0 {
+    let at = tile_directory::tile_directory_at(s);
+    if tile_directory::reference_at(s, at, k) == 0 {
         return 0;
     }
     1
@@ -20,7 +21,7 @@ fn given_at(s: &[u8], k: u64) -> u64
 
 // How many of the references are not zero.
 fn references_given(s: &[u8]) -> u64
-    ensures { λ r. ⌜ r ≡ countBelow (listedRows (now (s .entry)) * listedColumns (now (s .entry))) (gives (now (s .entry))) ⌝ }
+    ensures { λ r. ⌜ r ≡ countBelow (referenceCount (now (s .entry))) (gives (now (s .entry))) ⌝ }
 {
     let n = tile_directory::reference_count(s);
     let mut k = 0;

@@ -1,7 +1,7 @@
 -- `cells::reads::cell_reference` meets its contract. Assumes nothing.
 use native.Mathlib.Omega.{arith}
 use mathlib.Core.Path.{ap, _∙_}
-use Rattle.directory.specs.TileDirectory.{tileReference}
+use Rattle.directory.specs.TileDirectory.{referenceFrom}
 use Rattle.cells.proofs.CellLaws.{sides-mean}
 use Rattle.cells.proofs.RouteLaws.{tile-small}
 use borrow.Author.Needs.{needs}
@@ -16,4 +16,4 @@ cell-reference-spec =
     (λ c κs. search needs)
     (λ c. record { fits = omega (arith, c .cell-tile .ensures, tile-small _ _ _ (sides-mean _ (c .before .before .pre .0)) (c .before .before .pre .1 .0) (c .before .before .pre .1 .1)) })
     (λ c κs. search needs)
-    (λ c. c .tile-reference .ensures ∙ ap (tileReference _) (c .before .cell-tile .ensures)))
+    (λ c. c .reference-from .ensures ∙ ap (referenceFrom _ _) (c .before .cell-tile .ensures)))

@@ -13,5 +13,6 @@ content-spec =
     (λ c. search needs)
     (λ c. search needs)
     (λ c κs. search needs)
+    (λ c κs. search needs)
     (λ c. search (needs, content-refused))
     (λ c. search (needs, content-answers)))

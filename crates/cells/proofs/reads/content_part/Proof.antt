@@ -13,4 +13,4 @@ content-part-spec =
     (λ c κs. search needs)
     (λ c κs. search needs)
     (λ c κs. search needs)
-    (λ c. (part-is _ _ _ _ _ _ _ (c .before .before .before .content .ensures) (c .before .before .content-place .ensures) (c .before .content-length .ensures) (c .part-of .ensures .0), (c .part-of .ensures .1 .0, offset-at _ _ _ _ _ _ _ _ (c .before .before .before .content .ensures) (c .before .before .content-place .ensures) (c .before .content-length .ensures) (c .part-of .ensures .1 .1)))))
+    (λ c. (part-is _ _ _ _ _ _ (c .before .before .before .content .ensures) (c .before .before .content-place .ensures) (c .before .content-length .ensures) (c .part-of .ensures .0), (c .part-of .ensures .1 .0, offset-at _ _ _ _ _ _ _ (c .before .before .before .content .ensures) (c .before .before .content-place .ensures) (c .before .content-length .ensures) (c .part-of .ensures .1 .1)))))

@@ -1,5 +1,5 @@
 -- `cells::reads::read_by_records` meets its contract. Assumes nothing.
-use Rattle.cells.proofs.ReadLaws.{bodies-lawful, records-refused, records-answer}
+use Rattle.cells.proofs.ReadLaws.{records-refused, records-answer}
 use borrow.Author.Needs.{needs}
 use Rattle.cells.proofs.reads.read_by_records.Statement.{statement}
 use Rattle.cells.proofs.reads.read_by_records.Tie as tie
@@ -12,6 +12,7 @@ read-by-records-spec =
     (λ c κs. search needs)
     (λ c. search needs)
     (λ c. search needs)
-    (λ c κs. bodies-lawful _ _ (c .before .before .check-to-bodies .ensures) (c .enum-told .given .1))
+    (λ c κs. search needs)
+    (λ c κs. search needs)
     (λ c. records-refused _ _ (c .before .before .before .check-to-bodies .ensures) _ _ _ _ (c .before .r .given .1))
-    (λ c. records-answer _ _ (c .before .before .before .check-to-bodies .ensures) _ _ _ _ (c .before .enum-told .given .1) (c .walk-cell .ensures)))
+    (λ c. records-answer _ _ (c .before .before .before .before .check-to-bodies .ensures) _ _ _ _ _ (c .before .before .enum-told .given .1) (c .before .header-end .ensures) (c .walk-unchecked .ensures)))

@@ -1,5 +1,5 @@
 -- `cells::reads::read_by_walk` meets its contract. Assumes nothing.
-use Rattle.cells.proofs.ReadLaws.{check-lawful, walk-refused, walk-answers}
+use Rattle.cells.proofs.ReadLaws.{walk-refused, walk-answers}
 use borrow.Author.Needs.{needs}
 use Rattle.cells.proofs.reads.read_by_walk.Statement.{statement}
 use Rattle.cells.proofs.reads.read_by_walk.Tie as tie
@@ -12,6 +12,7 @@ read-by-walk-spec =
     (λ c κs. search needs)
     (λ c. search needs)
     (λ c. search needs)
-    (λ c κs. check-lawful _ _ (c .before .before .check .ensures) (c .enum-told .given .1))
+    (λ c κs. search needs)
+    (λ c κs. search needs)
     (λ c. walk-refused _ _ (c .before .before .before .check .ensures) _ _ _ _ (c .before .r .given .1))
-    (λ c. walk-answers _ _ (c .before .before .before .check .ensures) _ _ _ _ (c .before .enum-told .given .1) (c .walk-cell .ensures)))
+    (λ c. walk-answers _ _ (c .before .before .before .before .check .ensures) _ _ _ _ _ (c .before .before .enum-told .given .1) (c .before .header-end .ensures) (c .walk-unchecked .ensures)))

@@ -15,5 +15,5 @@ walk-inside-spec =
     (λ c κs. search needs)
     (λ c. search needs)
     (λ c κs. search needs)
-    (λ c. walk-found _ _ _ _ _ _ (c .before .before .before .before .before .cell-tile .ensures) (c .before .before .before .before .walked-to .ensures) _ _ (c .before .before .before .before .before .before .before .pre) (c .before .before .x .given .1) (c .cell-within .ensures))
+    (λ c. walk-found _ _ _ _ _ _ _ (c .before .before .before .before .before .cell-tile .ensures) (c .before .before .before .before .walked-to .ensures) _ _ (c .before .before .before .before .before .before .before .pre) (c .before .before .x .given .1) (c .cell-within .ensures))
     (λ c. search (needs, walk-none)))

@@ -3,17 +3,16 @@ use borrow.Author.Needs.{needs}
 use Prim.Native.Nat.{_-_}
 use lib.ListN.{length}
 use Rattle.record.proofs.SeekLaws.{Seeking, seek}
-use Rattle.header.specs.Fields.{headerEnd}
 use Rattle.cells.specs.TileCells.{carries}
 use Rattle.cells.specs.Walk.{walkedTo}
 use Rattle.cells.proofs.walk.walked_to.Statement.{statement}
 use Rattle.cells.proofs.walk.walked_to.Tie as tie
 
 abbrev Inv-walk : tie.InvT-walk
-Inv-walk s tile c₀ c = Seeking (carries s tile) s (headerEnd s) (c .at)
+Inv-walk s at tile c₀ c = Seeking (carries s tile) s at (c .at)
 
 abbrev μ-walk : tie.MeasureT-walk
-μ-walk s tile c₀ c = length s - c .at
+μ-walk s at tile c₀ c = length s - c .at
 
 pub walked-to-spec : {M : Type 1} → statement M
 unfolding walkedTo
@@ -22,7 +21,6 @@ walked-to-spec =
     (tie.spec
     Inv-walk
     μ-walk
-    (λ c κs. search (needs, seek))
     (λ c. search (needs, seek))
     (λ c κs. search (needs, seek))
     (λ c. search (needs, seek))

@@ -20,4 +20,4 @@ number-of-spec =
     (λ c. search needs)
     (λ c. let k = product (c .before .before .before .less .result) (c .listed-columns .result) (omega arith) (omega arith) in record { fits = omega arith })
     (λ c. let k = product (c .before .before .before .less .result) (c .listed-columns .result) (omega arith) (omega arith) in record { fits = omega arith })
-    (λ c. number-is _ _ _ _ _ _ _ _ (c .before .before .before .before .first-row .ensures) (c .before .before .first-column .ensures) (c .listed-columns .ensures) (c .before .before .before .less .ensures .0) (c .before .less2 .ensures .0)))
+    (λ c. number-is _ _ _ _ _ _ _ _ _ (c .before .before .before .before .first-row .ensures) (c .before .before .first-column .ensures) (c .listed-columns .ensures) (c .before .before .before .less .ensures .0) (c .before .less2 .ensures .0)))

@@ -10,13 +10,12 @@ reference-at-spec =
     tie.close
     (tie.spec
     (λ c κs. search needs)
-    (λ c κs. search needs)
-    (λ c. standard-past _ _ _ (c .before .before .standard-references .ensures) (c .before .if1 .taken) (omega arith) (omega arith))
+    (λ c. standard-past _ _ _ _ (c .before .before .standard-references .ensures) (c .before .if1 .taken) (omega arith) (omega arith))
     (λ c. search needs)
     (λ c. search needs)
     (λ c κs. search needs)
     (λ c. search (needs, standard-is))
-    (λ c. compact-past _ _ _ (c .before .before .standard-references .ensures) (c .before .if1 .left) (omega arith) (omega arith))
+    (λ c. compact-past _ _ _ _ (c .before .before .standard-references .ensures) (c .before .if1 .left) (omega arith) (omega arith))
     (λ c. search needs)
     (λ c. search needs)
     (λ c κs. search needs)

@@ -9,5 +9,6 @@ reference-size-spec =
     tie.close
     (tie.spec
     (λ c κs. search needs)
+    (λ c κs. search needs)
     (λ c. search (needs, size-standard))
     (λ c. search (needs, size-compact)))

@@ -1,5 +1,4 @@
 -- `directory::tile_directory::tile_reference` meets its contract. Assumes nothing.
-use Rattle.directory.proofs.TileLaws.{reference-is}
 use borrow.Author.Needs.{needs}
 use Rattle.directory.proofs.tile_directory.tile_reference.Statement.{statement}
 use Rattle.directory.proofs.tile_directory.tile_reference.Tie as tie
@@ -10,6 +9,4 @@ tile-reference-spec =
     (tie.spec
     (λ c κs. search needs)
     (λ c κs. search needs)
-    (λ c κs. search needs)
-    (λ c κs. search needs)
-    (λ c. search (needs, reference-is)))
+    (λ c. cc))

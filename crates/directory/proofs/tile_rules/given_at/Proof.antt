@@ -9,5 +9,6 @@ given-at-spec =
     tie.close
     (tie.spec
     (λ c κs. search needs)
-    (λ c. given-none _ _ _ (c .before .reference-at .ensures) (c .if1 .taken))
-    (λ c. given-one _ _ _ (c .before .reference-at .ensures) (c .if1 .left)))
+    (λ c κs. search needs)
+    (λ c. given-none _ _ _ _ (c .before .before .tile-directory-at .ensures) (c .before .reference-at .ensures) (c .if1 .taken))
+    (λ c. given-one _ _ _ _ (c .before .before .tile-directory-at .ensures) (c .before .reference-at .ensures) (c .if1 .left)))

@@ -1,16 +1,16 @@
--- `cells::reads::look_up_content` meets its contract. Assumes nothing.
+-- `cells::reads::content_unchecked` meets its contract. Assumes nothing.
 use native.Mathlib.Omega.{arith}
 use mathlib.Core.Path.{sym, _∙_}
 use Rattle.cells.proofs.CellLaws.{sides-mean, tiles-mean}
 use Rattle.cells.proofs.RouteLaws.{count-small}
 use Rattle.cells.proofs.ReadLaws.{content-outside, content-unlawful, content-absent, content-given}
 use borrow.Author.Needs.{needs}
-use Rattle.cells.proofs.reads.look_up_content.Statement.{statement}
-use Rattle.cells.proofs.reads.look_up_content.Tie as tie
-use Rattle.cells.proofs.reads.look_up_content.Reads as reads
+use Rattle.cells.proofs.reads.content_unchecked.Statement.{statement}
+use Rattle.cells.proofs.reads.content_unchecked.Tie as tie
+use Rattle.cells.proofs.reads.content_unchecked.Reads as reads
 
-pub look-up-content-spec : {M : Type 1} → statement M
-look-up-content-spec =
+pub content-unchecked-spec : {M : Type 1} → statement M
+content-unchecked-spec =
     tie.close
     (tie.spec
     (λ c κs. search needs)
