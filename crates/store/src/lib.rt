@@ -1,0 +1,46 @@
+// The public face: the opened page. It keeps hold of the file's own bytes and of two positions that they give. Whoever makes one may
+// put any numbers there: a read on it answers as one on the bytes.
+pub mod reads;
+
+use answer::Cell;
+ghost use mathlib.Core.Path.{_≡_};
+ghost use Prim.Native.Nat.{_+_};
+ghost use Rattle.wire.specs.Bytes.{part, partAt};
+ghost use Rattle.answer.specs.Answers.{contentPlace, contentLength};
+ghost use Rattle.cells.specs.Reads.{readMeaning, readContent};
+ghost use Rattle.store.specs.Opened.{heldEnd, heldDirectory, plainRead};
+
+pub struct Page<'a> {
+    pub file: &'a [u8],
+    // Where the header ends, and the tile directory's reference.
+    pub header_end: usize,
+    pub directory: u64,
+}
+
+// Opens any bytes. It holds 0 and 0 where the check refuses them.
+pub fn open<'a>(file: &'a [u8]) -> Page<'a>
+    ensures { λ r. ⌜ (r .file ≡ file .entry) × ((r .«header_end» ≡ heldEnd (now (file .entry))) × (r .directory ≡ heldDirectory (now (file .entry)))) ⌝ }
+{
+    Page {
+        file,
+        header_end: reads::held_end(file),
+        directory: reads::held_directory(file),
+    }
+}
+
+// A cell, by the walk or through the directory.
+pub fn read<'a>(p: Page<'a>, row: u64, column: u64, e: u64, walk: bool) -> Cell
+    ensures route { λ r. ⌜ r ≡ plainRead (now (p .entry .file)) row column e walk ⌝ }
+    ensures meaning { λ r. ⌜ r ≡ readMeaning (now (p .entry .file)) row column e ⌝ }
+{
+    reads::read_from(p.file, p.header_end, p.directory, row, column, e, walk)
+}
+
+// The uncompressed content of an element in a tile, as that part of the file itself; the empty part where it is refused or absent.
+pub fn content_part<'a>(p: Page<'a>, tile: u64, e: u64) -> &'a [u8]
+    ensures holds { λ r. ⌜ now r ≡ part (now (p .entry .file)) (contentPlace (readContent (now (p .entry .file)) tile e)) (contentLength (readContent (now (p .entry .file)) tile e)) ⌝ }
+    ensures block { λ r. ⌜ r .ptr .0 ≡ p .entry .file .ptr .0 ⌝ }
+    ensures offset { λ r. ⌜ r .ptr .1 ≡ p .entry .file .ptr .1 + partAt (now (p .entry .file)) (contentPlace (readContent (now (p .entry .file)) tile e)) (contentLength (readContent (now (p .entry .file)) tile e)) ⌝ }
+{
+    reads::content_from(p.file, p.directory, tile, e)
+}
