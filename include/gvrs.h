@@ -69,6 +69,10 @@ uint32_t gvrs_content(const uint8_t *file, uint64_t n, uint64_t tile, uint64_t e
 uint32_t gvrs_lay_down(const uint8_t *front, uint64_t front_n, uint64_t time, const uint32_t *indexes, uint64_t indexes_n,
                        const uint8_t *cells, uint64_t cells_n, uint8_t *file, uint64_t file_n, uint64_t *out, uint64_t out_n);
 
+/* The listing of a file, as text: its length. `text` takes it where it fits, and what stands behind it stays; else `text` is as it
+   was. A file over 65,536 bytes lists as `too long`. */
+uint64_t gvrs_list(const uint8_t *file, uint64_t n, uint8_t *text, uint64_t text_n);
+
 #ifdef __cplusplus
 }
 #endif

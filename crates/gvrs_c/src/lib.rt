@@ -10,6 +10,8 @@ ghost use Rattle.answer.specs.Answers.{cellKind, cellType, cellBits, cellPlace,
 ghost use Rattle.page_check.specs.Stages.{check};
 ghost use Rattle.cells.specs.Reads.{readContent};
 ghost use Rattle.lay_down.specs.Answer.{laid, laidOut};
+ghost use Rattle.wire.specs.Bytes.{put};
+ghost use Rattle.listing.specs.Listing.{listing};
 ghost use Rattle.gvrs_c.specs.Report.{reported, laidReport};
 ghost use Rattle.gvrs_c.specs.Route.{readBy};
 
@@ -107,4 +109,13 @@ pub extern "C" fn gvrs_lay_down(
     let laid = lay_down::lay_down(front, time, indexes, cells, file);
     report(out, 0, laid_report(laid) as u64);
     answer::laid_number(laid)
+}
+
+// The listing's length. The text takes it where it fits, and what stands behind it stays; else the text is as it was.
+#[no_mangle]
+pub extern "C" fn gvrs_list(file: &[u8], text: &mut [u8]) -> u64
+    ensures long { λ r. ⌜ r ≡ length (listing (now (file .entry))) ⌝ }
+    ensures holds { λ _. ⌜ now (text .exit) ≡ put (now (text .entry)) 0 (listing (now (file .entry))) ⌝ }
+{
+    listing::list(file, text) as u64
 }

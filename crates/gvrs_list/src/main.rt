@@ -1,0 +1,65 @@
+// Lists the file that its first argument names (document 01, 'The listing'), or says why it cannot.
+use libc::STDOUT_FILENO;
+
+// What a failed read answers: more than any buffer here holds.
+const FAILED: usize = 65538;
+
+// Reads once, behind the bytes that are there, and answers how many are there then: no more at the end of the file.
+fn read_some(fd: i32, buf: &mut [u8], done: usize) -> usize {
+    if buf.len() <= done {
+        return done;
+    }
+    let rest = &mut buf[done..];
+    let got = libc::read(fd, rest);
+    if got < 0 {
+        return FAILED;
+    }
+    done + io::count(got, rest)
+}
+
+// Reads to the end of the file or of the buffer.
+fn read_all(fd: i32, buf: &mut [u8]) -> usize {
+    let mut done = 0;
+    let mut turns: u32 = 65538;
+    while turns > 0 {
+        let now = read_some(fd, buf, done);
+        if now == done {
+            return done;
+        }
+        done = now;
+        turns -= 1;
+    }
+    done
+}
+
+// Prints the listing of the bytes.
+fn print_listing(file: &[u8]) {
+    let mut text = [0u8; 32768];
+    let n = listing::list(file, &mut text);
+    if 32768 < n {
+        return;
+    }
+    io::write_all(STDOUT_FILENO, &text[..n]);
+}
+
+fn main() {
+    let mut path = io::buffer();
+    let length = os::arg(1, &mut path);
+    if os::errno() != 0 {
+        os::fail(b"gvrs_list: the name of one file is needed");
+        return;
+    }
+    let fd = os::open_read(&path[..length]);
+    if fd < 0 {
+        os::fail(&path[..length]);
+        return;
+    }
+    let mut file = [0u8; 65537];
+    let n = read_all(fd, &mut file);
+    if 65537 < n {
+        os::fail(&path[..length]);
+        return;
+    }
+    print_listing(&file[..n]);
+    libc::close(fd);
+}
