@@ -1,5 +1,5 @@
-//! A second implementation of the page store's check, reads and lay-down, written from the papers,
-//! and what it takes to compare it with the library: a builder of files and the library's C
+//! A second implementation of the page store's check, reads, lay-down and listing, written from
+//! the papers, and what it takes to compare it with the library: a builder of files and the library's C
 //! interface.
 //!
 //! "Document 01" is the scope paper, "G" the GVRS format description 1.4, "reading N" the N-th of

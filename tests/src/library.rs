@@ -36,6 +36,7 @@ extern "C" {
         out: *mut u64,
         out_n: u64,
     ) -> u32;
+    fn gvrs_list(file: *const u8, n: u64, text: *mut u8, text_n: u64) -> u64;
 }
 
 /// The routes of `gvrs_cell`. Every other number is the directory too.
@@ -109,6 +110,12 @@ pub fn lay_down_into(
             out.len() as u64,
         )
     }
+}
+
+/// The listing's length. The text goes into the caller's buffer, of any length.
+pub fn list_into(file: &[u8], text: &mut [u8]) -> u64 {
+    // Both slices are alive for the whole call and do not overlap.
+    unsafe { gvrs_list(file.as_ptr(), file.len() as u64, text.as_mut_ptr(), text.len() as u64) }
 }
 
 /// What `out` holds before a call, so that a number left unwritten shows.

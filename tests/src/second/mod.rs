@@ -11,4 +11,5 @@ pub mod fields;
 pub mod geometry;
 pub mod header;
 pub mod lay_down;
+pub mod listing;
 pub mod names;

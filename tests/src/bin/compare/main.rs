@@ -12,6 +12,7 @@ mod damage;
 mod hostile;
 mod lay_downs;
 mod lengths;
+mod listings;
 mod made;
 mod out;
 mod reads;
@@ -49,7 +50,7 @@ fn main() -> ExitCode {
 
 /// Every section. Each has a generator of its own, so that one can change without the others.
 fn whole_run(seed: u64, small: bool) -> bool {
-    let sections: [fn(&mut Run, &mut Prng); 10] = [
+    let sections: [fn(&mut Run, &mut Prng); 11] = [
         sample_sums::section,
         made::section,
         allowed::section,
@@ -60,6 +61,7 @@ fn whole_run(seed: u64, small: bool) -> bool {
         out::section,
         reads::section,
         lay_downs::section,
+        listings::section,
     ];
     let mut run = Run::new(small);
     for (number, section) in sections.into_iter().enumerate() {

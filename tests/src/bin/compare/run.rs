@@ -7,6 +7,7 @@ use gvrs_tests::library;
 use gvrs_tests::second::check::{check, Answer};
 
 use crate::lay_downs;
+use crate::listings;
 use crate::reads;
 
 /// Faults printed in full and files kept; the rest is only counted.
@@ -23,6 +24,7 @@ pub struct Run {
     pairs: Vec<PairTally>,
     pub reads: reads::tally::Tally,
     pub lay_downs: lay_downs::tally::Tally,
+    pub listings: listings::tally::Tally,
     faults: usize,
 }
 
@@ -50,6 +52,7 @@ impl Run {
             pairs: Vec::new(),
             reads: reads::tally::Tally::new(),
             lay_downs: lay_downs::tally::Tally::new(),
+            listings: listings::tally::Tally::new(),
             faults: 0,
         }
     }
@@ -63,7 +66,7 @@ impl Run {
         }
     }
 
-    /// Asks both implementations. They must agree.
+    /// Asks both implementations. They must agree, on the listing of some of the files too.
     pub fn compare(&mut self, sort: &'static str, file: &[u8]) -> Answer {
         // An allocation of exactly the file's length, so that valgrind sees a read behind it.
         let lent: Box<[u8]> = file.into();
@@ -75,7 +78,14 @@ impl Run {
             let text = format!("{sort}: library {from_library:?}, second {from_second:?}");
             self.fault(&text, file);
         }
+        if self.files_compared().is_multiple_of(listings::ONE_IN) {
+            self.listing(sort, file);
+        }
         from_second
+    }
+
+    fn files_compared(&self) -> usize {
+        self.answers.iter().sum()
     }
 
     /// As `compare`, where the answer is known.
@@ -161,6 +171,7 @@ impl Run {
         self.report_pairs();
         self.reads.report();
         self.lay_downs.report();
+        self.listings.report();
         if !self.small {
             self.missed();
         }
@@ -173,8 +184,7 @@ impl Run {
         for (sort, number) in &self.sorts {
             println!("  {number:8}  {sort}");
         }
-        let total: usize = self.answers.iter().sum();
-        println!("  {total:8}  together");
+        println!("  {:8}  together", self.files_compared());
         println!("Answers");
         for (number, times) in self.answers.iter().enumerate() {
             let meaning = if number == 0 { "accepted" } else { "refused" };
@@ -212,6 +222,10 @@ impl Run {
         }
         for thing in self.lay_downs.missed() {
             println!("FAULT: lay-downs: never reached: {thing}");
+            self.faults += 1;
+        }
+        for thing in self.listings.missed() {
+            println!("FAULT: listings: never reached: {thing}");
             self.faults += 1;
         }
     }

@@ -1,0 +1,112 @@
+//! Writes the files on which the listing program is run.
+//!
+//!     listing_files FOLDER
+//!
+//! The output that belongs to NAME.gvrs is stored as `tests/listing/NAME.txt`. Fails where the
+//! second implementation lists a file otherwise.
+
+use std::path::Path;
+use std::process::ExitCode;
+use std::{env, fs, io};
+
+use gvrs_tests::build::{build, bytes_of, make_checksums_good, Built};
+use gvrs_tests::page::{Body, Element, Page, Tile, SHORT};
+use gvrs_tests::second::listing::listing;
+
+fn main() -> ExitCode {
+    let Some(folder) = env::args().nth(1) else {
+        eprintln!("usage: listing_files FOLDER");
+        return ExitCode::from(2);
+    };
+    for (name, file) in files() {
+        if let Err(error) = write(Path::new(&folder), name, &file) {
+            eprintln!("{name}: {error}");
+            return ExitCode::FAILURE;
+        }
+    }
+    ExitCode::SUCCESS
+}
+
+fn write(folder: &Path, name: &str, file: &[u8]) -> io::Result<()> {
+    fs::write(folder.join(name).with_extension("gvrs"), file)?;
+    let stored = Path::new(concat!(env!("CARGO_MANIFEST_DIR"), "/listing")).join(name);
+    let text = fs::read_to_string(stored.with_extension("txt"))?;
+    if text == listing(file) {
+        Ok(())
+    } else {
+        Err(io::Error::other(format!("the second implementation lists {:?}", listing(file))))
+    }
+}
+
+fn files() -> Vec<(&'static str, Vec<u8>)> {
+    vec![
+        ("sample", bytes_of(&sample())),
+        ("empty-file", Vec::new()),
+        ("refused-1", changed(|built| built.bytes[4] = b'_')),
+        ("refused-2", changed(|built| built.bytes[13] = 3)),
+        ("refused-3", changed(|built| set(built, "raster space", 3))),
+        ("refused-4", changed(|built| set(built, "grid rows", 65_537))),
+        ("refused-5", changed(|built| set(built, "time opened", 1))),
+        ("refused-6", changed(|built| built.bytes.truncate(built.bytes.len() - 8))),
+        ("refused-7", checksum_changed()),
+        ("refused-8", changed(|built| set(built, "tile index", 4))),
+        ("refused-9", changed(|built| set(built, "tile directory reference", 0))),
+        ("none-stored", bytes_of(&Page::of_sides([70, 9], [8, 5]))),
+        ("out-of-order", out_of_order()),
+        ("65535-bytes", of_length(65_536)[..65_535].to_vec()),
+        ("65536-bytes", of_length(65_536)),
+        ("65537-bytes", [of_length(65_536), vec![0]].concat()),
+        ("65544-bytes", of_length(65_544)),
+    ]
+}
+
+/// Document 01: "A 3 by 3 grid with 2 by 2 tiles, one element, tile 2 alone stored".
+fn sample() -> Page {
+    let mut page = Page::of_sides([3, 3], [2, 2]);
+    page.insert(0, tile(2, 16));
+    page
+}
+
+fn tile(index: u32, length: usize) -> Body {
+    Body::Tile(Tile { index, contents: vec![vec![7; length]] })
+}
+
+/// The sample page with one thing changed, and its checksums made good.
+fn changed(change: fn(&mut Built)) -> Vec<u8> {
+    let mut built = build(&sample());
+    change(&mut built);
+    make_checksums_good(&mut built.bytes);
+    built.bytes
+}
+
+fn set(built: &mut Built, name: &str, value: u64) {
+    let field = built.only(name);
+    built.set(&field, value);
+}
+
+/// The last byte of the file is one of a checksum.
+fn checksum_changed() -> Vec<u8> {
+    let mut file = bytes_of(&sample());
+    let last = file.len() - 1;
+    file[last] ^= 1;
+    file
+}
+
+/// Every third of 1,200 tiles, in an order that is far from rising.
+fn out_of_order() -> Vec<u8> {
+    let mut page = Page::of_sides([30, 40], [1, 1]);
+    page.elements = vec![Element::new(SHORT, b"z")];
+    for number in 0..400 {
+        page.insert(page.records.len(), tile(number * 171 % 400 * 3, 2));
+    }
+    bytes_of(&page)
+}
+
+/// The sample page, brought to a length by a free record.
+fn of_length(length: usize) -> Vec<u8> {
+    let mut page = sample();
+    page.insert(0, Body::Free(16));
+    page.insert(0, Body::FileSpaceDirectory(vec![1]));
+    page.records[1].surplus = length - bytes_of(&page).len();
+    bytes_of(&page)
+}
