@@ -17,7 +17,7 @@ use Rattle.answer.specs.Answers.{cellKind, cellType, cellBits, cellPlace, conte
 use Rattle.page_check.specs.Stages.{check}
 use Rattle.cells.specs.Reads.{readByDirectory, readByWalk, readByRecords, readMeaning, recordsMeaning, readContent}
 use Rattle.cells.proofs.ReadLaws.{directory-read, walk-read, records-read}
-use Rattle.gvrs_c.specs.Report.{reported, laidReport}
+use Rattle.gvrs_c.specs.Report.{reported, cellNumbers, contentNumbers, laidReport}
 use Rattle.gvrs_c.specs.Route.{readBy, meaningBy, RouteMeans}
 
 one-reported : (out : List ℕ) (a : ℕ) → set out 0 a ≡ reported (a ∷ []) out
@@ -72,15 +72,23 @@ route-means route s row column e = go (eqb route 1) refl (eqb route 2) refl
     go false f true g = records-read s row column e
     go false f false g = directory-read s row column e
 
+-- what is said of a cell's answer x
+abbrev Told : ℕ → List ℕ → List ℕ → Cell → Type 0
+Told n t o x = (n ≡ cellKind x) × (t ≡ reported (cellNumbers x) o)
+
 pub cell-told :
-    (o p q t : List ℕ) (x y : Cell) (n a b c : ℕ) → x ≡ y → a ≡ cellType x → p ≡ set o 0 a → b ≡ cellBits x → q ≡ set p 1 b → c ≡ cellPlace x →
-    t ≡ set q 2 c → n ≡ cellKind x → (n ≡ cellKind y) × (t ≡ reported (cellType y ∷ cellBits y ∷ cellPlace y ∷ []) o)
-cell-told o p q t x y n a b c e f g h i j k l = (l ∙ ap cellKind e, k ∙ rw (i, g) (three-reported o a b c ∙ rw (f, h, j, e)))
+    (route : ℕ) (s : List ℕ) (row column e : ℕ) (o p q t : List ℕ) (x : Cell) (n a b c : ℕ) → x ≡ readBy route s row column e →
+    a ≡ cellType x → p ≡ set o 0 a → b ≡ cellBits x → q ≡ set p 1 b → c ≡ cellPlace x → t ≡ set q 2 c → n ≡ cellKind x →
+    (n ≡ cellKind (readBy route s row column e)) × ((t ≡ reported (cellNumbers (readBy route s row column e)) o) × Told n t o (meaningBy route s row column e))
+cell-told route s row column e o p q t x n a b c d f g h i j k l =
+    let told : Told n t o x = (l, k ∙ rw (i, g) (three-reported o a b c ∙ rw (f, h, j))) in
+    let by : Told n t o (readBy route s row column e) = rw d at told in
+    (by .0, (by .1, rw (route-means route s row column e) at by))
 
 -- an element's content
 pub content-told :
     (o p q : List ℕ) (x y : Content) (n a b : ℕ) → x ≡ y → a ≡ contentPlace x → p ≡ set o 0 a → b ≡ contentLength x → q ≡ set p 1 b →
-    n ≡ contentKind x → (n ≡ contentKind y) × (q ≡ reported (contentPlace y ∷ contentLength y ∷ []) o)
+    n ≡ contentKind x → (n ≡ contentKind y) × (q ≡ reported (contentNumbers y) o)
 content-told o p q x y n a b e f g h i l = (l ∙ ap contentKind e, i ∙ rw g (two-reported o a b ∙ rw (f, h, e)))
 
 -- a lay-down's number and length, or place

@@ -1,14 +1,25 @@
 -- What `out` holds behind a call: the answer's numbers in their order, as many as it has room for; what stands behind them stays.
 use Prim.Native.Nat.{ℕ}
 use mathlib.Core.List.{List, [], _∷_}
+use Rattle.answer.specs.declared.Cell.{Cell}
+use Rattle.answer.specs.declared.Content.{Content}
 use Rattle.answer.specs.declared.Laid.{Laid}
 use Rattle.answer.specs.declared.Laid.the-variants.{Length, Refused}
 use Rattle.answer.specs.Refusals.{refusalPlace}
+use Rattle.answer.specs.Answers.{cellType, cellBits, cellPlace, contentPlace, contentLength}
 
 unfoldable pub reported : List ℕ → List ℕ → List ℕ
 reported [] out = out
 reported (v ∷ vs) [] = []
 reported (v ∷ vs) (x ∷ xs) = v ∷ reported vs xs
+
+-- a cell's numbers: its type code, its bits and its place
+abbrev pub cellNumbers : Cell → List ℕ
+cellNumbers x = cellType x ∷ cellBits x ∷ cellPlace x ∷ []
+
+-- a content's: its start, or the refusal's place, and its length
+abbrev pub contentNumbers : Content → List ℕ
+contentNumbers x = contentPlace x ∷ contentLength x ∷ []
 
 -- a lay-down's number: the file's length where it is done, and the place of its refusal
 abbrev pub laidReport : Laid → ℕ

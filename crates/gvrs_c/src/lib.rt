@@ -6,14 +6,14 @@ ghost use mathlib.Core.Path.{_≡_};
 ghost use mathlib.Core.List.{[], _∷_};
 ghost use lib.ListN.{length, set};
 ghost use Rattle.answer.specs.Refusals.{verdictNumber, verdictPlace};
-ghost use Rattle.answer.specs.Answers.{cellKind, cellType, cellBits, cellPlace, contentKind, contentPlace, contentLength, laidNumber};
+ghost use Rattle.answer.specs.Answers.{cellKind, contentKind, laidNumber};
 ghost use Rattle.page_check.specs.Stages.{check};
 ghost use Rattle.cells.specs.Reads.{readContent};
 ghost use Rattle.lay_down.specs.Answer.{laid, laidOut};
 ghost use Rattle.wire.specs.Bytes.{put};
 ghost use Rattle.listing.specs.Listing.{listing};
-ghost use Rattle.gvrs_c.specs.Report.{reported, laidReport};
-ghost use Rattle.gvrs_c.specs.Route.{readBy};
+ghost use Rattle.gvrs_c.specs.Report.{reported, cellNumbers, contentNumbers, laidReport};
+ghost use Rattle.gvrs_c.specs.Route.{readBy, meaningBy};
 
 // A number of an answer at its place in `out`, if `out` is long enough.
 fn report(out: &mut [u64], k: usize, v: u64)
@@ -49,6 +49,7 @@ fn read_by(file: &[u8], row: u64, column: u64, element: u64, route: u32) -> Cell
 }
 
 // 32 where the cell is stored, 33 where it is fill, else the refusal's number; `out` takes the type code, the bits and the place.
+// By every route it is the check's refusal or the cell's meaning.
 #[no_mangle]
 pub extern "C" fn gvrs_cell(
     file: &[u8],
@@ -59,7 +60,8 @@ pub extern "C" fn gvrs_cell(
     out: &mut [u64],
 ) -> u32
     ensures kind { λ r. ⌜ r ≡ cellKind (readBy route (now (file .entry)) row column element) ⌝ }
-    ensures value { λ _. ⌜ now (out .exit) ≡ reported (cellType (readBy route (now (file .entry)) row column element) ∷ cellBits (readBy route (now (file .entry)) row column element) ∷ cellPlace (readBy route (now (file .entry)) row column element) ∷ []) (now (out .entry)) ⌝ }
+    ensures value { λ _. ⌜ now (out .exit) ≡ reported (cellNumbers (readBy route (now (file .entry)) row column element)) (now (out .entry)) ⌝ }
+    ensures meaning { λ r. ⌜ (r ≡ cellKind (meaningBy route (now (file .entry)) row column element)) × (now (out .exit) ≡ reported (cellNumbers (meaningBy route (now (file .entry)) row column element)) (now (out .entry))) ⌝ }
 {
     let cell = read_by(file, row, column, element, route);
     report(out, 0, answer::cell_type(cell) as u64);
@@ -73,7 +75,7 @@ pub extern "C" fn gvrs_cell(
 #[no_mangle]
 pub extern "C" fn gvrs_content(file: &[u8], tile: u64, element: u64, out: &mut [u64]) -> u32
     ensures kind { λ r. ⌜ r ≡ contentKind (readContent (now (file .entry)) tile element) ⌝ }
-    ensures part { λ _. ⌜ now (out .exit) ≡ reported (contentPlace (readContent (now (file .entry)) tile element) ∷ contentLength (readContent (now (file .entry)) tile element) ∷ []) (now (out .entry)) ⌝ }
+    ensures part { λ _. ⌜ now (out .exit) ≡ reported (contentNumbers (readContent (now (file .entry)) tile element)) (now (out .entry)) ⌝ }
 {
     let content = reads::content(file, tile, element);
     report(out, 0, answer::content_place(content) as u64);

@@ -1,20 +1,28 @@
 -- The indexes that tile records carry, by the directory. Assumes nothing.
 use Prim.Native.Nat.{ℕ, _<_}
-use mathlib.Core.Path.{_≡_, sym, ap}
-use mathlib.Core.List.{List}
-use mathlib.Core.Bool.{true, false}
+use mathlib.Core.Path.{_≡_, refl, sym, ap, _∙_}
+use mathlib.Core.List.{List, [], _∷_, List·Memᴰ}
+use mathlib.Core.Bool.{Bool, true, false}
 use native.Mathlib.Omega.{arith}
-use Rattle.wire.proofs.TestLaws.{means, yes, no-true}
+use borrow.Author.Tests.{eq-eqb}
+use Rattle.wire.specs.Tests.{_≡?_, passes}
+use Rattle.wire.proofs.TestLaws.{means, yes, no-true, iff}
 use Rattle.answer.specs.declared.Verdict.the-variants.{Accepted}
 use Rattle.geometry.specs.Tiles.{tileCount}
+use Rattle.record.specs.Record.{contentAt}
 use Rattle.check_records.specs.Chain.{records}
-use Rattle.directory.specs.Lists.{some}
+use Rattle.check_records.specs.TileBody.{tileIndex}
+use Rattle.directory.specs.Lists.{some, countBelow, recordsOf}
 use Rattle.directory.specs.TileDirectory.{tileReference}
-use Rattle.directory.proofs.MemberLaws.{some-member, member-some, of-type, type-of}
+use Rattle.directory.specs.Correspondence.{OneToOne}
+use Rattle.directory.proofs.CountLaws.{count-one, count-same, count-named}
+use Rattle.directory.proofs.OnlyLaws.{records-behind}
+use Rattle.directory.proofs.MemberLaws.{some-member, member-some, member-every, of-type, type-of}
 use Rattle.page_check.specs.Stages.{check}
 use Rattle.page_check.proofs.AcceptedLaws.{accepted-obeys}
 use Rattle.page_check.proofs.GivenLaws.{obeys-one}
 use Rattle.cells.specs.TileCells.{carries}
+use Rattle.listing.specs.Listing.{written, LineEach}
 
 module _ (s : List ℕ) (e : check s ≡ Accepted) (i : ℕ) where
   pub not-carried : tileReference s i ≡ 0 → some (carries s i) (records s) ≡ false
@@ -35,3 +43,38 @@ module _ (s : List ℕ) (e : check s ≡ Accepted) (i : ℕ) where
       let t = obeys-one s (records s) (accepted-obeys s e) .given i h z in
       let m = of-type s 2 (t .among) in
       member-some (carries s i) (records s) (m .0) (sym (yes _ (m .1, (t .index, tt))))
+
+-- each tile record has one index, and each index one tile record at most
+
+module _ (s : List ℕ) (o : OneToOne s) where
+  abbrev names : ℕ → ℕ → Bool
+  names x i = passes ((tileReference s i ≡? contentAt x) ∷ (tileIndex s x ≡? i) ∷ [])
+
+  alone : (x y i : ℕ) → names x i ≡ true → names y i ≡ true → x ≡ y
+  alone x y i e f = omega (arith, means _ e .0, means _ f .0)
+
+  named-once : {x : ℕ} → List·Memᴰ x (recordsOf s 2) → countBelow (tileCount s) (names x) ≡ 1
+  named-once {x} m =
+      count-one (tileCount s) (names x) (tileIndex s x) (o .below m) (sym (yes _ (o .listed m, (refl, tt)))) (λ i f. sym (means _ f .1 .0))
+
+  carried-named : (i : ℕ) → some (carries s i) (records s) ≡ some (λ x. names x i) (recordsOf s 2)
+  unfolding carries
+  carried-named i =
+      iff _ _
+      (λ t.
+      some-member _ (carries s i) (records s) t
+      (λ x m c.
+      let h = means _ c in
+      let n = type-of s 2 m (h .0) in
+      member-some (λ y. names y i) (recordsOf s 2) n (sym (yes _ (ap (tileReference s) (sym (h .1 .0)) ∙ o .listed n, (h .1 .0, tt))))))
+      (λ t.
+      some-member _ (λ x. names x i) (recordsOf s 2) t
+      (λ x m c. let h = of-type s 2 m in member-some (carries s i) (records s) (h .0) (sym (yes _ (h .1, (means _ c .1 .0, tt))))))
+
+pub line-each : LineEach
+unfolding written
+line-each s e =
+    let o = obeys-one s (records s) (accepted-obeys s e) in
+    count-same (tileCount s) _ (λ i. some (λ x. names s o x i) (recordsOf s 2)) (λ i h. carried-named s o i)
+    ∙ count-named (tileCount s) (names s o) (alone s o) 0 (recordsOf s 2) (records-behind s 2)
+    (member-every _ (recordsOf s 2) (λ x m. eq-eqb _ _ (named-once s o m)))

@@ -1,5 +1,6 @@
 -- Document 01, 'The listing': the text, as bytes.
 use Prim.Native.Nat.{ℕ, zero, suc}
+use mathlib.Core.Path.{_≡_}
 use mathlib.Core.List.{List, [], _++_}
 use lib.ListN.{length}
 use lib.Dec.{leb}
@@ -10,7 +11,7 @@ use Rattle.answer.specs.Refusals.{refusalNumber, refusalPlace}
 use Rattle.header.specs.Fields.{gridRows, gridColumns, tileRows, tileColumns, elementCount}
 use Rattle.geometry.specs.Tiles.{tileCount}
 use Rattle.check_records.specs.Chain.{records}
-use Rattle.directory.specs.Lists.{some, recordsOf}
+use Rattle.directory.specs.Lists.{some, countBelow, recordsOf}
 use Rattle.page_check.specs.Stages.{check}
 use Rattle.cells.specs.TileCells.{carries}
 use Rattle.listing.specs.Text.{decimal, space, newline, gridWord, tileWord, elementsWord, writtenWord, ofWord, refusedWord, atWord, tooLong, line}
@@ -24,6 +25,10 @@ written s = length (recordsOf s 2)
 unfoldable pub indexLines : List ℕ → ℕ → List ℕ
 indexLines s zero = []
 indexLines s (suc n) = indexLines s n ++ pick (some (carries s n) (records s)) (decimal n ++ newline) []
+
+-- so an accepted file has a line for each tile record: as many indexes below the tile count have one as `written` says
+abbrev pub LineEach : Type 0
+LineEach = (s : List ℕ) → check s ≡ Accepted → countBelow (tileCount s) (λ i. some (carries s i) (records s)) ≡ written s
 
 -- sides as rows then columns
 unfoldable pub listed : List ℕ → List ℕ

@@ -19,4 +19,4 @@ gvrs-cell-spec =
     (λ c κs. search needs)
     (λ c κs. search needs)
     (λ c. search needs)
-    (λ c. cell-told _ _ _ _ _ _ _ _ _ _ (c .before .before .before .before .before .before .before .before .before .before .before .before .before .before .before .before .read-by .ensures) (c .before .before .before .before .before .before .before .before .before .before .before .before .before .before .cell-type .ensures) (c .before .before .before .before .before .before .before .before .before .before .before .before .before .report .ensures) (c .before .before .before .before .before .before .before .before .before .cell-bits .ensures) (c .before .before .before .before .before .before .before .before .report2 .ensures) (c .before .before .before .before .cell-place .ensures) (c .before .before .before .report3 .ensures) (c .cell-kind .ensures)))
+    (λ c. cell-told _ _ _ _ _ _ _ _ _ _ _ _ _ _ (c .before .before .before .before .before .before .before .before .before .before .before .before .before .before .before .before .read-by .ensures) (c .before .before .before .before .before .before .before .before .before .before .before .before .before .before .cell-type .ensures) (c .before .before .before .before .before .before .before .before .before .before .before .before .before .report .ensures) (c .before .before .before .before .before .before .before .before .before .cell-bits .ensures) (c .before .before .before .before .before .before .before .before .report2 .ensures) (c .before .before .before .before .cell-place .ensures) (c .before .before .before .report3 .ensures) (c .cell-kind .ensures)))
