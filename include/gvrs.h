@@ -1,12 +1,14 @@
-/* Gridfour Virtual Raster Store files, version 1.4: the check of a file, reads of its cells, and the laying down of a new one.
+/* Gridfour Virtual Raster Store files, version 1.4: the check of a file, reads of its cells, the laying down of a new one, and the
+   listing of a file.
 
    Link with libgvrs_c.a, which `rt staticlib gvrs_c` writes to target/staticlib/. A file is the bytes of the whole file, n of
    them. `out` takes the numbers that a function names, in their order; a shorter one takes those that fit, and the answer is the
-   same. A lay-down writes the buffer that it is given for the file, too. Nothing else is written.
+   same. A lay-down also writes the buffer that it is given for the file, a listing the buffer for its text. Nothing else is
+   written.
 
    The caller sees to it that each pointer is that of as many elements as are named, and that none is null, also where it names
-   none; that `out`, and the buffer of a lay-down, overlap nothing else that is passed; that `indexes` is aligned to 4 bytes and
-   `out` to 8; and that the calling thread has 320 KiB of stack left. */
+   none; that what is written (`out`, the buffer of a lay-down, the text of a listing) overlaps nothing else that is passed; that
+   `indexes` is aligned to 4 bytes and `out` to 8; and that the calling thread has 320 KiB of stack left. */
 #ifndef GVRS_H
 #define GVRS_H
 

@@ -28,8 +28,8 @@ referredContent s at tile e = pick (eqb (referenceFrom s at tile) 0) content.Abs
 unfoldable pub directoryContent : List ℕ → ℕ → ℕ → ℕ → Content
 directoryContent s at tile e = pick (inTiles s tile e) (referredContent s at tile e) (content.Refused OutsideGrid)
 
--- the same without the check, on any bytes: 9 where the sides are not lawful or a reference lies past the file; any other reference
--- is believed as it stands
+-- the same without the check, on any bytes: 9 where the sides are not lawful or the record that a reference gives, 8 before it, would
+-- start past the file; any other reference is believed as it stands. No read is defined by it
 unfoldable pub lookedInside : List ℕ → ℕ → ℕ → ℕ → ℕ → Cell
 lookedInside s at row column e =
     pick (sidesLawful s)

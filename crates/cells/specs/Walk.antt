@@ -26,7 +26,7 @@ unfoldable pub walkCell : List ℕ → ℕ → ℕ → ℕ → ℕ → Cell
 walkCell s at row column e =
     pick (inGrid s row column e) (found s row column e (walkedTo s at (cellTile s row column))) (cell.Refused OutsideGrid)
 
--- the same without the check, on any bytes: 9 where the sides are not lawful
+-- the same without the check, on any bytes: 9 where the sides are not lawful. No read is defined by it
 unfoldable pub walkedCell : List ℕ → ℕ → ℕ → ℕ → ℕ → Cell
 walkedCell s at row column e =
     pick (inGrid s row column e)

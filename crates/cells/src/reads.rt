@@ -1,4 +1,5 @@
-// Reads: the check's refusal, then 10, then fill, stored, or 11.
+// Reads: the check's refusal, then 10, then fill, stored, or 11. Beside them, for callers that have made the check, the same without
+// it (`cell_of_accepted` and what ends in `_unchecked`): no reads, they answer 10 first, then 9 where unchecked bytes lead nowhere.
 use crate::asked;
 use crate::tile_cells;
 use crate::walk;
@@ -51,7 +52,7 @@ fn look_up(s: &[u8], at: usize, row: u32, column: u32, e: u32) -> Cell
 }
 
 // The cell by the directory at a position, without the check: what its entries give, believed as they stand; 9 where the
-// sides are not lawful or a reference lies past the file.
+// sides are not lawful or the record that a reference gives would start past the file.
 pub fn look_up_unchecked(s: &[u8], at: usize, row: u64, column: u64, e: u64) -> Cell
     ensures { λ r. ⌜ r ≡ lookedFrom (now (s .entry)) at row column e ⌝ }
 {
