@@ -44,3 +44,20 @@ pub fn content_part<'a>(p: Page<'a>, tile: u64, e: u64) -> &'a [u8]
 {
     reads::content_from(p.file, p.directory, tile, e)
 }
+
+// A cell of bytes that are opened for it. Its caller holds no page, so no proof about a caller goes through one.
+pub fn cell_of(file: &[u8], row: u64, column: u64, e: u64, walk: bool) -> Cell
+    ensures route { λ r. ⌜ r ≡ plainRead (now (file .entry)) row column e walk ⌝ }
+    ensures meaning { λ r. ⌜ r ≡ readMeaning (now (file .entry)) row column e ⌝ }
+{
+    read(open(file), row, column, e, walk)
+}
+
+// An element's content, of bytes that are opened for it, as that part of them.
+pub fn content_of(file: &[u8], tile: u64, e: u64) -> &[u8]
+    ensures holds { λ r. ⌜ now r ≡ part (now (file .entry)) (contentPlace (readContent (now (file .entry)) tile e)) (contentLength (readContent (now (file .entry)) tile e)) ⌝ }
+    ensures block { λ r. ⌜ r .ptr .0 ≡ file .entry .ptr .0 ⌝ }
+    ensures offset { λ r. ⌜ r .ptr .1 ≡ file .entry .ptr .1 + partAt (now (file .entry)) (contentPlace (readContent (now (file .entry)) tile e)) (contentLength (readContent (now (file .entry)) tile e)) ⌝ }
+{
+    content_part(open(file), tile, e)
+}

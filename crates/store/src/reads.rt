@@ -109,8 +109,8 @@ pub fn read_from(
     look_from(file, directory, row, column, e)
 }
 
-// Where an element's content stands, through a held tile directory.
-fn content_at(file: &[u8], directory: u64, tile: u64, e: u64) -> Content
+// Where an element's content stands, through a held tile directory: present, absent, or refused and why.
+pub fn content_at(file: &[u8], directory: u64, tile: u64, e: u64) -> Content
     ensures held { λ r. ⌜ r ≡ pageContent (now (file .entry)) directory tile e ⌝ }
     ensures plain { λ r. ⌜ r ≡ readContent (now (file .entry)) tile e ⌝ }
 {
