@@ -1,0 +1,78 @@
+// A product above the store: it prints some cells and contents of the page that its first argument names. It lists the crates `store`
+// and `answer`, and none below them.
+use answer::Cell;
+use libc::STDOUT_FILENO;
+ghost use mathlib.Core.Path.{_≡_};
+ghost use Rattle.store.specs.Face.{readMeaning};
+
+// A cell of element 0. It is proved that by the walk and by the directory this is what the bytes mean, or why they are refused.
+fn cell(file: &[u8], row: u64, column: u64, walk: bool) -> Cell
+    ensures { λ r. ⌜ r ≡ readMeaning (now (file .entry)) row column 0 ⌝ }
+{
+    store::cell_of(file, row, column, 0, walk)
+}
+
+fn wide(byte: u8) -> u64 {
+    byte as u64
+}
+
+fn print(text: &[u8], number: u64) {
+    io::write_all(STDOUT_FILENO, text);
+    io::print_decimal(STDOUT_FILENO, number);
+}
+
+// A value by its bits, and a refusal by its number.
+fn print_cell(label: &[u8], x: Cell) {
+    io::write_all(STDOUT_FILENO, label);
+    match x {
+        Cell::Stored { value, place } => {
+            print(b"stored ", answer::value_bits(value) as u64);
+            print(b" at ", place as u64);
+        }
+        Cell::Fill { value } => print(b"fill ", answer::value_bits(value) as u64),
+        Cell::Refused(r) => {
+            print(b"refused ", answer::refusal_number(r) as u64);
+            print(b" at ", answer::refusal_place(r) as u64);
+        }
+    }
+    io::write_all(STDOUT_FILENO, b"\n");
+}
+
+// The content of element 0 in a tile is a part of the file itself, with nothing copied.
+fn print_content(label: &[u8], file: &[u8], tile: u64) {
+    let content = store::content_of(file, tile, 0);
+    print(label, content.len() as u64);
+    io::write_all(STDOUT_FILENO, b" bytes");
+    if 0 < content.len() {
+        print(b", the first ", wide(content[0]));
+    }
+    io::write_all(STDOUT_FILENO, b"\n");
+}
+
+fn print_page(file: &[u8]) {
+    print_cell(b"cell 2 1 by the directory: ", cell(file, 2, 1, false));
+    print_cell(b"cell 2 1 by the walk: ", cell(file, 2, 1, true));
+    // An opened page may hold any two numbers beside the bytes, as 1 and 2 here. It answers the same.
+    let held = store::reads::read_from(file, 1, 2, 2, 1, 0, true);
+    print_cell(b"cell 2 1 on a page that holds wrong numbers: ", held);
+    print_cell(b"cell 0 0 by the directory: ", cell(file, 0, 0, false));
+    print_cell(b"cell 0 0 by the walk: ", cell(file, 0, 0, true));
+    print_cell(b"cell 3 0: ", cell(file, 3, 0, false));
+    print_content(b"content of tile 2: ", file, 2);
+    print_content(b"content of tile 0: ", file, 0);
+}
+
+// Of a file that is longer than the buffer the first 65,536 bytes are read.
+fn main() {
+    let mut path = io::buffer();
+    let length = os::arg(1, &mut path);
+    let fd = os::open_read(&path[..length]);
+    if fd < 0 {
+        os::fail(&path[..length]);
+        return;
+    }
+    let mut file = io::large_buffer();
+    let n = io::read_full(fd, &mut file);
+    libc::close(fd);
+    print_page(&file[..n]);
+}
