@@ -1,2 +1,3 @@
 pub mod OpenedLaws
+pub mod Held
 pub mod Opens

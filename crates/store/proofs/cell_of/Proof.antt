@@ -40,7 +40,8 @@ use Rattle.answer.proofs.Cell as S
 use Rattle.answer.proofs.Cell.Laws as S′
 use Rattle.cells.specs.Reads.{readMeaning}
 use Rattle.store.specs.Opened.{plainRead}
-use Rattle.store.proofs.Opens.{PageT, v, opened, Own, Open, opens}
+use Rattle.store.proofs.Held.{PageT, v, Own}
+use Rattle.store.proofs.Opens.{opened, Open, opens}
 use Rattle.store.proofs.open.Symbol as open-def
 use Rattle.store.proofs.open.Symbol.{name as #store·open}
 use Rattle.store.proofs.open.Met as open-thm

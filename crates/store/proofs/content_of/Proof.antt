@@ -37,7 +37,8 @@ use Rattle.wire.specs.Bytes.{part, partAt}
 use Rattle.answer.specs.declared.Content.{Content}
 use Rattle.answer.specs.Answers.{contentPlace, contentLength}
 use Rattle.cells.specs.Reads.{readContent}
-use Rattle.store.proofs.Opens.{PageT, v, opened, Own, Open, opens}
+use Rattle.store.proofs.Held.{PageT, v, Own}
+use Rattle.store.proofs.Opens.{opened, Open, opens}
 use Rattle.store.proofs.open.Symbol as open-def
 use Rattle.store.proofs.open.Symbol.{name as #store·open}
 use Rattle.store.proofs.open.Met as open-thm
