@@ -1,6 +1,10 @@
+// crates/example/src/main.rt
+//
 // A product above the store: it prints some cells and contents of the page that its first argument names. It lists the crates `store`
 // and `answer`, and none below them.
 use answer::Cell;
+use answer::Content;
+use answer::Refusal;
 use libc::STDOUT_FILENO;
 ghost use mathlib.Core.Path.{_≡_};
 ghost use Rattle.store.specs.Face.{readMeaning};
@@ -12,13 +16,14 @@ fn cell(file: &[u8], row: u64, column: u64, walk: bool) -> Cell
     store::cell_of(file, row, column, 0, walk)
 }
 
-fn wide(byte: u8) -> u64 {
-    byte as u64
-}
-
 fn print(text: &[u8], number: u64) {
     io::write_all(STDOUT_FILENO, text);
     io::print_decimal(STDOUT_FILENO, number);
+}
+
+fn print_refusal(r: Refusal) {
+    print(b"refused ", answer::refusal_number(r) as u64);
+    print(b" at ", answer::refusal_place(r) as u64);
 }
 
 // A value by its bits, and a refusal by its number.
@@ -30,21 +35,23 @@ fn print_cell(label: &[u8], x: Cell) {
             print(b" at ", place as u64);
         }
         Cell::Fill { value } => print(b"fill ", answer::value_bits(value) as u64),
-        Cell::Refused(r) => {
-            print(b"refused ", answer::refusal_number(r) as u64);
-            print(b" at ", answer::refusal_place(r) as u64);
-        }
+        Cell::Refused(r) => print_refusal(r),
     }
     io::write_all(STDOUT_FILENO, b"\n");
 }
 
-// The content of element 0 in a tile is a part of the file itself, with nothing copied.
+// The content of element 0 in a tile is a part of the file itself, with nothing copied. Whether it is there is asked apart.
 fn print_content(label: &[u8], file: &[u8], tile: u64) {
-    let content = store::content_of(file, tile, 0);
-    print(label, content.len() as u64);
-    io::write_all(STDOUT_FILENO, b" bytes");
-    if 0 < content.len() {
-        print(b", the first ", wide(content[0]));
+    io::write_all(STDOUT_FILENO, label);
+    match store::reads::content_at(file, 0, tile, 0) {
+        Content::Present { start, length: _ } => {
+            print(b"present at ", start as u64);
+            print(b", bytes ", store::content_of(file, tile, 0).len() as u64);
+        }
+        Content::Absent => {
+            io::write_all(STDOUT_FILENO, b"absent");
+        }
+        Content::Refused(r) => print_refusal(r),
     }
     io::write_all(STDOUT_FILENO, b"\n");
 }
@@ -60,6 +67,7 @@ fn print_page(file: &[u8]) {
     print_cell(b"cell 3 0: ", cell(file, 3, 0, false));
     print_content(b"content of tile 2: ", file, 2);
     print_content(b"content of tile 0: ", file, 0);
+    print_content(b"content of tile 4: ", file, 4);
 }
 
 // Of a file that is longer than the buffer the first 65,536 bytes are read.
