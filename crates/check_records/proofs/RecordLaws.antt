@@ -7,7 +7,7 @@ use native.Mathlib.Omega.{arith}
 use lib.ListN.{length}
 use borrow.Author.Tests.{eq-eqb, ne-eqb, le-leb, lt-leb}
 use Rattle.wire.specs.Tests.{allBelow}
-use Rattle.wire.specs.Bytes.{byteAt, numberAt, u16At, u32At, part}
+use Rattle.wire.specs.Bytes.{byteAt, numberAt, u16At, u32At, part, partAt}
 use Rattle.wire.specs.Items.{advance}
 use Rattle.wire.proofs.TestLaws.{means, no, not-both}
 use Rattle.wire.proofs.ByteLaws.{byte-out, number-out, part-out}
@@ -148,6 +148,9 @@ record-id-is s at p r a e = e ∙ rw a
 pub named-is : (s : List ℕ) (at n : ℕ) (l : List ℕ) → n ≡ numberAt 2 s (at + 8) → l ≡ part s (at + 10) n → l ≡ metadataName s at
 unfolding metadataName
 named-is s at n l a e = e ∙ rw a
+
+pub name-offset : (s : List ℕ) (at n o p : ℕ) → n ≡ numberAt 2 s (at + 8) → o ≡ p + partAt s (at + 10) n → o ≡ p + partAt s (at + 10) (u16At s (at + 8))
+name-offset s at n o p a e = e ∙ rw a
 
 pub id-is : (s : List ℕ) (at n : ℕ) → n ≡ stringSize s (at + 8) → at + 8 + n ≡ recordIdAt s at
 unfolding recordIdAt stringEnd

@@ -5,6 +5,7 @@ use header::names;
 ghost use mathlib.Core.Path.{_≡_};
 ghost use Prim.Native.Nat.{_+_, _≤_, _<_};
 ghost use lib.ListN.{length};
+ghost use Rattle.wire.specs.Bytes.{u16At, partAt};
 ghost use Rattle.header.specs.Names.{identifier};
 ghost use Rattle.check_records.specs.Chain.{endRight};
 ghost use Rattle.check_records.specs.MetadataBody.{metadataName, recordIdAt, recordId, dataType, contentLengthAt, metadataLength, metadataEnd, metadataRight};
@@ -38,9 +39,11 @@ pub fn data_type(s: &[u8], at: usize) -> u32
     wire::byte_off(s, record_id_at(s, at), 4)
 }
 
-// The bytes of the name.
+// The bytes of the name, as that part of the file itself; the empty part where they do not lie whole in it.
 pub fn metadata_name(s: &[u8], at: usize) -> &[u8]
-    ensures { λ r. ⌜ now r ≡ metadataName (now (s .entry)) at ⌝ }
+    ensures holds { λ r. ⌜ now r ≡ metadataName (now (s .entry)) at ⌝ }
+    ensures block { λ r. ⌜ r .ptr .0 ≡ s .entry .ptr .0 ⌝ }
+    ensures offset { λ r. ⌜ r .ptr .1 ≡ s .entry .ptr .1 + partAt (now (s .entry)) (at + 10) (u16At (now (s .entry)) (at + 8)) ⌝ }
 {
     if s.len() <= at {
         return &s[..0];

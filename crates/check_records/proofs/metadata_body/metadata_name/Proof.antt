@@ -1,6 +1,8 @@
 -- `check_records::metadata_body::metadata_name` meets its contract. Assumes nothing.
 use native.Mathlib.Omega.{arith}
-use Rattle.check_records.proofs.RecordLaws.{name-past, named-is}
+use mathlib.Core.Path.{refl}
+use Rattle.wire.proofs.ByteLaws.{offset-out}
+use Rattle.check_records.proofs.RecordLaws.{name-past, named-is, name-offset}
 use borrow.Author.Needs.{needs}
 use Rattle.check_records.proofs.metadata_body.metadata_name.Statement.{statement}
 use Rattle.check_records.proofs.metadata_body.metadata_name.Tie as tie
@@ -10,9 +12,9 @@ metadata-name-spec =
     tie.close
     (tie.spec
     (λ c. search needs)
-    (λ c. name-past _ _ (omega arith))
+    (λ c. (name-past _ _ (omega arith), (refl, offset-out _ _ _ _ (omega arith))))
     (λ c. search needs)
     (λ c κs. search needs)
     (λ c. search needs)
     (λ c κs. search needs)
-    (λ c. search (needs, named-is)))
+    (λ c. (search (needs, named-is), (c .part-of .ensures .1 .0, name-offset _ _ _ _ _ (c .before .u16-off .ensures .0) (c .part-of .ensures .1 .1)))))

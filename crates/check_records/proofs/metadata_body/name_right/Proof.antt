@@ -11,4 +11,4 @@ name-right-spec =
     (tie.spec
     (λ c κs. search needs)
     (λ c κs. search needs)
-    (λ c. c .is-identifier .ensures ∙ ap (identifier 32) (c .before .metadata-name .ensures)))
+    (λ c. c .is-identifier .ensures ∙ ap (identifier 32) (c .before .metadata-name .ensures .0)))
