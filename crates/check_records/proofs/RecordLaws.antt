@@ -19,7 +19,7 @@ use Rattle.header.proofs.NameLaws.{identifier-empty}
 use Rattle.record.specs.declared.Found.{Found}
 use Rattle.record.specs.declared.Found.the-variants.{At, Nothing}
 use Rattle.record.specs.Record.{lengthAt, typeAt, recordOk}
-use Rattle.record.specs.Chain.{find, firstRecord, badRecord, Whole}
+use Rattle.record.specs.Chain.{find, firstRecord, Whole}
 use Rattle.record.proofs.ChainLaws.{whole-if}
 use Rattle.geometry.specs.declared.Judged.{Judged}
 use Rattle.geometry.specs.declared.Judged.the-variants.{Uncompressed, Compressed, Fault}
@@ -229,7 +229,7 @@ checksum-is s e r f a b p q = rw (← a, b) (q ∙ rw p)
 
 -- a chain without a fault is whole
 pub chain-whole : (s : List ℕ) → headerEnd s ≤ length s → chainFault s ≡ Nothing → Whole s (headerEnd s) (records s)
-unfolding chainFault records wrongOf rightOf badRecord firstRecord
+unfolding chainFault records wrongOf rightOf firstRecord
 chain-whole s h e = whole-if s (headerEnd s) h e
 
 -- what a function's answer tells of its definition

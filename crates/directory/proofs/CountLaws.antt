@@ -11,6 +11,7 @@ use borrow.Author.Tests.{eqb-true, eqb-false}
 use Rattle.wire.specs.Pick.{pick}
 use Rattle.wire.specs.Tests.{passes, allBelow}
 use Rattle.wire.proofs.TestLaws.{means, yes, no-true, not-both, below-each, below-all}
+use Rattle.record.proofs.ChainLaws.{Behind, behind-more}
 use Rattle.directory.specs.Lists.{select, every, some, oneIf, countBelow}
 
 -- a count below n
@@ -144,15 +145,7 @@ count-one (suc n) p i h e f = go (eqb i n) refl (count-one n p i)
         let z = r (omega arith) e f in
         by-next n p (λ c d. let y = f n c in absurd (j (sym y))) (λ c d. omega arith)
 
--- lists that increase: each number behind the one before it, the first at `at` or behind it
-
-abbrev pub Behind : ℕ → List ℕ → Type 0
-Behind at [] = Unit {0}
-Behind at (x ∷ xs) = (at ≤ x) × Behind (x + 1) xs
-
-pub behind-more : (a b : ℕ) (l : List ℕ) → a ≤ b → Behind b l → Behind a l
-behind-more a b [] h i = tt
-behind-more a b (x ∷ xs) h i = (omega (arith, i .0), i .1)
+-- those selected from a list that increases increase
 
 pub behind-select : (p : ℕ → Bool) (a : ℕ) (l : List ℕ) → Behind a l → Behind a (select p l)
 unfolding select

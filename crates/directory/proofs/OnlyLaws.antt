@@ -6,40 +6,28 @@ use mathlib.Core.Bool.{Bool, true, false, not, _||_}
 use native.Mathlib.Omega.{arith}
 use native.Mathlib.Nat.{mul-add-div-right, mul-add-mod-self-right, div-eq-of-lt, mod-eq-of-lt, div-add-mod', mod-lt, mul-le-mul-right, div-lt-iff-lt-mul}
 use lib.ListN.{length}
-use lib.Dec.{leb, eqb}
-use borrow.Author.Tests.{eqb-true, eqb-false, eq-eqb, ne-eqb, leb-true, leb-false}
+use lib.Dec.{eqb}
+use borrow.Author.Tests.{eqb-true, eqb-false, eq-eqb, ne-eqb}
 use Rattle.wire.specs.Tests.{_≡?_, passes, allBelow}
 use Rattle.wire.proofs.TestLaws.{means, yes, not-both, iff, below-each, below-all}
 use Rattle.header.specs.Fields.{headerEnd}
-use Rattle.record.specs.Record.{typeAt, lengthAt, contentAt, recordOk}
+use Rattle.record.specs.Record.{typeAt, contentAt}
 use Rattle.record.specs.Chain.{starts}
-use Rattle.record.proofs.ChainLaws.{starts-end, starts-bad, starts-record, ok-means}
+use Rattle.record.proofs.ChainLaws.{Behind, behind-more, starts-behind}
 use Rattle.geometry.specs.Tiles.{tilesAcross, tilesDown, tileCount, tilesIn}
 use Rattle.check_records.specs.Chain.{records}
 use Rattle.check_records.specs.TileBody.{tileIndex}
-use Rattle.directory.specs.Lists.{select, every, some, countBelow, recordsOf}
+use Rattle.directory.specs.Lists.{every, some, countBelow, recordsOf}
 use Rattle.directory.specs.TileDirectory.{tileDirectoryAt, firstRow, firstColumn, listedRows, listedColumns, spanRight, rectangleRight, referenceCount, referenceAt, gives, inSpan, inRectangle, numberOf, referenceOf, referenceFrom, tileReference, tilesListed, givesTile, tilesOnly}
-use Rattle.directory.proofs.CountLaws.{Behind, behind-more, behind-select, every-each, count-one, count-both, count-same, count-named}
+use Rattle.directory.proofs.CountLaws.{behind-select, every-each, count-one, count-both, count-same, count-named}
 
 -- the records of a type increase
-
-starts-behind : (k : ℕ) (s : List ℕ) (at : ℕ) → length s ≤ at + k → Behind at (starts s at)
-starts-behind zero s at h = rw (starts-end s at (omega arith)) tt
-starts-behind (suc k) s at h = go (leb (length s) at) refl (recordOk s at) refl (starts-behind k s (at + lengthAt s at))
-  where
-    go : (a : Bool) → leb (length s) at ≡ a → (b : Bool) → recordOk s at ≡ b → (length s ≤ at + lengthAt s at + k → Behind (at + lengthAt s at) (starts s (at + lengthAt s at))) → Behind at (starts s at)
-    go true p b q r = rw (starts-end s at (leb-true _ _ p)) tt
-    go false p true q r =
-        let o = ok-means s at q in
-        rw (starts-record s at (leb-false _ _ p) q)
-        (omega arith, behind-more (at + 1) (at + lengthAt s at) (starts s (at + lengthAt s at)) (omega (arith, o .long)) (r (omega (arith, o .long))))
-    go false p false q r = rw (starts-bad s at (leb-false _ _ p) q) (omega arith, tt)
 
 pub records-behind : (s : List ℕ) (kind : ℕ) → Behind 0 (recordsOf s kind)
 unfolding recordsOf records
 records-behind s kind =
     behind-select (λ x. eqb (typeAt s x) kind) 0 (starts s (headerEnd s))
-    (behind-more 0 (headerEnd s) (starts s (headerEnd s)) (omega arith) (starts-behind (length s) s (headerEnd s) (omega arith)))
+    (behind-more 0 (headerEnd s) (starts s (headerEnd s)) (omega arith) (starts-behind s (headerEnd s)))
 
 -- a number in rows of w
 

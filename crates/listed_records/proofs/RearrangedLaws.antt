@@ -9,8 +9,8 @@ use lib.Dec.{eqb}
 use borrow.Author.Tests.{eqb-true, eqb-false, eq-eqb}
 use Rattle.wire.proofs.TestLaws.{means, yes, no-true, not-both, below-each, below-all}
 use Rattle.wire.proofs.ByteLaws.{same-is, is-same}
+use Rattle.record.proofs.ChainLaws.{Behind}
 use Rattle.directory.specs.Lists.{oneIf, countBelow, recordsOf}
-use Rattle.directory.proofs.CountLaws.{Behind}
 use Rattle.directory.proofs.MemberLaws.{every-member, member-every, some-member, member-some}
 use Rattle.directory.proofs.OnlyLaws.{records-behind}
 use Rattle.listed_records.specs.declared.Listing.the-variants.{FreeSpace, Metadata}

@@ -3,7 +3,7 @@ use Prim.Native.Nat.{ℕ, zero, suc, _+_, _%_, _-_, _≤_, _<_}
 use mathlib.Core.Path.{_≡_, refl, sym, ap, _∙_}
 use mathlib.Core.List.{List, [], _∷_, _++_, append-assoc, append-nil, List·Memᴰ, List·Memᴰ·not-nil, List·Memᴰ·cases-cons}
 use mathlib.Core.Logic.{_⊎_, inl, inr, ⊎-elim}
-use mathlib.Core.Bool.{Bool, true, false}
+use mathlib.Core.Bool.{Bool, true, false, not}
 use native.Mathlib.Omega.{arith}
 use lib.ListN.{length, length-append}
 use lib.Dec.{leb}
@@ -17,7 +17,7 @@ use Rattle.record.specs.declared.Step.the-variants.{Record, Bad, End}
 use Rattle.record.specs.declared.Found.{Found}
 use Rattle.record.specs.declared.Found.the-variants.{At, Nothing}
 use Rattle.record.specs.Record.{lengthAt, typeAt, recordOk, stepAt}
-use Rattle.record.specs.Chain.{startsGo, starts, find, firstRecord, badRecord, Whole, joined, startsOf, WellFormed}
+use Rattle.record.specs.Chain.{startsGo, starts, find, firstRecord, Whole, joined, startsOf, WellFormed}
 
 -- a record
 
@@ -167,6 +167,33 @@ pub starts-record :
 unfolding starts
 starts-record s at h e = starts-more s at ∙ go-record (length s) s at h e
 
+-- lists that increase: each number behind the one before it, the first at `at` or behind it
+
+abbrev pub Behind : ℕ → List ℕ → Type 0
+Behind at [] = Unit {0}
+Behind at (x ∷ xs) = (at ≤ x) × Behind (x + 1) xs
+
+pub behind-more : (a b : ℕ) (l : List ℕ) → a ≤ b → Behind b l → Behind a l
+behind-more a b [] h i = tt
+behind-more a b (x ∷ xs) h i = (omega (arith, i .0), i .1)
+
+-- the starts of the records do
+
+behind-go : (k : ℕ) (s : List ℕ) (at : ℕ) → length s ≤ at + k → Behind at (starts s at)
+behind-go zero s at h = rw (starts-end s at (omega arith)) tt
+behind-go (suc k) s at h = go (leb (length s) at) refl (recordOk s at) refl (behind-go k s (at + lengthAt s at))
+  where
+    go : (a : Bool) → leb (length s) at ≡ a → (b : Bool) → recordOk s at ≡ b → (length s ≤ at + lengthAt s at + k → Behind (at + lengthAt s at) (starts s (at + lengthAt s at))) → Behind at (starts s at)
+    go true p b q r = rw (starts-end s at (leb-true _ _ p)) tt
+    go false p true q r =
+        let o = ok-means s at q in
+        rw (starts-record s at (leb-false _ _ p) q)
+        (omega arith, behind-more (at + 1) (at + lengthAt s at) (starts s (at + lengthAt s at)) (omega (arith, o .long)) (r (omega (arith, o .long))))
+    go false p false q r = rw (starts-bad s at (leb-false _ _ p) q) (omega arith, tt)
+
+pub starts-behind : (s : List ℕ) (at : ℕ) → Behind at (starts s at)
+starts-behind s at = behind-go (length s) s at (omega arith)
+
 -- the first record of which p holds
 
 module _ (p : ℕ → Bool) (s : List ℕ) (at : ℕ) where
@@ -192,24 +219,16 @@ module _ (p : ℕ → Bool) (s : List ℕ) (at : ℕ) where
 
 -- a chain with no bad record is whole, and a whole chain is the list and has no bad record
 
-bad-not : (s : List ℕ) (at : ℕ) → recordOk s at ≡ true → badRecord s at ≡ false
-unfolding badRecord
-bad-not s at e = rw e
-
-bad-is : (s : List ℕ) (at : ℕ) → recordOk s at ≡ false → badRecord s at ≡ true
-unfolding badRecord
-bad-is s at e = rw e
-
 none : {C : Type 0} {x : ℕ} {f : Found} → At x ≡ f → f ≡ Nothing → C
 none p q = other (cc)
 
-whole-go : (k : ℕ) (s : List ℕ) (at : ℕ) → at ≤ length s → firstRecord s at (badRecord s) ≡ Nothing → length s ≤ at + k → Whole s at (starts s at)
+whole-go : (k : ℕ) (s : List ℕ) (at : ℕ) → at ≤ length s → firstRecord s at (λ x. not (recordOk s x)) ≡ Nothing → length s ≤ at + k → Whole s at (starts s at)
 whole-go zero s at h e f = rw (starts-end s at (omega arith)) (omega arith)
 whole-go (suc k) s at h e f = go (leb (length s) at) refl (recordOk s at) refl (whole-go k s (at + lengthAt s at))
   where
     go :
         (a : Bool) → leb (length s) at ≡ a → (b : Bool) → recordOk s at ≡ b →
-        (at + lengthAt s at ≤ length s → firstRecord s (at + lengthAt s at) (badRecord s) ≡ Nothing → length s ≤ at + lengthAt s at + k →
+        (at + lengthAt s at ≤ length s → firstRecord s (at + lengthAt s at) (λ x. not (recordOk s x)) ≡ Nothing → length s ≤ at + lengthAt s at + k →
         Whole s (at + lengthAt s at) (starts s (at + lengthAt s at))) →
         Whole s at (starts s at)
     go true ea b eb r = let l = leb-true _ _ ea in rw (starts-end s at l) (omega arith)
@@ -217,10 +236,10 @@ whole-go (suc k) s at h e f = go (leb (length s) at) refl (recordOk s at) refl (
         let l = leb-false _ _ ea in
         let o = ok-means s at eb in
         rw (starts-record s at l eb)
-        (refl, (eb, r (omega arith) (sym (first-next (badRecord s) s at l eb (bad-not s at eb)) ∙ e) (omega arith)))
-    go false ea false eb r = none (first-here (badRecord s) s at (leb-false _ _ ea) (bad-is s at eb)) e
+        (refl, (eb, r (omega arith) (sym (first-next (λ x. not (recordOk s x)) s at l eb (ap not eb)) ∙ e) (omega arith)))
+    go false ea false eb r = none (first-here (λ x. not (recordOk s x)) s at (leb-false _ _ ea) (ap not eb)) e
 
-pub whole-if : (s : List ℕ) (at : ℕ) → at ≤ length s → firstRecord s at (badRecord s) ≡ Nothing → Whole s at (starts s at)
+pub whole-if : (s : List ℕ) (at : ℕ) → at ≤ length s → firstRecord s at (λ x. not (recordOk s x)) ≡ Nothing → Whole s at (starts s at)
 whole-if s at h e = whole-go (length s) s at h e (omega arith)
 
 pub whole-starts : (s : List ℕ) (at : ℕ) (xs : List ℕ) → Whole s at xs → starts s at ≡ xs
@@ -230,12 +249,12 @@ whole-starts s at (x ∷ xs) w =
     ap (starts s) (sym (w .0)) ∙ starts-record s x (omega arith) (w .1 .0)
     ∙ ap (λ (l : List ℕ). x ∷ l) (whole-starts s (x + lengthAt s x) xs (w .1 .1))
 
-pub whole-none : (s : List ℕ) (at : ℕ) (xs : List ℕ) → Whole s at xs → firstRecord s at (badRecord s) ≡ Nothing
-whole-none s at [] w = sym (first-end (badRecord s) s at (omega arith))
+pub whole-none : (s : List ℕ) (at : ℕ) (xs : List ℕ) → Whole s at xs → firstRecord s at (λ x. not (recordOk s x)) ≡ Nothing
+whole-none s at [] w = sym (first-end (λ x. not (recordOk s x)) s at (omega arith))
 whole-none s at (x ∷ xs) w =
     let o = ok-means s x (w .1 .0) in
-    ap (λ (y : ℕ). firstRecord s y (badRecord s)) (sym (w .0))
-    ∙ first-next (badRecord s) s x (omega arith) (w .1 .0) (bad-not s x (w .1 .0))
+    ap (λ (y : ℕ). firstRecord s y (λ x. not (recordOk s x))) (sym (w .0))
+    ∙ first-next (λ x. not (recordOk s x)) s x (omega arith) (w .1 .0) (ap not (w .1 .0))
     ∙ whole-none s (x + lengthAt s x) xs (w .1 .1)
 
 -- the extents of a whole chain: within the file, increasing and disjoint

@@ -2,7 +2,7 @@
 use Prim.Native.Nat.{ℕ, zero, suc, _+_}
 use mathlib.Core.Path.{_≡_}
 use mathlib.Core.List.{List, [], _∷_, _++_}
-use mathlib.Core.Bool.{Bool, true, false, not}
+use mathlib.Core.Bool.{Bool, true, false}
 use lib.ListN.{length}
 use lib.Dec.{leb}
 use Rattle.wire.specs.Pick.{pick}
@@ -31,9 +31,6 @@ find p (x ∷ xs) = pick (p x) (At x) (find p xs)
 -- the start of the first record from `at` on of which p holds; p is asked of the first bad one too
 unfoldable pub firstRecord : List ℕ → ℕ → (ℕ → Bool) → Found
 firstRecord s at p = find p (starts s at)
-
-unfoldable pub badRecord : List ℕ → ℕ → Bool
-badRecord s at = not (recordOk s at)
 
 -- the records xs stand one behind the other from `at` on, without a gap, up to the file's last byte
 abbrev pub Whole : List ℕ → ℕ → List ℕ → Type 0
