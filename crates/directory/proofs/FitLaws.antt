@@ -1,5 +1,5 @@
 -- Entries that fit their record: those of the record at d, whose checksum starts at l, end at e. Assumes nothing.
-use Prim.Native.Nat.{ℕ, _+_, _*_, _/_, _-_, _≤_, _<_}
+use Prim.Native.Nat.{ℕ, _+_, _*_, _/_, _≤_, _<_}
 use mathlib.Core.Path.{_≡_, sym, ap, refl}
 use mathlib.Core.List.{List, [], _∷_}
 use mathlib.Core.Bool.{Bool, true, false, not}
@@ -16,9 +16,9 @@ pub count-none : (s : List ℕ) (r : ℕ) → r ≡ 0 → 0 ≡ entryCount s r
 unfolding entryCount
 count-none s r h = rw h
 
-pub count-some : (s : List ℕ) (r d n : ℕ) → (r ≡ 0 → ⊥) → d ≡ r - 8 → n ≡ u32At s (d + 8) → n ≡ entryCount s r
+pub count-some : (s : List ℕ) (r n : ℕ) → (r ≡ 0 → ⊥) → n ≡ u32At s r → n ≡ entryCount s r
 unfolding entryCount
-count-some s r d n h q e = rw (ne-eqb r 0 h, ← q) e
+count-some s r n h e = rw (ne-eqb r 0 h) e
 
 by-not : (a b : ℕ) → (a ≤ b → ⊥) → b < a
 by-not a b h = omega (arith, h)

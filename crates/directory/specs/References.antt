@@ -1,5 +1,5 @@
 -- Document 01, stage 9: the three references of the header, and that no other record of types 3 to 5 exists.
-use Prim.Native.Nat.{ℕ, _+_, _-_}
+use Prim.Native.Nat.{ℕ, _+_}
 use mathlib.Core.List.{List, [], _∷_}
 use mathlib.Core.Bool.{Bool, _||_}
 use lib.Dec.{eqb}
@@ -22,10 +22,10 @@ refersOrZero s kind reference = eqb reference 0 || refersTo s kind reference
 unfoldable pub noOther : List ℕ → ℕ → ℕ → Bool
 noOther s kind reference = every (λ x. eqb (contentAt x) reference) (recordsOf s kind)
 
--- Tables 17 and 19: the number of entries that the file-space or metadata directory lists, which starts 8 before its reference;
--- none where the reference is zero
+-- Tables 17 and 19: the number of entries that the file-space or metadata directory lists, its content's first field; none where
+-- the reference is zero
 unfoldable pub entryCount : List ℕ → ℕ → ℕ
-entryCount s reference = pick (eqb reference 0) 0 (u32At s (reference - 8 + 8))
+entryCount s reference = pick (eqb reference 0) 0 (u32At s reference)
 
 -- counts fit their record with 0 to 7 padding bytes: the last entry ends at `end`
 unfoldable pub padded : List ℕ → ℕ → ℕ → Bool

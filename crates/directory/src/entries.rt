@@ -23,7 +23,7 @@ pub fn entry_count(s: &[u8], reference: u64) -> u32
     if reference == 0 {
         return 0;
     }
-    wire::u32_off(s, record_of(reference), 8)
+    wire::u32_at(s, reference as usize)
 }
 
 // So many of a size take no more than the room, with no product that is too large.

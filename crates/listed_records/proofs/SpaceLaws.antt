@@ -5,10 +5,10 @@ use mathlib.Core.List.{List}
 use mathlib.Core.Bool.{Bool, true, false}
 use native.Mathlib.Omega.{arith}
 use borrow.Author.Tests.{ne-eqb}
-use Rattle.wire.proofs.TestLaws.{no, not-both, either-way}
+use Rattle.wire.proofs.TestLaws.{means, yes, no, not-both, either-way}
 use Rattle.header.specs.Fields.{fileSpaceReference}
 use Rattle.directory.specs.References.{padded}
-use Rattle.listed_records.specs.FileSpace.{fileSpaceAt, freeCount, freeEntryAt, freeFits}
+use Rattle.listed_records.specs.FileSpace.{fileSpaceAt, freeCount, freeEntryAt, freeNotEmpty, freeFits}
 
 module _ (s : List ℕ) (r : ℕ) (p : r ≡ fileSpaceReference s) where
   pub fits-none : r ≡ 0 → true ≡ freeFits s
@@ -17,17 +17,17 @@ module _ (s : List ℕ) (r : ℕ) (p : r ≡ fileSpaceReference s) where
 
   module _ (n : ℕ) (some : r ≡ 0 → ⊥) (q : n ≡ freeCount s) where
     pub fits-empty : n < 1 → false ≡ freeFits s
-    unfolding freeFits
-    fits-empty h = rw (← p, ne-eqb r 0 some) (no _ (λ y. omega (arith, y .0)))
+    unfolding freeFits freeNotEmpty
+    fits-empty h = rw (← p, ne-eqb r 0 some) (no _ (λ y. omega (arith, means _ (y .0) .0)))
 
     pub fits-negative : 2147483647 < n → false ≡ freeFits s
     unfolding freeFits
     fits-negative h = rw (← p, ne-eqb r 0 some) (no _ (λ y. omega (arith, y .1 .0)))
 
     pub fits-is : (d : ℕ) (b : Bool) → d ≡ fileSpaceAt s → 1 ≤ n → n ≤ 2147483647 → b ≡ padded s d (d + 12 + n * 12) → b ≡ freeFits s
-    unfolding freeFits freeEntryAt
+    unfolding freeFits freeNotEmpty freeEntryAt
     fits-is d b t h k e =
         let m : d + 12 + n * 12 ≡ fileSpaceAt s + 12 + 12 * freeCount s = omega arith in
         let f : b ≡ padded s (fileSpaceAt s) (fileSpaceAt s + 12 + 12 * freeCount s) = e ∙ ap (padded s d) m ∙ ap (λ (x : ℕ). padded s x (fileSpaceAt s + 12 + 12 * freeCount s)) t in
         rw (← p, ne-eqb r 0 some)
-        (either-way _ b (λ v. (omega arith, (omega arith, (sym f ∙ v, tt)))) (λ v y. not-both (y .1 .1 .0) (sym f ∙ v)))
+        (either-way _ b (λ v. (sym (yes _ (omega arith, tt)), (omega arith, (sym f ∙ v, tt)))) (λ v y. not-both (y .1 .1 .0) (sym f ∙ v)))

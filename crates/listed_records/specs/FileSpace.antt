@@ -36,12 +36,16 @@ freeListed s = listedOnce s 0 (freeCount s) (freeEntryIs s)
 unfoldable pub freeOnly : List ℕ → Bool
 freeOnly s = nothingElse s 0 (freeCount s) (freeEntryIs s)
 
--- a file-space directory has at least one entry, and its count, which is not negative, fits
+-- a file-space directory has at least one entry
+unfoldable pub freeNotEmpty : List ℕ → Bool
+freeNotEmpty s = passes ((1 ≤? freeCount s) ∷ [])
+
+-- where there is one: this, and its count, which is not negative, fits
 unfoldable pub freeFits : List ℕ → Bool
 freeFits s =
     eqb (fileSpaceReference s) 0
     || passes
-    ((1 ≤? freeCount s) ∷ (freeCount s ≤? largestInteger) ∷ is (padded s (fileSpaceAt s) (freeEntryAt s (freeCount s))) ∷ [])
+    (is (freeNotEmpty s) ∷ (freeCount s ≤? largestInteger) ∷ is (padded s (fileSpaceAt s) (freeEntryAt s (freeCount s))) ∷ [])
 
 unfoldable pub fileSpaceRight : List ℕ → Bool
 fileSpaceRight s =

@@ -10,5 +10,4 @@ entry-count-spec =
     (tie.spec
     (λ c. search (needs, count-none))
     (λ c κs. search needs)
-    (λ c κs. search needs)
     (λ c. search (needs, count-some)))
