@@ -9,16 +9,18 @@ use lib.Dec.{leb}
 use borrow.Author.Tests.{leb-true, leb-false}
 use Rattle.wire.specs.Pick.{pick}
 use Rattle.wire.specs.Tests.{is, passes}
-use Rattle.wire.proofs.TestLaws.{means, no-true, not-both, iff}
-use Rattle.wire.proofs.ByteLaws.{Same, number-same, same-part, same-from-take}
+use Rattle.wire.specs.Bytes.{Same}
+use Rattle.wire.proofs.TestLaws.{no-true, not-both}
+use Rattle.wire.proofs.ByteLaws.{number-same, same-part, same-from-take}
 use Rattle.answer.specs.Refusals.{gate}
 use Rattle.header.specs.Fields.{headerEnd}
 use Rattle.check_header.specs.Identification.{identified, versionRight}
 use Rattle.check_header.specs.HeaderRecord.{lengthRight, headerRight}
 use Rattle.check_header.specs.Ceilings.{withinCeilings}
 use Rattle.check_header.specs.Stages.{closed, firstTwo, nextTwo, stages, checkHeader}
+use Rattle.check_header.specs.Judged.{SameJudged, JudgedAlike}
 use Rattle.check_header.specs.Depends.{reach, DependsOnHeader}
-use Rattle.check_header.proofs.Judged.{SameJudged, end-same, judged-sym, identified-same, version-same, length-right-same, header-long, header-lawful, header-to, ceilings-to}
+use Rattle.check_header.proofs.Judged.{end-same, identified-same, version-same, length-right-same, header-long, header-lawful, nothing-else-judged}
 
 -- the bytes up to the header's end are the same
 
@@ -33,25 +35,6 @@ judged s t k m h l =
       in-first = omega (arith, m .in-first);
       in-second = omega (arith, m .in-second);
     }
-
-ceiling-holds : (s : List ℕ) (n : ℕ) → withinCeilings s n ≡ true → n ≤ 16777216
-unfolding withinCeilings
-ceiling-holds s n e = means _ e .0
-
-ends-inside : (s : List ℕ) (n : ℕ) → lengthRight s n ≡ true → headerEnd s ≤ n
-unfolding lengthRight
-ends-inside s n e = means _ e .1 .1 .0
-
-pub header-same : (s t : List ℕ) (n : ℕ) → SameJudged s t → headerRight s n ≡ headerRight t n
-header-same s t n j =
-    iff (headerRight s n) (headerRight t n) (λ e. header-to s t j n n e (ends-inside s n (header-lawful s n e)))
-    (λ e. header-to t s (judged-sym j) n n e (ends-inside t n (header-lawful t n e)))
-
-pub ceilings-same :
-    (s t : List ℕ) (n : ℕ) → SameJudged s t → headerRight s n ≡ true → headerRight t n ≡ true → withinCeilings s n ≡ withinCeilings t n
-ceilings-same s t n j e f =
-    iff (withinCeilings s n) (withinCeilings t n) (λ g. ceilings-to s t j n n e g (ceiling-holds s n g))
-    (λ g. ceilings-to t s (judged-sym j) n n f g (ceiling-holds t n g))
 
 -- the answer, from what the stages say of each
 
@@ -117,15 +100,12 @@ behind s t n m = go (lengthRight s n) refl (leb 288 (headerEnd s)) refl (headerR
         let k : pick (lengthRight s n) (max 24 (headerEnd s)) 24 ≡ headerEnd s = rw ea (omega arith) in
         let w : Same s t 0 (headerEnd s) = rw k at m in
         let j = judged s t (headerEnd s) w (omega arith) l in
-        let x = header-same s t n j in
-        last c ec j w l x
+        last c ec (nothing-else-judged s t n j) w l
       where
-        last :
-            (c : Bool) → headerRight s n ≡ c → SameJudged s t → Same s t 0 (headerEnd s) → 288 ≤ headerEnd s → headerRight s n ≡ headerRight t n →
-            checkHeader s n ≡ checkHeader t n
-        last false ec j w l x = fail ec (sym x ∙ ec)
-        last true ec j w l x =
-            both-pass s t n (identified-same front n) (version-same front) x (ceilings-same s t n j ec (sym x ∙ ec))
+        last : (c : Bool) → headerRight s n ≡ c → JudgedAlike s t n → Same s t 0 (headerEnd s) → 288 ≤ headerEnd s → checkHeader s n ≡ checkHeader t n
+        last false ec j w l = fail ec (sym (j .header) ∙ ec)
+        last true ec j w l =
+            both-pass s t n (j .identification) (j .version) (j .header) (j .ceilings ec)
             (closed-same (same-part w 48 56 (omega arith) (omega arith)))
 
 agree : (s t : List ℕ) (n : ℕ) → Same s t 0 (reach s n) → checkHeader s n ≡ checkHeader t n

@@ -1,17 +1,16 @@
 -- Two lists of bytes that agree where stages 1 to 4 judge them: what holds of one holds of the other. Assumes nothing.
-use Prim.Native.Nat.{ℕ, min, _+_, _-_, _≤_, _<_}
+use Prim.Native.Nat.{ℕ, min, _+_, _≤_, _<_}
 use mathlib.Core.Path.{_≡_, sym, ap, _∙_}
 use mathlib.Core.List.{List}
 use mathlib.Core.Bool.{true}
 use mathlib.Core.Logic.{by-cases}
 use native.Mathlib.Decide.{decLe}
 use native.Mathlib.Omega.{arith}
-use lib.ListN.{length}
 use borrow.Author.Tests.{le-leb, lt-leb}
 use Rattle.wire.specs.Tests.{allBelow, sumBelow}
-use Rattle.wire.specs.Bytes.{byteAt, numberAt}
-use Rattle.wire.proofs.TestLaws.{means, yes, below-same, sum-same}
-use Rattle.wire.proofs.ByteLaws.{Same, number-same, part-same, byte-same, same-sym}
+use Rattle.wire.specs.Bytes.{byteAt, numberAt, Same}
+use Rattle.wire.proofs.TestLaws.{means, yes, iff, below-same, sum-same}
+use Rattle.wire.proofs.ByteLaws.{number-same, part-same, byte-same, same-sym}
 use Rattle.header.specs.Fields.{gridRows, gridColumns, tileRows, tileColumns, elementCount, headerEnd, headerLimit}
 use Rattle.header.specs.Element.{entryStart, entriesRead}
 use Rattle.header.proofs.SameLaws.{SameRest, limit-same, start-same, start-least, limit-is, element-same, element-name-same, method-count-same, fields-end-same}
@@ -20,17 +19,7 @@ use Rattle.geometry.specs.Sizes.{elementBytes, tileBytes}
 use Rattle.check_header.specs.Identification.{identified, versionRight}
 use Rattle.check_header.specs.HeaderRecord.{lengthRight, frameRight, positive, sidesRight, optionsRight, namesDiffer, elementRight, elementsRight, tailRight, headerRight}
 use Rattle.check_header.specs.Ceilings.{sidesWithin, withinCeilings}
-
--- the bytes that are judged: mark and version; the header's length and type; the sides; the options; from the number of
--- elements to the checksum
-pub record SameJudged (s t : List ℕ) : Type 0 where
-  pub block : Same s t 0 14
-  pub frame : Same s t 16 21
-  pub sides : Same s t 104 120
-  pub options : Same s t 128 131
-  pub rest : Same s t 280 (headerEnd s - 4)
-  pub in-first : headerEnd s ≤ length s
-  pub in-second : headerEnd s ≤ length t
+use Rattle.check_header.specs.Judged.{SameJudged, NothingElseJudged}
 
 pub end-same : {s t : List ℕ} → Same s t 16 21 → headerEnd s ≡ headerEnd t
 unfolding headerEnd
@@ -212,3 +201,32 @@ module _ (s t : List ℕ) (j : SameJudged s t) where
           (rw (← rows, ← columns, ← tile-rows, ← tile-columns) (b .1 .1 .0), (omega (arith, b .1 .1 .1 .0, f .count), (omega (arith, b .1 .1 .1 .1 .0), tt))),
         ),
       ))
+
+-- both ways
+
+ceiling-holds : (s : List ℕ) (n : ℕ) → withinCeilings s n ≡ true → n ≤ 16777216
+unfolding withinCeilings
+ceiling-holds s n e = means _ e .0
+
+ends-inside : (s : List ℕ) (n : ℕ) → lengthRight s n ≡ true → headerEnd s ≤ n
+unfolding lengthRight
+ends-inside s n e = means _ e .1 .1 .0
+
+header-same : (s t : List ℕ) (n : ℕ) → SameJudged s t → headerRight s n ≡ headerRight t n
+header-same s t n j =
+    iff (headerRight s n) (headerRight t n) (λ e. header-to s t j n n e (ends-inside s n (header-lawful s n e)))
+    (λ e. header-to t s (judged-sym j) n n e (ends-inside t n (header-lawful t n e)))
+
+ceilings-same : (s t : List ℕ) (n : ℕ) → SameJudged s t → headerRight s n ≡ true → withinCeilings s n ≡ withinCeilings t n
+ceilings-same s t n j e =
+    iff (withinCeilings s n) (withinCeilings t n) (λ g. ceilings-to s t j n n e g (ceiling-holds s n g))
+    (λ g. ceilings-to t s (judged-sym j) n n (sym (header-same s t n j) ∙ e) g (ceiling-holds t n g))
+
+pub nothing-else-judged : NothingElseJudged
+nothing-else-judged s t n j =
+    record {
+      identification = identified-same (j .block) n;
+      version = version-same (j .block);
+      header = header-same s t n j;
+      ceilings = ceilings-same s t n j;
+    }

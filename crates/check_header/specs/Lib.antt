@@ -2,4 +2,5 @@ pub mod Identification
 pub mod HeaderRecord
 pub mod Ceilings
 pub mod Stages
+pub mod Judged
 pub mod Depends

@@ -8,9 +8,9 @@ use lib.ListN.{length}
 use lib.Dec.{eqb}
 use borrow.Author.Tests.{le-leb}
 use Rattle.wire.specs.Pick.{pick, roundUp}
-use Rattle.wire.specs.Bytes.{byteAt, u16At, u32At, part}
+use Rattle.wire.specs.Bytes.{byteAt, u16At, u32At, part, Same}
 use Rattle.wire.specs.Items.{advance}
-use Rattle.wire.proofs.ByteLaws.{Same, number-same, part-same, byte-same}
+use Rattle.wire.proofs.ByteLaws.{number-same, part-same, byte-same}
 use Rattle.wire.proofs.ItemLaws.{advance-grows, advance-same, advance-mono, advance-more}
 use Rattle.header.specs.Fields.{headerEnd, headerLimit, elementCount}
 use Rattle.header.specs.Element.{stringSize, stringEnd, blockSize, fillOffset, cellSize, blockAt, labelAt, descriptionAt, unitAt, entryEnd, fillBits, entryAt, entryStart, element, elementName}

@@ -5,8 +5,8 @@ use mathlib.Core.List.{List}
 use mathlib.Core.Logic.{_⊎_, inl, inr, ⊎-elim}
 use native.Mathlib.Omega.{arith}
 use lib.ListN.{length}
-use Rattle.wire.specs.Bytes.{Bytes, byteAt, bytesOf}
-use Rattle.wire.proofs.ByteLaws.{Same, number-same, bytes-of}
+use Rattle.wire.specs.Bytes.{Bytes, byteAt, bytesOf, Same}
+use Rattle.wire.proofs.ByteLaws.{number-same, bytes-of}
 use Rattle.wire.proofs.PutLaws.{length-put, put-outside, put-aside, put-number, bytes-put}
 use Rattle.header.specs.Fields.{checksumEnabled, timeOpened, fileSpaceReference, metadataReference, tileDirectoryReference}
 use Rattle.lay_down.specs.Pieces.{zeros}

@@ -8,8 +8,8 @@ use native.Mathlib.Omega.{arith}
 use lib.ListN.{length}
 use lib.Dec.{eqb}
 use Rattle.wire.specs.Pick.{pick}
-use Rattle.wire.specs.Bytes.{Bytes, part, numberAt, bytesOf}
-use Rattle.wire.proofs.ByteLaws.{Same, part-whole, part-before, part-same, number-of, number-behind, bytes-none, bytes-cons, bytes-append, bytes-part, bytes-of, zeros-of}
+use Rattle.wire.specs.Bytes.{Bytes, part, numberAt, bytesOf, Same}
+use Rattle.wire.proofs.ByteLaws.{part-whole, part-before, part-same, number-of, number-behind, bytes-none, bytes-cons, bytes-append, bytes-part, bytes-of, zeros-of}
 use Rattle.wire.proofs.PutLaws.{put-same, put-number}
 use Rattle.wire.proofs.PlaceLaws.{Placed, placed-part, placed-number}
 use Rattle.crc32c.specs.Crc.{crcOf}

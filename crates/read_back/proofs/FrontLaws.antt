@@ -5,15 +5,17 @@ use mathlib.Core.List.{List}
 use mathlib.Core.Logic.{_⊎_, inl, inr}
 use native.Mathlib.Omega.{arith}
 use lib.ListN.{length}
+use Rattle.wire.specs.Bytes.{Same}
 use Rattle.wire.proofs.TestLaws.{yes}
-use Rattle.wire.proofs.ByteLaws.{Same, same-trans, same-append}
+use Rattle.wire.proofs.ByteLaws.{same-trans, same-append}
 use Rattle.header.specs.Fields.{headerEnd}
 use Rattle.header.specs.Element.{entriesRead}
 use Rattle.header.proofs.SameLaws.{element-same}
 use Rattle.record.specs.Record.{contentAt}
 use Rattle.check_header.specs.Stages.{closed}
 use Rattle.check_header.proofs.Judged as judged
-use Rattle.check_header.proofs.Judged.{SameJudged, end-same, identified-to, version-same, header-to, ceilings-to}
+use Rattle.check_header.specs.Judged.{SameJudged}
+use Rattle.check_header.proofs.Judged.{end-same, identified-to, version-same, header-to, ceilings-to}
 use Rattle.page_check.proofs.AcceptedLaws.{Headed}
 use Rattle.lay_down.specs.Page.{directoryStart, fileLength, laidFront, laidFile}
 use Rattle.lay_down.proofs.PageLaws.{front-length, laid-length}

@@ -14,7 +14,7 @@ use lib.Dec.{leb, eqb}
 use borrow.Author.Tests.{le-leb, lt-leb, eqb-true, eq-eqb, ne-eqb}
 use Rattle.wire.specs.Pick.{pick}
 use Rattle.wire.specs.Tests.{both}
-use Rattle.wire.specs.Bytes.{byteAt, part, number, numberAt, partAt, bytesOf, sameBytes, Bytes}
+use Rattle.wire.specs.Bytes.{byteAt, part, number, numberAt, partAt, bytesOf, sameBytes, Bytes, Same}
 use Rattle.wire.proofs.TestLaws.{not-both, no-true}
 
 -- bytes
@@ -96,12 +96,6 @@ part-before s b at n h =
 pub part-within : (a s b : List ℕ) (at n : ℕ) → at + n ≤ length s → part (a ++ s ++ b) (length a + at) n ≡ part s at n
 part-within a s b at n h =
     part-before (a ++ s) b (length a + at) n (simp length-append (omega arith)) ∙ part-behind a s at n
-
--- the bytes of s and t from a up to b are there and are the same
-pub record Same (s t : List ℕ) (a b : ℕ) : Type 0 where
-  pub in-first : b ≤ length s
-  pub in-second : b ≤ length t
-  pub each : (i : ℕ) → a ≤ i → i < b → byteAt s i ≡ byteAt t i
 
 -- a part depends only on its bytes
 pub part-same : {s t : List ℕ} {a b : ℕ} → Same s t a b → (at n : ℕ) → a ≤ at → at + n ≤ b → part s at n ≡ part t at n

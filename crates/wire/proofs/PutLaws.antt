@@ -13,8 +13,8 @@ use lib.Dec.{leb}
 use lib.Seq.{getD-take, take-at, drop-append-add, drop-drop, paste, paste-zero, paste-suc, take-length, set-split}
 use borrow.Author.Tests.{le-leb, lt-leb}
 use Rattle.wire.specs.Pick.{pick}
-use Rattle.wire.specs.Bytes.{Bytes, byteAt, part, number, numberAt, put, bytesOf}
-use Rattle.wire.proofs.ByteLaws.{Same, part-whole, part-within, byte-behind, byte-drop, number-same, number-out, number-bytes, bytes-length, bytes-append, bytes-take, bytes-drop}
+use Rattle.wire.specs.Bytes.{Bytes, byteAt, part, number, numberAt, put, bytesOf, Same}
+use Rattle.wire.proofs.ByteLaws.{part-whole, part-within, byte-behind, byte-drop, number-same, number-out, number-bytes, bytes-length, bytes-append, bytes-take, bytes-drop}
 
 module _ (d : List ℕ) (at : ℕ) (v : List ℕ) where
   pub put-fits : at + length v ≤ length d → put d at v ≡ take at d ++ v ++ drop (at + length v) d

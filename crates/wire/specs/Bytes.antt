@@ -1,6 +1,7 @@
 -- A file is a list of bytes, and a position counts from 0. Numbers are little-endian (G 4.1.1).
 -- Reading is total: what does not lie whole in the list reads as nothing, and as the number 0.
-use Prim.Native.Nat.{ℕ, zero, suc, _+_, _*_, _/_, _%_, _<_}
+use Prim.Native.Nat.{ℕ, zero, suc, _+_, _*_, _/_, _%_, _≤_, _<_}
+use mathlib.Core.Path.{_≡_}
 use mathlib.Core.List.{List, [], _∷_, _++_}
 use mathlib.Core.Bool.{Bool, true, false}
 use lib.ListN.{length, getD, take, drop}
@@ -54,6 +55,12 @@ sameBytes [] [] = true
 sameBytes [] (y ∷ ys) = false
 sameBytes (x ∷ xs) [] = false
 sameBytes (x ∷ xs) (y ∷ ys) = both (eqb x y) (sameBytes xs ys)
+
+-- the bytes of s and t from a up to b are there and are the same
+pub record Same (s t : List ℕ) (a b : ℕ) : Type 0 where
+  pub in-first : b ≤ length s
+  pub in-second : b ≤ length t
+  pub each : (i : ℕ) → a ≤ i → i < b → byteAt s i ≡ byteAt t i
 
 -- the list d with v in place of what stands from `at` on; d as it is where v does not fit
 unfoldable pub put : List ℕ → ℕ → List ℕ → List ℕ
