@@ -7,10 +7,8 @@ use mathlib.Core.Bool.{Bool, true, false}
 use native.Mathlib.Decide.{decLe}
 use native.Mathlib.Omega.{arith}
 use native.Mathlib.Nat.{div-add-mod', mod-lt, div-lt-iff-lt-mul}
-use borrow.Author.Tests.{le-leb}
-use Rattle.wire.specs.Bytes.{u32At}
 use Rattle.wire.proofs.TestLaws.{means, fails}
-use Rattle.wire.proofs.ItemLaws.{advance-more, advance-mono, advance-grows, item-within}
+use Rattle.wire.proofs.ItemLaws.{item-within}
 use Rattle.answer.specs.declared.Refusal.{Refusal}
 use Rattle.answer.specs.declared.Value.{Value}
 use Rattle.answer.specs.declared.Cell.the-variants.{Stored, Fill, Refused}
@@ -20,10 +18,11 @@ use Rattle.header.specs.Element.{cellSize, element}
 use Rattle.record.specs.Record.{lengthAt}
 use Rattle.record.proofs.ChainLaws.{whole-apart}
 use Rattle.geometry.specs.Tiles.{tilesAlong, tileOf, insideOf, tileIn, cellTile, cellInside}
-use Rattle.geometry.specs.Sizes.{uncompressed, cellOffset, storedSize, elementBytes}
-use Rattle.check_records.specs.Chain.{records, recordLimit, endRight}
-use Rattle.check_records.specs.TileBody.{tileIndex, sectionEnd, sectionAt, sectionLength, elementContentAt, tileEnd, tileRight}
-use Rattle.check_records.proofs.RecordLaws.{section-grows}
+use Rattle.geometry.specs.Sizes.{uncompressed, cellOffset, elementBytes}
+use Rattle.check_records.specs.Chain.{records}
+use Rattle.check_records.specs.TileBody.{tileIndex, sectionAt, sectionLength, elementContentAt, tileRight}
+use Rattle.check_records.proofs.RecordLaws.{section-least}
+use Rattle.check_records.proofs.SectionLaws.{section-holds, section-mono, section-next, limit-inside, sections-end}
 use Rattle.directory.specs.Lists.{recordsOf}
 use Rattle.directory.proofs.OnlyLaws.{row-of, column-of, grid-less, same-index}
 use Rattle.directory.proofs.MemberLaws.{select-member, of-type, type-of}
@@ -74,32 +73,6 @@ one-cell columns h w r c r2 c2 p k l e f =
 
 -- the sections of a tile record
 
-pub section-holds : (s : List ℕ) (p : ℕ) → p + 4 + u32At s p ≤ sectionEnd s p
-unfolding sectionEnd storedSize
-section-holds s p = omega arith
-
-pub section-mono : (s : List ℕ) (at e f : ℕ) → e ≤ f → sectionAt s at e ≤ sectionAt s at f
-unfolding sectionAt
-section-mono s at e f h =
-    let q : e + (f - e) ≡ f = omega arith in
-    rw q at (advance-mono (sectionEnd s) (recordLimit s at) (λ p. omega (arith, section-grows s p)) e (f - e) (at + 12))
-
-pub section-next : (s : List ℕ) (at e : ℕ) → sectionAt s at e ≤ recordLimit s at → sectionAt s at (e + 1) ≡ sectionEnd s (sectionAt s at e)
-unfolding sectionAt
-section-next s at e h = advance-more (sectionEnd s) (recordLimit s at) e (at + 12) ∙ rw (le-leb _ _ h)
-
-pub section-behind : (s : List ℕ) (at e : ℕ) → at + 12 ≤ sectionAt s at e
-unfolding sectionAt
-section-behind s at e = advance-grows (sectionEnd s) (recordLimit s at) (λ p. omega (arith, section-grows s p)) e (at + 12)
-
-limit-inside : (s : List ℕ) (at : ℕ) → recordLimit s at ≤ at + lengthAt s at
-unfolding recordLimit
-limit-inside s at = omega arith
-
-sections-end : (s : List ℕ) (at : ℕ) → tileRight s at ≡ true → sectionAt s at (elementCount s) ≤ recordLimit s at
-unfolding tileRight endRight tileEnd
-sections-end s at t = means _ (means _ t .1 .0) .0
-
 -- where an element's content lies: behind the record's start, up to the next section, which starts inside the record
 pub record ContentExtent (s : List ℕ) (at e : ℕ) : Type 0 where
   pub behind : at ≤ elementContentAt s at e
@@ -116,7 +89,7 @@ content-extent s at e t h =
     let b = section-mono s at (e + 1) (elementCount s) (omega arith) in
     let n = section-next s at e (omega arith) in
     let k = section-holds s (sectionAt s at e) in
-    let g = section-behind s at e in
+    let g = section-least s at e in
     record { behind = omega arith; own = omega arith; next = omega arith; inside = omega arith }
 
 -- a cell that is stored: the tile record that has it, uncompressed, and its place there

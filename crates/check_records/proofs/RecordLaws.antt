@@ -109,7 +109,7 @@ tile-end-is s at n p r a b c = c ∙ rw (b, a)
 
 -- a record that starts past the file has no right body
 
-section-least : (s : List ℕ) (at e : ℕ) → at + 12 ≤ sectionAt s at e
+pub section-least : (s : List ℕ) (at e : ℕ) → at + 12 ≤ sectionAt s at e
 unfolding sectionAt
 section-least s at e = advance-grows (sectionEnd s) (recordLimit s at) (λ p. omega (arith, section-grows s p)) e (at + 12)
 

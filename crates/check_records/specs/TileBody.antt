@@ -1,5 +1,6 @@
 -- Document 01, stage 8; G Tables 15 and 16: the body of a tile record.
 use Prim.Native.Nat.{ℕ, _+_}
+use mathlib.Core.Path.{_≡_}
 use mathlib.Core.List.{List, [], _∷_}
 use mathlib.Core.Bool.{Bool, true, false}
 use lib.ListN.{length}
@@ -9,11 +10,12 @@ use Rattle.wire.specs.Tests.{_≤?_, is, passes, allBelow}
 use Rattle.wire.specs.Bytes.{u32At, largestInteger}
 use Rattle.wire.specs.Items.{advance}
 use Rattle.header.specs.Fields.{elementCount}
-use Rattle.check_records.specs.Chain.{recordLimit, endRight}
+use Rattle.record.specs.Record.{lengthAt}
 use Rattle.geometry.specs.declared.Judged.{Judged}
 use Rattle.geometry.specs.declared.Judged.the-variants.{Uncompressed, Compressed, Fault}
 use Rattle.geometry.specs.Tiles.{tileCount}
-use Rattle.geometry.specs.Sizes.{judgeElement, storedSize}
+use Rattle.geometry.specs.Sizes.{judgeElement, storedSize, tileLength}
+use Rattle.check_records.specs.Chain.{recordLimit, endRight}
 
 -- G Table 15: the tile index
 unfoldable pub tileIndex : List ℕ → ℕ → ℕ
@@ -28,7 +30,7 @@ sectionEnd s p = p + storedSize (u32At s p)
 unfoldable pub sectionAt : List ℕ → ℕ → ℕ → ℕ
 sectionAt s at e = advance (sectionEnd s) (recordLimit s at) e (at + 12)
 
--- the same where a record starts in the file; 0 where not
+-- the same where `at` lies in the file; 0 where not
 unfoldable pub sectionStart : List ℕ → ℕ → ℕ → ℕ
 sectionStart s at e = pick (leb (length s) at) 0 (sectionAt s at e)
 
@@ -65,3 +67,8 @@ unfoldable pub tileRight : List ℕ → ℕ → Bool
 tileRight s at =
     passes
     (is (indexRight s at) ∷ is (endRight s at (tileEnd s at)) ∷ is (allBelow (elementCount s) (sectionRight s at)) ∷ [])
+
+-- the record length is the least multiple of 8 that holds the index, the sections and the checksum: the sample sums' length
+abbrev pub LeastTileLength : Type 0
+LeastTileLength =
+    (s : List ℕ) (at : ℕ) → tileRight s at ≡ true → lengthAt s at ≡ tileLength (elementCount s) (sectionLength s at)

@@ -23,9 +23,9 @@ use Rattle.check_records.specs.Chain.{recordLimit, endRight}
 use Rattle.check_records.specs.TileBody.{tileIndex, sectionEnd, sectionAt, sectionLength, elementContentAt, sectionRight, tileEnd, indexRight, tileRight}
 use Rattle.check_records.specs.Faults.{bodyRight}
 use Rattle.check_records.proofs.RecordLaws.{section-whole, body-tile}
+use Rattle.check_records.proofs.SectionLaws.{section-next}
 use Rattle.page_check.specs.Accepted.{InRange}
 use Rattle.cells.specs.TileCells.{packed}
-use Rattle.cells.proofs.ApartLaws.{section-next}
 use Rattle.lay_down.specs.Pieces.{section}
 use Rattle.lay_down.specs.Page.{sections, tileRecord}
 use Rattle.lay_down.proofs.PieceLaws.{record-body, placed-kind, placed-stated, section-states, bytes-there}
