@@ -1,4 +1,4 @@
--- Document 01, stage 6: records follow the header without a gap up to the last byte.
+-- Document 01, stages 6 and 8: records follow the header without a gap up to the last byte, and where the fields of one end.
 use mathlib.Core.List.{List, [], _∷_}
 use mathlib.Core.Bool.{Bool}
 use Prim.Native.Nat.{ℕ, _+_, _-_, min}

@@ -1,4 +1,4 @@
--- What is looked for among the records.
+-- For the search of references.rt, `find_record`; no rule of stage 9 rests on it. What is looked for among the records.
 use Prim.Native.Nat.{ℕ}
 use mathlib.Core.List.{List, [], _∷_}
 use mathlib.Core.Bool.{Bool}

@@ -64,7 +64,7 @@ referenceSize s = pick (eqb (standardReferences s (tileDirectoryAt s)) 1) 8 4
 unfoldable pub referenceAt : List ℕ → ℕ → ℕ → ℕ
 referenceAt s at k = pick (eqb (standardReferences s at) 1) (u64At s (at + 32 + 8 * k)) (u32At s (at + 32 + 4 * k) * 8)
 
--- it is not zero
+-- it is not zero. For private functions of tile_rules.rt; no rule of stage 9 rests on it
 unfoldable pub gives : List ℕ → ℕ → Bool
 gives s k = not (eqb (referenceAt s (tileDirectoryAt s) k) 0)
 

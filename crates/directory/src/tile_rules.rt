@@ -34,7 +34,7 @@ fn references_given(s: &[u8]) -> u64
 }
 
 // The tile directory is right. Where every tile record is listed at its own index, nothing else is listed just where there
-// are as many references as tile records: so one pass over the references is enough.
+// are as many references that are not zero as tile records: so one pass over the references is enough.
 pub fn tile_directory_right(s: &[u8]) -> bool
     ensures { λ r. ⌜ r ≡ tileDirectoryRight (now (s .entry)) ⌝ }
 {

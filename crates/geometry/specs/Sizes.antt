@@ -1,4 +1,4 @@
--- Document 01, stage 8: U, L and the least record length.
+-- Document 01, stage 8: U, L and the least record length; other sources stand at the definitions.
 use Prim.Native.Nat.{ℕ, _+_, _*_}
 use mathlib.Core.List.{List}
 use lib.Dec.{leb, eqb}
@@ -18,7 +18,7 @@ uncompressed h w kind = h * w * cellSize kind
 unfoldable pub judge : ℕ → ℕ → Judged
 judge l u = pick (eqb l 0) Fault (pick (eqb l u) Uncompressed (pick (leb l u) Compressed Fault))
 
--- where a cell starts in its element's uncompressed content, by its number inside the tile
+-- document 01, 'Finding a cell': where a cell starts in its element's uncompressed content, by its number inside the tile
 unfoldable pub cellOffset : ℕ → ℕ → ℕ
 cellOffset kind inside = inside * cellSize kind
 
@@ -47,10 +47,10 @@ elementBytes s e = uncompressed (tileRows s) (tileColumns s) (element s e .kind)
 unfoldable pub judgeElement : List ℕ → ℕ → ℕ → Judged
 judgeElement s e l = judge l (elementBytes s e)
 
--- the uncompressed bytes of one tile, all elements together; at most the first 16 are read
+-- document 01, 'House ceilings': the uncompressed bytes of one tile, all elements together; at most the first 16 are read
 unfoldable pub tileBytes : List ℕ → ℕ
 tileBytes s = sumBelow (entriesRead s) (elementBytes s)
 
--- the length of a tile record whose elements are all uncompressed
+-- document 01, 'Laying down a page': the length of a tile record whose elements are all uncompressed
 unfoldable pub plainTileLength : List ℕ → ℕ
 plainTileLength s = tileLength (entriesRead s) (elementBytes s)

@@ -15,8 +15,8 @@ stringSize s at = 2 + u16At s at
 unfoldable pub stringEnd : List ℕ → ℕ → ℕ
 stringEnd s at = at + stringSize s at
 
--- the size of the range and fill block, by type code: 32 bytes integer-coded (Table 11), else 12 (Tables 9, 10; Table 12,
--- whose three fields of two bytes stand at 0, 4 and 8)
+-- the size of the range and fill block, by type code: 32 bytes integer-coded (Table 11), else 12 (Tables 9, 10; a Short's by
+-- document 01, 'Where G disagrees with itself', its three fields of two bytes standing at 0, 4 and 8 as Table 12 prints)
 unfoldable pub blockSize : ℕ → ℕ
 blockSize kind = pick (eqb kind 1) 32 12
 
@@ -65,12 +65,12 @@ entryAt s at =
       end = entryEnd s at;
     }
 
--- G Table 7, offset 268: the entries stand one behind the other from 284 on. Where entry e starts; an entry that
--- starts past `headerLimit` is not read
+-- G Table 7, offset 268: the entries stand one behind the other from 284 on. Where entry e starts; where an entry
+-- before it starts past `headerLimit`, the start of the first that does
 unfoldable pub entryStart : List ℕ → ℕ → ℕ
 entryStart s e = advance (entryEnd s) (headerLimit s) e 284
 
--- element number e, counted from 0; where the header has no such element, what stands behind the last one is read as one
+-- element number e, counted from 0; for an e at or above the count, whatever stands at that start is read as an entry
 unfoldable pub element : List ℕ → ℕ → Element
 element s e = entryAt s (entryStart s e)
 

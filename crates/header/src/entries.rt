@@ -112,7 +112,7 @@ fn entry_at(s: &[u8], at: usize) -> Element
     }
 }
 
-// Where entry e starts; an entry that starts past the header's last four bytes is not read.
+// Where entry e starts; an entry that starts past the start of the header's last four bytes is not read.
 pub fn entry_start(s: &[u8], e: usize) -> usize
     ensures is { λ r. ⌜ r ≡ entryStart (now (s .entry)) e ⌝ }
     ensures near { λ r. ⌜ r ≤ length (now (s .entry)) + 262200 ⌝ }

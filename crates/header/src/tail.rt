@@ -21,7 +21,7 @@ pub fn method_count(s: &[u8]) -> u32
     wire::u32_at(s, methods_at(s))
 }
 
-// Where the product label stands; no method name is read that starts past the header's last four bytes.
+// Where the product label stands; no method name is read that starts past the start of the header's last four bytes.
 pub fn product_label_at(s: &[u8]) -> usize
     ensures is { λ r. ⌜ r ≡ productLabelAt (now (s .entry)) ⌝ }
     ensures near { λ r. ⌜ r ≤ length (now (s .entry)) + 262204 ⌝ }

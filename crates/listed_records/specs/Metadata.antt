@@ -1,4 +1,4 @@
--- Document 01, stage 9; G 4.2.4 and Tables 19 and 20: the metadata directory.
+-- Document 01, stage 9: the metadata directory (G 4.2.7, Table 19), its entry (4.2.7.1, Table 20), the unique pair (4.2.4).
 use Prim.Native.Nat.{ℕ, _+_, _-_}
 use mathlib.Core.List.{List, [], _∷_}
 use mathlib.Core.Bool.{Bool, _||_, not}

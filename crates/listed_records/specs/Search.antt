@@ -1,3 +1,4 @@
+-- For `list_right` and private functions of lists.rt; no rule of stage 9 rests on it.
 -- The two lists by their names, and metadata records with the same name and ID.
 use Prim.Native.Nat.{ℕ}
 use mathlib.Core.List.{List, [], _∷_}

@@ -7,6 +7,6 @@ abbrev pub pick : {A : Type 0} → Bool → A → A → A
 pick true a b = a
 pick false a b = b
 
--- the least multiple of m, which is not 0, that is at least x
+-- the least multiple of m that is at least x, where m is not 0
 abbrev pub roundUp : ℕ → ℕ → ℕ
 roundUp m x = (x + (m - 1)) / m * m
