@@ -10,7 +10,7 @@ use std::process::ExitCode;
 use std::{env, fs, io};
 
 use gvrs_tests::build::{build, bytes_of, make_checksums_good, Built};
-use gvrs_tests::page::{Body, Element, Page, Tile, SHORT};
+use gvrs_tests::page::{Body, Element, Page, Tile, FLOAT, INTEGER, INTEGER_CODED, SHORT};
 use gvrs_tests::second::listing::listing;
 
 fn main() -> ExitCode {
@@ -53,6 +53,7 @@ fn files() -> Vec<(&'static str, Vec<u8>)> {
         ("refused-9", changed(|built| set(built, "tile directory reference", 0))),
         ("none-stored", bytes_of(&Page::of_sides([70, 9], [8, 5]))),
         ("out-of-order", out_of_order()),
+        ("four-types", four_types()),
         ("65535-bytes", of_length(65_536)[..65_535].to_vec()),
         ("65536-bytes", of_length(65_536)),
         ("65537-bytes", [of_length(65_536), vec![0]].concat()),
@@ -100,6 +101,30 @@ fn out_of_order() -> Vec<u8> {
         page.insert(page.records.len(), tile(number * 171 % 400 * 3, 2));
     }
     bytes_of(&page)
+}
+
+/// An element of every type. Tile 0 has the least and the greatest values, infinity and a NaN among
+/// them; in tile 1 the Float is compressed; tile 2 is absent.
+fn four_types() -> Vec<u8> {
+    let mut page = Page::of_sides([2, 6], [2, 2]);
+    let types = [INTEGER, INTEGER_CODED, FLOAT, SHORT];
+    page.elements = types.iter().map(|code| Element::new(*code, &[b'a' + code])).collect();
+    page.elements[0].set_range_and_fill(0, 9, u32::MAX);
+    page.elements[2].set_range_and_fill(0, 9, (-1.5f32).to_bits());
+    page.elements[3].set_range_and_fill(0, 9, 0x8000);
+    let integers = bytes_of_all([0, 1, 0x7fff_ffff, 0x8000_0000]);
+    let floats = bytes_of_all([0x3fc0_0000, 0x7fc1_2345, 0xff80_0000, 0x8000_0000]);
+    let shorts = [0, 0, 1, 0, 0xff, 0x7f, 0, 0x80].to_vec();
+    for (index, length) in [(0, 16), (1, 15)] {
+        let contents =
+            vec![integers.clone(), integers.clone(), floats[..length].to_vec(), shorts.clone()];
+        page.insert(page.records.len(), Body::Tile(Tile { index, contents }));
+    }
+    bytes_of(&page)
+}
+
+fn bytes_of_all(numbers: [u32; 4]) -> Vec<u8> {
+    numbers.iter().flat_map(|number| number.to_le_bytes()).collect()
 }
 
 /// The sample page, brought to a length by a free record.

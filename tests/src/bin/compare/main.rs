@@ -8,6 +8,7 @@ mod aimed;
 mod aims;
 mod allowed;
 mod bytes_changed;
+mod closing;
 mod damage;
 mod hostile;
 mod lay_downs;

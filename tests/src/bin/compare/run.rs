@@ -6,6 +6,7 @@ use std::path::PathBuf;
 use gvrs_tests::library;
 use gvrs_tests::second::check::{check, Answer};
 
+use crate::closing;
 use crate::lay_downs;
 use crate::listings;
 use crate::reads;
@@ -82,6 +83,11 @@ impl Run {
             self.listing(sort, file);
         }
         from_second
+    }
+
+    /// The second implementation's answers of checks, by number and times.
+    pub fn answers(&self) -> impl Iterator<Item = (u32, usize)> + '_ {
+        (0..).zip(self.answers.iter().copied())
     }
 
     fn files_compared(&self) -> usize {
@@ -172,6 +178,7 @@ impl Run {
         self.reads.report();
         self.lay_downs.report();
         self.listings.report();
+        closing::report(&self.functions());
         if !self.small {
             self.missed();
         }
@@ -226,6 +233,10 @@ impl Run {
         }
         for thing in self.listings.missed() {
             println!("FAULT: listings: never reached: {thing}");
+            self.faults += 1;
+        }
+        for thing in closing::missed(&self.functions()) {
+            println!("FAULT: {thing}");
             self.faults += 1;
         }
     }

@@ -84,6 +84,11 @@ impl Tally {
         &mut self.pairs[at]
     }
 
+    /// The answers that both give, by number and times.
+    pub fn answers(&self) -> impl Iterator<Item = (u32, usize)> + '_ {
+        ANSWERS.into_iter().zip(self.answers.iter().copied())
+    }
+
     pub fn report(&self) {
         println!("Lay-downs compared, by sort");
         for (sort, number) in &self.sorts {

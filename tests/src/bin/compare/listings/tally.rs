@@ -44,6 +44,12 @@ impl Tally {
         count(&mut self.things, thing, 1);
     }
 
+    /// The texts that both give, by the number of the refusal that they say, or 0, and times.
+    pub fn answers(&self) -> impl Iterator<Item = (u32, usize)> + '_ {
+        let number = |text: &str| text.strip_prefix("refused ").and_then(|text| text.parse().ok());
+        self.texts.iter().map(move |(text, times)| (number(text).unwrap_or(0), *times))
+    }
+
     pub fn report(&self) {
         println!("Listings compared, by sort");
         for (sort, number) in &self.sorts {

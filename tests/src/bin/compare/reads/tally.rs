@@ -90,6 +90,16 @@ impl Tally {
         count(&mut self.things, thing, 1);
     }
 
+    /// The answers of cells that both give, by number and times.
+    pub fn cell_answers(&self) -> impl Iterator<Item = (u32, usize)> + '_ {
+        (0..).zip(self.cells.iter().map(|times| times.iter().sum()))
+    }
+
+    /// The same of contents.
+    pub fn content_answers(&self) -> impl Iterator<Item = (u32, usize)> + '_ {
+        (0..).zip(self.contents.iter().copied())
+    }
+
     pub fn report(&self) {
         println!("Cells and contents asked for, by sort");
         for (sort, number) in &self.sorts {

@@ -1,0 +1,83 @@
+//! The closing summary: how many answers were compared of each function of the C interface, and how
+//! often each refusal was met.
+
+use crate::run::Run;
+
+/// Comparisons that a whole run makes at least, all functions together.
+const LEAST: usize = 200_000;
+
+/// The refusals of document 01.
+const REFUSALS: std::ops::RangeInclusive<u32> = 1..=13;
+
+/// A function of the C interface. A comparison is one question put to both, of a cell by one
+/// route; the same question with another buffer, another `out` or at another address is not counted
+/// again.
+pub struct Function {
+    name: &'static str,
+    comparisons: usize,
+    /// How often each refusal was the answer, at its number.
+    refusals: [usize; 14],
+}
+
+impl Function {
+    /// From the answers by number and times.
+    pub fn new(name: &'static str, answers: impl Iterator<Item = (u32, usize)>) -> Function {
+        let mut function = Function { name, comparisons: 0, refusals: [0; 14] };
+        for (number, times) in answers {
+            function.comparisons += times;
+            if REFUSALS.contains(&number) {
+                function.refusals[number as usize] += times;
+            }
+        }
+        function
+    }
+}
+
+/// Prints the two tables.
+pub fn report(functions: &[Function]) {
+    println!("Comparisons, by function");
+    for function in functions {
+        println!("  {:8}  {}", function.comparisons, function.name);
+    }
+    println!("  {:8}  together", together(functions));
+    println!("Refusals met");
+    for number in REFUSALS {
+        println!("  {:8}  refused {number}", met(functions, number));
+    }
+}
+
+/// What a whole run lacks.
+pub fn missed(functions: &[Function]) -> Vec<String> {
+    let mut missed = Vec::new();
+    if together(functions) < LEAST {
+        missed.push(format!("{} comparisons of at least {LEAST}", together(functions)));
+    }
+    for function in functions.iter().filter(|function| function.comparisons == 0) {
+        missed.push(format!("{} was never asked", function.name));
+    }
+    for number in REFUSALS.filter(|number| met(functions, *number) == 0) {
+        missed.push(format!("refusal {number} was never met"));
+    }
+    missed
+}
+
+fn together(functions: &[Function]) -> usize {
+    functions.iter().map(|function| function.comparisons).sum()
+}
+
+fn met(functions: &[Function], number: u32) -> usize {
+    functions.iter().map(|function| function.refusals[number as usize]).sum()
+}
+
+impl Run {
+    /// The five functions.
+    pub fn functions(&self) -> [Function; 5] {
+        [
+            Function::new("gvrs_check", self.answers()),
+            Function::new("gvrs_cell", self.reads.cell_answers()),
+            Function::new("gvrs_content", self.reads.content_answers()),
+            Function::new("gvrs_lay_down", self.lay_downs.answers()),
+            Function::new("gvrs_list", self.listings.answers()),
+        ]
+    }
+}
