@@ -1,7 +1,8 @@
-// What benches/ measures and the C interface does not offer: the look-up that does not repeat the check.
+// What benches/ measures and the C interface does not offer: the look-up that does not repeat the check, and the checksum by itself.
 ghost use mathlib.Core.Path.{_≡_};
 ghost use Rattle.answer.specs.Answers.{cellBits};
 ghost use Rattle.cells.specs.DirectoryRoute.{lookedUp};
+ghost use Rattle.crc32c.specs.Crc.{crcOf};
 
 // The bits of a cell by the directory, without the check.
 #[no_mangle]
@@ -9,4 +10,12 @@ pub extern "C" fn gvrs_bench_look_up(file: &[u8], row: u64, column: u64, element
     ensures { λ r. ⌜ r ≡ cellBits (lookedUp (now (file .entry)) row column element) ⌝ }
 {
     answer::cell_bits(cells::reads::cell_of_accepted(file, row, column, element))
+}
+
+// CRC32C of all the bytes.
+#[no_mangle]
+pub extern "C" fn gvrs_bench_crc(file: &[u8]) -> u32
+    ensures { λ r. ⌜ r ≡ crcOf (now (file .entry)) ⌝ }
+{
+    crc32c::crc_of(file)
 }

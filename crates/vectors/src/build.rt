@@ -102,6 +102,11 @@ pub fn put_length(out: &mut [u8], end: usize) {
     }
 }
 
+// A number as a position or a size.
+pub fn size(n: u64) -> usize {
+    (n % 65536) as usize
+}
+
 // A number of `width` bytes, 1, 4 or 8, at a place; nothing of another width.
 pub fn put_number(out: &mut [u8], at: usize, width: u64, v: u64) {
     if width == 1 {

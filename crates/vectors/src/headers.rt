@@ -3,17 +3,17 @@ use crate::build;
 use crate::show;
 use crate::tables;
 
-// A number as a position or a size.
-fn size(n: u64) -> usize {
-    (n % 65536) as usize
+// The two puts of a row.
+fn put_two(out: &mut [u8], r: [u64; 6]) {
+    build::put_number(out, build::size(r[0]), r[1], r[2]);
+    build::put_number(out, build::size(r[3]), r[4], r[5]);
 }
 
 // A good file with the two puts of a row.
 fn two_puts(r: [u64; 6]) {
     let mut file = [0u8; 512];
     let n = build::header(&mut file, 1, 3, 5, 3);
-    build::put_number(&mut file, size(r[0]), r[1], r[2]);
-    build::put_number(&mut file, size(r[3]), r[4], r[5]);
+    put_two(&mut file, r);
     show::check(&file, n, n);
 }
 
@@ -25,28 +25,22 @@ fn width_at(at: u64) -> u64 {
 // A file of several elements, as a row says.
 fn several(r: [u64; 6]) {
     let mut file = [0u8; 1024];
-    let n = build::header(&mut file, (r[0] % 64) as u32, 0, size(r[2]), 0);
+    let n = build::header(&mut file, (r[0] % 64) as u32, 0, build::size(r[2]), 0);
     build::put_number(&mut file, 280, 4, r[1]);
-    build::put_length(&mut file, build::minus(n, size(r[3])));
-    build::put_unless_zero(&mut file, size(r[4]), width_at(r[4]), r[5]);
+    build::put_length(&mut file, build::minus(n, build::size(r[3])));
+    build::put_unless_zero(&mut file, build::size(r[4]), width_at(r[4]), r[5]);
     show::check(&file, n, n);
-}
-
-// A row's numbers.
-fn row(r: [u64; 6]) {
-    show::three(r[0], r[1], r[2]);
-    show::three(r[3], r[4], r[5]);
 }
 
 fn one(are_puts: bool, r: [u64; 6]) {
     if are_puts {
         show::text(b"put ");
-        row(r);
+        show::row(r);
         two_puts(r);
         return;
     }
     show::text(b"elements ");
-    row(r);
+    show::row(r);
     several(r);
 }
 
@@ -66,7 +60,7 @@ fn cut(n: u64) {
     build::header(&mut file, 1, 3, 5, 3);
     show::text(b"first ");
     show::spaced(n);
-    show::check(&file, size(n), size(n));
+    show::check(&file, build::size(n), build::size(n));
 }
 
 fn cuts() {
@@ -98,12 +92,20 @@ fn stated_lengths() {
     stated(16777217);
 }
 
+// Only the bytes end before the header, and not the stated length.
+fn one_byte_missing() {
+    let mut file = [0u8; 512];
+    let n = build::header(&mut file, 1, 3, 5, 3);
+    show::text(b"stated 344 of which 343 are given ");
+    show::check(&file, build::minus(n, 1), n);
+}
+
 // A product label of some length, the header said to be longer or shorter, and eight bytes behind it.
 fn resized(label: u64, more: u64, less: u64) {
     let mut file = [0u8; 512];
-    let n = build::header(&mut file, 1, 3, 5, size(label));
-    let end = build::plus(n, size(more));
-    build::put_length(&mut file, build::minus(end, size(less)));
+    let n = build::header(&mut file, 1, 3, 5, build::size(label));
+    let end = build::plus(n, build::size(more));
+    build::put_length(&mut file, build::minus(end, build::size(less)));
     let m = build::plus(n, 8);
     show::text(b"length ");
     show::three(label, more, less);
@@ -123,7 +125,7 @@ fn lengths() {
 // Two elements of a type, with names of a size: the verdict, and what is read of each.
 fn aligned(kind: u32, name: u64) {
     let mut file = [0u8; 512];
-    let n = build::header(&mut file, 2, kind, size(name), 0);
+    let n = build::header(&mut file, 2, kind, build::size(name), 0);
     show::text(b"aligned ");
     show::spaced(kind as u64);
     show::spaced(name);
@@ -149,7 +151,10 @@ fn front(count: u32, opened: u64, more: u64, less: u64) {
     show::text(b"front ");
     show::spaced(count as u64);
     show::three(opened, more, less);
-    show::front(&file, build::minus(build::plus(n, size(more)), size(less)));
+    show::front(
+        &file,
+        build::minus(build::plus(n, build::size(more)), build::size(less)),
+    );
 }
 
 // A front, and one that is opened: accepted; longer, shorter: 3; 17 elements: 4, longer too: 3.
@@ -163,16 +168,34 @@ fn fronts() {
     front(17, 0, 8, 0);
 }
 
-pub fn run() {
+// One table in each function: a check holds it in every state of the function that names it.
+fn refused() {
     each(true, &tables::REFUSED);
+}
+
+fn allowed() {
     each(true, &tables::ALLOWED);
+}
+
+fn elements() {
     each(false, &tables::ELEMENTS);
-    cuts();
-    stated_lengths();
-    lengths();
+}
+
+fn all_alignments() {
     alignments(0);
     alignments(1);
     alignments(2);
     alignments(3);
+}
+
+pub fn run() {
+    refused();
+    allowed();
+    elements();
+    cuts();
+    stated_lengths();
+    one_byte_missing();
+    lengths();
+    all_alignments();
     fronts();
 }

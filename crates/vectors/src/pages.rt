@@ -66,16 +66,63 @@ fn each(file: &[u8]) {
     content(file, 4, 1);
 }
 
-pub fn run() {
+// The whole check, and stages 6 to 9 alone.
+fn checked(file: &[u8]) {
+    show::text(b"check ");
+    show::verdict(page_check::check(file));
+    show::text(b"stages 6 to 9 ");
+    show::verdict(page_check::check_from_records(file));
+}
+
+// Each directory by itself.
+fn directories(file: &[u8]) {
+    show::text(b"tile directory ");
+    show::truth(directory::tile_rules::tile_directory_right(file));
+    show::text(b", metadata directory ");
+    show::truth(listed_records::stage::metadata_directory_right(file));
+    show::text(b", file space ");
+    show::truth(listed_records::stage::file_space_right(file));
+    show::text(b"\n");
+}
+
+fn whole() {
     let mut file = [0u8; 512];
     put_page(&mut file);
     each(wire::part_of(&file, 0, 416));
-    // the directory's one reference is zero: the file is refused, and only the walk without stage 9 finds the cell
+    checked(wire::part_of(&file, 0, 416));
+    directories(wire::part_of(&file, 0, 416));
+}
+
+// The directory's one reference is zero: the file is refused, and only the walk without stage 9 finds the cell.
+fn unlisted() {
+    let mut file = [0u8; 512];
+    put_page(&mut file);
     writing::put_u32(&mut file, 408, 0);
     cell(wire::part_of(&file, 0, 416), 3, 5, 0);
-    // L of 11 in the tile record: compressed
-    writing::put_u32(&mut file, 408, 44);
+    checked(wire::part_of(&file, 0, 416));
+    directories(wire::part_of(&file, 0, 416));
+}
+
+// L of 11 in the tile record: compressed.
+fn compressed() {
+    let mut file = [0u8; 512];
+    put_page(&mut file);
     writing::put_u32(&mut file, 356, 11);
     cell(wire::part_of(&file, 0, 416), 3, 5, 0);
     content(wire::part_of(&file, 0, 416), 4, 0);
+}
+
+// A time opened: the whole check refuses, stages 6 to 9 do not look at it.
+fn opened() {
+    let mut file = [0u8; 512];
+    put_page(&mut file);
+    writing::put_byte(&mut file, 48, 1);
+    checked(wire::part_of(&file, 0, 416));
+}
+
+pub fn run() {
+    whole();
+    unlisted();
+    compressed();
+    opened();
 }

@@ -51,10 +51,6 @@ pub const RECORDS: [[u64; 6]; 36] = [
     [32, 32, 1, 16, 4, 7],
 ];
 
-fn size(n: u64) -> usize {
-    (n % 65536) as usize
-}
-
 // The body that makes a tile or metadata record a right one.
 fn put_body(out: &mut [u8], kind: u64) {
     if kind == 2 {
@@ -66,17 +62,21 @@ fn put_body(out: &mut [u8], kind: u64) {
     }
 }
 
+// A row's record, at 344.
+fn put_row(out: &mut [u8], r: [u64; 6]) {
+    build::put_number(out, 344, 4, r[1]);
+    build::put_number(out, 348, 1, r[2]);
+    put_body(out, r[2]);
+    build::put_number(out, build::plus(344, build::size(r[3])), r[4], r[5]);
+}
+
 fn one(r: [u64; 6]) {
     let mut file = [0u8; 512];
     let n = build::header(&mut file, 1, 3, 5, 3);
-    build::put_number(&mut file, n, 4, r[1]);
-    build::put_number(&mut file, build::plus(n, 4), 1, r[2]);
-    put_body(&mut file, r[2]);
-    build::put_number(&mut file, build::plus(n, size(r[3])), r[4], r[5]);
+    put_row(&mut file, r);
     show::text(b"record ");
-    show::three(r[0], r[1], r[2]);
-    show::three(r[3], r[4], r[5]);
-    show::records(&file, build::plus(n, size(r[0])));
+    show::row(r);
+    show::records(&file, build::plus(n, build::size(r[0])));
 }
 
 fn each(rows: &[[u64; 6]]) {
@@ -123,8 +123,12 @@ fn checksums() {
     summed(364, 0);
 }
 
-pub fn run() {
+fn rows() {
     each(&RECORDS);
+}
+
+pub fn run() {
+    rows();
     opened();
     checksums();
 }

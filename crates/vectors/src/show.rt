@@ -8,6 +8,14 @@ pub fn number(n: u64) {
     io::print_decimal(1, n);
 }
 
+pub fn truth(b: bool) {
+    if b {
+        text(b"true");
+        return;
+    }
+    text(b"false");
+}
+
 // A number and a space.
 pub fn spaced(n: u64) {
     number(n);
@@ -18,6 +26,12 @@ pub fn three(a: u64, b: u64, c: u64) {
     spaced(a);
     spaced(b);
     spaced(c);
+}
+
+// A row of a table.
+pub fn row(r: [u64; 6]) {
+    three(r[0], r[1], r[2]);
+    three(r[3], r[4], r[5]);
 }
 
 // A number in hexadecimal, and the end of the line.
@@ -36,7 +50,8 @@ pub fn front(s: &[u8], n: usize) {
     verdict(check_header::stages::check_front(wire::part_of(s, 0, n)));
 }
 
-fn verdict(v: answer::Verdict) {
+// A verdict's number and place, and the end of the line.
+pub fn verdict(v: answer::Verdict) {
     text(b"gives ");
     number(answer::verdict_number(v) as u64);
     text(b" at ");

@@ -5,7 +5,7 @@
 
 // Refused by stages 1 to 5, in their order: each row by one rule alone, but for negative numbers, which later rules would
 // refuse too, and for the rows from `mark and version` on, where the earliest stage counts.
-pub const REFUSED: [[u64; 6]; 62] = [
+pub const REFUSED: [[u64; 6]; 64] = [
     // 1: a byte of the mark
     [0, 1, 71, 0, 0, 0],
     [10, 1, 115, 0, 0, 0],
@@ -38,6 +38,8 @@ pub const REFUSED: [[u64; 6]; 62] = [
     [294, 1, 95, 0, 0, 0],
     [294, 1, 64, 0, 0, 0],
     [294, 1, 91, 0, 0, 0],
+    [294, 1, 96, 0, 0, 0],
+    [294, 1, 123, 0, 0, 0],
     // 3: names with a byte beside the letters, numbers and underscore
     [296, 1, 47, 0, 0, 0],
     [296, 1, 58, 0, 0, 0],
@@ -90,7 +92,7 @@ pub const REFUSED: [[u64; 6]; 62] = [
 ];
 
 // Accepted: what a sentence allows, and bytes that are not judged.
-pub const ALLOWED: [[u64; 6]; 41] = [
+pub const ALLOWED: [[u64; 6]; 49] = [
     // grid sides 65536, tile sides 4096, 65536 tiles, 1048576 bytes of a tile, Short and Integer, a grid of one cell
     [104, 4, 65536, 108, 4, 1],
     [104, 4, 1, 108, 4, 65536],
@@ -116,6 +118,15 @@ pub const ALLOWED: [[u64; 6]; 41] = [
     [132, 4, 4294967295, 0, 0, 0],
     // coordinates, the first and the last
     [136, 8, 18446744073709551615, 272, 8, 18446744073709551615],
+    // the coordinates between them
+    [144, 8, 18446744073709551615, 152, 8, 18446744073709551615],
+    [160, 8, 18446744073709551615, 168, 8, 18446744073709551615],
+    [176, 8, 18446744073709551615, 184, 8, 18446744073709551615],
+    [192, 8, 18446744073709551615, 200, 8, 18446744073709551615],
+    [208, 8, 18446744073709551615, 216, 8, 18446744073709551615],
+    [224, 8, 18446744073709551615, 232, 8, 18446744073709551615],
+    [240, 8, 18446744073709551615, 248, 8, 18446744073709551615],
+    [256, 8, 18446744073709551615, 264, 8, 18446744073709551615],
     // continuous and reserved bytes of the element
     [285, 1, 7, 288, 4, 4294967295],
     [286, 1, 255, 287, 1, 255],
