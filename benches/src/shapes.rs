@@ -59,11 +59,16 @@ pub fn many_metadata(checksums: bool) -> Vec<u8> {
     bytes_of(&page)
 }
 
-/// As many free records of 16 bytes as fit, listed last one first. Each has an entry of 12 bytes.
-pub fn free_in_reverse(length: usize) -> Vec<u8> {
+/// How many free records of 16 bytes fit, each with an entry of 12 bytes.
+pub fn free_records(length: usize) -> usize {
+    (length - 1024) / 28
+}
+
+/// So many, listed last one first.
+pub fn free_in_reverse(records: usize) -> Vec<u8> {
     let mut page = Page::plain();
     let first = page.records.len();
-    for _ in 0..(length - 1024) / 28 {
+    for _ in 0..records {
         page.records.push(Record::new(Body::Free(16)));
     }
     let listed = (first..page.records.len()).rev().collect();
@@ -71,12 +76,16 @@ pub fn free_in_reverse(length: usize) -> Vec<u8> {
     bytes_of(&page)
 }
 
-/// As many metadata records of 32 bytes as fit, each with a key of its own, listed last one first.
-/// Each has an entry of 16 bytes.
-pub fn metadata_in_reverse(length: usize) -> Vec<u8> {
+/// How many metadata records of 32 bytes fit, each with an entry of 16 bytes.
+pub fn metadata_records(length: usize) -> usize {
+    (length - 1024) / 48
+}
+
+/// So many, each with a key of its own, listed last one first.
+pub fn metadata_in_reverse(records: usize) -> Vec<u8> {
     let mut page = Page::plain();
     let first = page.records.len();
-    for id in 0..(length - 1024) / 48 {
+    for id in 0..records {
         page.records.push(Record::new(Body::Metadata(Metadata::new(b"m", id as u32))));
     }
     let listed = (first..page.records.len()).rev().collect();
