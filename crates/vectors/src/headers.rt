@@ -168,7 +168,7 @@ fn fronts() {
     front(17, 0, 8, 0);
 }
 
-// One table in each function: a check holds it in every state of the function that names it.
+// A function for each table: the prover carries a table through every step of the function that names it.
 fn refused() {
     each(true, &tables::REFUSED);
 }
