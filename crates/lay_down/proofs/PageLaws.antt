@@ -103,18 +103,20 @@ references-length f ix (suc n) = four-more (references f ix n) (compactFrom f (l
 pub reserved-length : length ((0 ∷ 0 ∷ []) ++ zeros 6) ≡ 8
 reserved-length = length-append (0 ∷ 0 ∷ []) (zeros 6) ∙ omega (arith, zeros-length 6)
 
-pub form-length : (f : List ℕ) → length (directoryForm f) ≡ 24
+pub form-length : (down across : ℕ) → length (directoryForm down across) ≡ 24
 unfolding directoryForm
-form-length f =
+form-length down across =
     let z : List ℕ = (0 ∷ 0 ∷ []) ++ zeros 6 in
     let a = four-more z 0 in
     let b = four-more (z ++ bytesOf 4 0) 0 in
-    let c = four-more (z ++ bytesOf 4 0 ++ bytesOf 4 0) (tilesDown f) in
-    four-more (z ++ bytesOf 4 0 ++ bytesOf 4 0 ++ bytesOf 4 (tilesDown f)) (tilesAcross f) ∙ omega (arith, a, b, c, reserved-length)
+    let c = four-more (z ++ bytesOf 4 0 ++ bytesOf 4 0) down in
+    four-more (z ++ bytesOf 4 0 ++ bytesOf 4 0 ++ bytesOf 4 down) across ∙ omega (arith, a, b, c, reserved-length)
 
 pub body-length : (f ix : List ℕ) → length (directoryBody f ix) ≡ 24 + 4 * tileCount f
 unfolding directoryBody
-body-length f ix = length-append (directoryForm f) (references f ix (tileCount f)) ∙ omega (arith, form-length f, references-length f ix (tileCount f))
+body-length f ix =
+    let d = directoryForm (tilesDown f) (tilesAcross f) in
+    length-append d (references f ix (tileCount f)) ∙ omega (arith, form-length (tilesDown f) (tilesAcross f), references-length f ix (tileCount f))
 
 pub directory-length : (f ix : List ℕ) → length (directoryRecord f ix) ≡ recordLength (24 + 4 * tileCount f)
 unfolding directoryRecord

@@ -131,16 +131,20 @@ pub record DirectoryPlaced (f ix s : List ℕ) (x : ℕ) : Type 0 where
   pub reference : (j : ℕ) → j < tileCount f → Placed s (x + (32 + 4 * j)) (bytesOf 4 (compactFrom f (length f) ix j))
 
 module _ (f ix : List ℕ) {s : List ℕ} {x : ℕ} (p : Placed s x (directoryRecord f ix)) where
-  body-placed : Placed s (x + 8) (directoryForm f ++ references f ix (tileCount f))
+  body-placed : Placed s (x + 8) (directoryForm (tilesDown f) (tilesAcross f) ++ references f ix (tileCount f))
   unfolding directoryRecord directoryBody
-  body-placed = placed-inner p (record-body (checksumEnabled f) 5 (directoryForm f ++ references f ix (tileCount f)))
+  body-placed = placed-inner p (record-body (checksumEnabled f) 5 (directoryBody f ix))
 
-  form-placed : Placed s (x + 8) (directoryForm f)
-  form-placed = placed-first (directoryForm f) (references f ix (tileCount f)) body-placed
+  form-placed : Placed s (x + 8) (directoryForm (tilesDown f) (tilesAcross f))
+  form-placed = placed-first (directoryForm (tilesDown f) (tilesAcross f)) (references f ix (tileCount f)) body-placed
 
   reference-placed : (j : ℕ) → j < tileCount f → Placed s (x + (32 + 4 * j)) (bytesOf 4 (compactFrom f (length f) ix j))
   reference-placed j h =
-      placed-at (placed-inner (placed-next (directoryForm f) (references f ix (tileCount f)) (form-length f) body-placed) (references-placed f ix (tileCount f) j h)) (omega arith)
+      let d = directoryForm (tilesDown f) (tilesAcross f) in
+      placed-at
+      (placed-inner (placed-next d (references f ix (tileCount f)) (form-length (tilesDown f) (tilesAcross f)) body-placed)
+      (references-placed f ix (tileCount f) j h))
+      (omega arith)
 
   pub fields-placed : DirectoryPlaced f ix s x
   unfolding directoryForm

@@ -40,13 +40,14 @@ unfoldable pub references : List ℕ → List ℕ → ℕ → List ℕ
 references f ix zero = []
 references f ix (suc n) = references f ix n ++ bytesOf 4 (compactFrom f (length f) ix n)
 
--- G Table 21: format 0, compact references, six reserved bytes; the rectangle of all tiles
-unfoldable pub directoryForm : List ℕ → List ℕ
-directoryForm f = (0 ∷ 0 ∷ []) ++ zeros 6 ++ bytesOf 4 0 ++ bytesOf 4 0 ++ bytesOf 4 (tilesDown f) ++ bytesOf 4 (tilesAcross f)
+-- G Table 21: format 0, compact references, six reserved bytes; the rectangle from row 0 and column 0 on, of so many rows and columns
+-- of tiles
+unfoldable pub directoryForm : ℕ → ℕ → List ℕ
+directoryForm down across = (0 ∷ 0 ∷ []) ++ zeros 6 ++ bytesOf 4 0 ++ bytesOf 4 0 ++ bytesOf 4 down ++ bytesOf 4 across
 
--- then the references, row by row
+-- that of all tiles, then the references, row by row
 unfoldable pub directoryBody : List ℕ → List ℕ → List ℕ
-directoryBody f ix = directoryForm f ++ references f ix (tileCount f)
+directoryBody f ix = directoryForm (tilesDown f) (tilesAcross f) ++ references f ix (tileCount f)
 
 unfoldable pub directoryRecord : List ℕ → List ℕ → List ℕ
 directoryRecord f ix = recordOf (checksumEnabled f) 5 (directoryBody f ix)

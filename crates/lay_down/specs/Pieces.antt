@@ -16,7 +16,7 @@ zeros n = replicate n 0
 unfoldable pub checksumFor : ℕ → List ℕ → ℕ
 checksumFor flag bytes = pick (eqb flag 1) (crcOf bytes) 0
 
--- G 3.3.1: a record's length, its type and three reserved bytes
+-- G 3.3.1: a record's length and its type; G Tables 15 and 21, offset 5: three reserved bytes
 unfoldable pub recordHead : ℕ → ℕ → List ℕ
 recordHead n kind = bytesOf 4 n ++ (kind ∷ []) ++ zeros 3
 

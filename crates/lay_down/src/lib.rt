@@ -1,4 +1,5 @@
 // Laying down a page (document 01): the front, one tile record for each index, the tile directory last.
+pub mod directory;
 pub mod front;
 pub mod pieces;
 
@@ -24,7 +25,7 @@ ghost use Rattle.geometry.specs.Sizes.{storedSize, elementBytes, tileBytes, pla
 ghost use Rattle.check_header.specs.Stages.{checkFront};
 ghost use Rattle.answer.specs.declared.Verdict.the-variants.{Accepted};
 ghost use Rattle.lay_down.specs.Pieces.{recordLength};
-ghost use Rattle.lay_down.specs.Page.{sections, tileRecord, tileRecords, references, directoryForm, directoryRecord, laidFront, laidFile};
+ghost use Rattle.lay_down.specs.Page.{sections, tileRecord, tileRecords, references, directoryRecord, laidFront, laidFile};
 ghost use Rattle.lay_down.specs.Answer.{ascending, inputRight, judgedInput, judged, laid, laidOut};
 ghost use Rattle.lay_down.specs.Ready.{SizesOf, TileReady, TilesReady, IndexesReady};
 
@@ -237,23 +238,10 @@ fn put_references(out: &mut [u8], at: usize, n: usize, front: &[u8], indexes: &[
     let mut start = front.len();
     let mut k = 0;
     while k < indexes.len() {
-        let i = indexes[k] as usize;
-        writing::put_u32(out, at + 4 * i, ((start + 8) / 8) as u32);
+        directory::put_reference(out, at, indexes[k], start);
         start += n;
         k += 1;
     }
-}
-
-// What stands before the references: the form, reserved bytes and the rectangle of all tiles.
-fn put_rectangle(out: &mut [u8], at: usize, front: &[u8])
-    requires { ⌜ at + 24 ≤ length (now out) ⌝ }
-    ensures { λ _. ⌜ now (out .exit) ≡ put (now (out .entry)) at (directoryForm (now (front .entry))) ⌝ }
-{
-    let down = tiles::tiles_down(front);
-    let across = tiles::tiles_across(front);
-    pieces::put_zeros(out, at, 16);
-    writing::put_u32(out, at + 16, down);
-    writing::put_u32(out, at + 20, across);
 }
 
 // The tile directory.
@@ -262,10 +250,12 @@ fn put_directory(out: &mut [u8], at: usize, n: usize, front: &[u8], indexes: &[u
     ensures { λ _. ⌜ now (out .exit) ≡ put (now (out .entry)) at (directoryRecord (now (front .entry)) (now (indexes .entry))) ⌝ }
 {
     let flag = fields::checksum_enabled(front);
+    let down = tiles::tiles_down(front);
+    let across = tiles::tiles_across(front);
     let count = tiles::tile_count(front) as usize;
     let long = directory_length(front);
     pieces::put_head(out, at, long as u32, 5);
-    put_rectangle(out, at + 8, front);
+    directory::put_form(out, at + 8, down, across);
     put_references(out, at + 32, n, front, indexes);
     pieces::close(out, at, at + 32 + 4 * count, long, flag);
 }

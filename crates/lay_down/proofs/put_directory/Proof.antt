@@ -15,19 +15,21 @@ put-directory-spec =
     (λ c κs. search needs)
     (λ c κs. search needs)
     (λ c κs. search needs)
-    (λ c. let w = front-of _ (c .before .before .before .before .before .before .before .pre .0 .0) in omega (arith, directory-small _ w, c .before .directory-length .ensures))
+    (λ c κs. search needs)
+    (λ c κs. search needs)
+    (λ c. let w = front-of _ (c .before .before .before .before .before .before .before .before .before .pre .0 .0) in omega (arith, directory-small _ w, c .before .directory-length .ensures))
     (λ c κs. search needs)
     (λ c. search needs)
-    (λ c κs. let p = c .before .before .before .before .before .before .before .before .before .before .before .pre in omega (arith, directory-holds (c .before .before .before .before .before .before .before .before .before .before .before .args .front .now), p .1 .1, c .before .before .before .put-head .kept .0))
+    (λ c κs. search needs)
     (λ c. search needs)
     (λ c κs.
-    let p = c .before .before .before .before .before .before .before .before .before .before .before .before .before .before .before .pre in
-    (p .0, (p .1 .0, omega (arith, directory-holds (c .before .before .before .before .before .before .before .before .before .before .before .before .before .before .before .args .front .now), p .1 .1, c .before .before .before .before .before .before .before .put-head .kept .0, c .before .before .before .put-rectangle .kept .0))))
+    let p = c .before .before .before .before .before .before .before .before .before .before .before .before .before .before .before .before .before .pre in
+    (p .0, (p .1 .0, omega (arith, directory-holds (c .before .before .before .before .before .before .before .before .before .before .before .before .before .before .before .before .before .args .front .now), p .1 .1, c .before .before .before .before .before .before .before .put-head .kept .0, c .before .before .before .put-form .kept .0))))
     (λ c. search needs)
-    (λ c. let w = front-of _ (c .before .before .before .before .before .before .before .before .before .before .before .before .before .before .before .before .before .before .before .pre .0 .0) in omega (arith, w .tiles, c .before .before .before .before .before .before .before .before .before .before .before .before .before .before .tile-count .ensures))
-    (λ c. let p = c .before .before .before .before .before .before .before .before .before .before .before .before .before .before .before .before .before .before .before .pre in omega (arith, directory-holds (c .before .before .before .before .before .before .before .before .before .before .before .before .before .before .before .before .before .before .before .args .front .now), p .1 .1, c .before .before .before .before .before .before .before .before .before .before .before .before .before .before .tile-count .ensures))
+    (λ c. let w = front-of _ (c .before .before .before .before .before .before .before .before .before .before .before .before .before .before .before .before .before .before .before .before .before .pre .0 .0) in omega (arith, w .tiles, c .before .before .before .before .before .before .before .before .before .before .before .before .before .before .tile-count .ensures))
+    (λ c. let p = c .before .before .before .before .before .before .before .before .before .before .before .before .before .before .before .before .before .before .before .before .before .pre in omega (arith, directory-holds (c .before .before .before .before .before .before .before .before .before .before .before .before .before .before .before .before .before .before .before .before .before .args .front .now), p .1 .1, c .before .before .before .before .before .before .before .before .before .before .before .before .before .before .tile-count .ensures))
     (λ c κs. search needs)
     (λ c. search needs)
     (λ c.
-    let p = c .before .before .before .before .before .before .before .before .before .before .before .before .before .before .before .before .before .before .before .before .before .before .pre in
-    directory-put _ _ _ _ _ _ _ _ _ _ _ _ (c .before .before .before .before .before .before .before .before .before .before .before .before .before .before .put-head .ensures) (c .before .before .before .before .before .before .before .before .before .before .put-rectangle .ensures) (c .before .before .before .before .before .before .put-references .ensures) refl (c .before .before .before .before .before .before .before .before .before .before .before .before .before .before .before .before .before .tile-count .ensures) (c .before .before .close .ensures) (c .before .before .before .before .before .before .before .before .before .before .before .before .before .before .before .before .before .before .checksum-enabled .ensures) (c .before .before .before .before .before .before .before .before .before .before .before .before .before .before .before .before .directory-length .ensures) (omega (arith, p .1 .1, c .before .before .before .before .before .before .before .before .before .before .before .before .before .before .before .before .directory-length .ensures))))
+    let p = c .before .before .before .before .before .before .before .before .before .before .before .before .before .before .before .before .before .before .before .before .before .before .before .before .pre in
+    directory-put _ _ _ _ _ _ _ _ _ _ _ _ _ _ (c .before .before .before .before .before .before .before .before .before .before .before .before .before .before .put-head .ensures) (c .before .before .before .before .before .before .before .before .before .before .put-form .ensures) (c .before .before .before .before .before .before .before .before .before .before .before .before .before .before .before .before .before .before .before .tiles-down .ensures) (c .before .before .before .before .before .before .before .before .before .before .before .before .before .before .before .before .before .before .tiles-across .ensures) (c .before .before .before .before .before .before .put-references .ensures) refl (c .before .before .before .before .before .before .before .before .before .before .before .before .before .before .before .before .before .tile-count .ensures) (c .before .before .close .ensures) (c .before .before .before .before .before .before .before .before .before .before .before .before .before .before .before .before .before .before .before .before .checksum-enabled .ensures) (c .before .before .before .before .before .before .before .before .before .before .before .before .before .before .before .before .directory-length .ensures) (omega (arith, p .1 .1, c .before .before .before .before .before .before .before .before .before .before .before .before .before .before .before .before .directory-length .ensures))))

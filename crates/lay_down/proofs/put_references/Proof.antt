@@ -33,11 +33,6 @@ put-references-spec =
     (search needs, search needs, omega arith, references-begin _ _ _ _ (c .before .before .before .before .before .before .before .before .args .indexes .now) _ _ (c .before .before .put-zeros .ensures) refl (omega (arith, t, c .before .before .before .before .before .before .before .before .pre .1 .1))))
     (λ c. search needs)
     (λ c. search needs)
-    (λ c. omega (arith, c .shared-slice-known3 .given (c .before .before .loop .k)))
-    (λ c. let e = ascending-each _ _ _ (c .before .before .before .before .before .before .before .before .before .before .before .before .pre .0 .1 .0) (c .before .before .before .loop .k) (c .before .before .loop-test .taken) in omega (arith, e .1, front-of _ (c .before .before .before .before .before .before .before .before .before .before .before .before .pre .0 .0) .tiles))
-    (λ c. let e = ascending-each _ _ _ (c .before .before .before .before .before .before .before .before .before .before .before .before .pre .0 .1 .0) (c .before .before .before .loop .k) (c .before .before .loop-test .taken) in omega (arith, e .1, c .before .before .before .before .before .before .before .before .before .before .before .before .pre .1 .1))
-    (λ c. omega (arith, c .before .before .before .before .before .before .before .before .before .before .before .before .pre .1 .0, start-small _ _ _ _ (c .before .before .before .loop .inv .2) (c .before .before .before .before .before .before .before .before .before .before .before .before .pre .0 .1 .1) (c .before .before .loop-test .taken)))
-    (λ c. omega (arith, c .before .before .before .before .before .before .before .before .before .before .before .before .pre .1 .0, start-small _ _ _ _ (c .before .before .before .loop .inv .2) (c .before .before .before .before .before .before .before .before .before .before .before .before .pre .0 .1 .1) (c .before .before .loop-test .taken)))
     (λ c κs. search needs)
     (λ c. omega (arith, c .before .before .before .before .before .before .before .before .before .before .before .before .before .before .before .pre .1 .0, start-small _ _ _ _ (c .before .before .before .before .before .before .loop .inv .2) (c .before .before .before .before .before .before .before .before .before .before .before .before .before .before .before .pre .0 .1 .1) (c .before .before .before .before .before .loop-test .taken)))
     (λ c. search needs)
@@ -45,9 +40,9 @@ put-references-spec =
     (λ c.
     let s = c .before .before .before .before .before .before .before .before .before .before .before .before .before .before .before .pre in let k = c .before .before .before .before .before .before .loop .k in let h = c .before .before .before .before .before .loop-test .taken in let e = ascending-each _ _ _ (s .0 .1 .0) k h in let t = c .before .before .before .before .before .before .before .before .before .before .before .tile-count .ensures in (
       search needs,
-      c .before .before .put-u32 .kept .0 ∙ c .before .before .before .before .before .before .loop .inv .1,
+      c .before .before .put-reference .kept .0 ∙ c .before .before .before .before .before .before .loop .inv .1,
       omega (arith, c .before .before .before .before .before .before .loop .inv .2),
-      references-more _ _ _ _ _ _ _ k _ (c .before .before .before .before .before .before .loop .inv .3) (c .before .before .before .before .before .before .loop .inv .2) h (λ j i. ascending-order _ _ _ (s .0 .1 .0) j k i h) (omega (arith, e .1, t)) (omega (arith, t, s .1 .1, c .before .before .before .before .before .before .before .before .before .put-zeros .kept .0)) (c .before .before .put-u32 .ensures),
+      references-more _ _ _ _ _ _ _ k _ (c .before .before .before .before .before .before .loop .inv .3) (c .before .before .before .before .before .before .loop .inv .2) h (λ j i. ascending-order _ _ _ (s .0 .1 .0) j k i h) (omega (arith, e .1, t)) (omega (arith, t, s .1 .1, c .before .before .before .before .before .before .before .before .before .put-zeros .kept .0)) (c .before .before .put-reference .ensures),
     ))
     (λ c. c .before .loop .inv .1 ∙ c .before .before .before .before .put-zeros .kept .0)
     (λ c. references-all _ _ _ _ _ _ _ (c .before .loop .k) _ _ (c .before .loop .inv .3) (c .before .before .before .before .put-zeros .ensures) refl (c .before .before .before .before .before .before .tile-count .ensures) (omega arith) (omega arith) (c .before .before .before .before .before .before .before .before .before .before .pre .1 .1)))

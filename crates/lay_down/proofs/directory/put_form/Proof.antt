@@ -1,0 +1,20 @@
+-- `lay_down::directory::put_form` meets its contract. Assumes nothing.
+use Rattle.lay_down.proofs.DirectoryWriting.{form-out, form-put}
+use native.Mathlib.Omega.{arith}
+use borrow.Author.Needs.{needs}
+use Rattle.lay_down.proofs.directory.put_form.Statement.{statement}
+use Rattle.lay_down.proofs.directory.put_form.Tie as tie
+
+pub put-form-spec : {M : Type 1} → statement M
+put-form-spec =
+    tie.close
+    (tie.spec
+    (λ c. form-out _ _ _ _ (omega arith))
+    (λ c. form-out _ _ _ _ (omega arith))
+    (λ c κs. search needs)
+    (λ c. search needs)
+    (λ c κs. search needs)
+    (λ c. search needs)
+    (λ c κs. search needs)
+    (λ c. search needs)
+    (λ c. form-put _ _ _ _ _ _ _ (c .before .before .before .before .before .before .before .before .before .before .put-zeros .ensures) (c .before .before .before .before .before .before .put-u32 .ensures) (c .before .before .put-u322 .ensures) (omega arith)))
