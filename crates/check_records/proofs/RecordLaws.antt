@@ -1,18 +1,22 @@
 -- Checksums, sections, bodies and faults, from what the functions below them answer. Assumes nothing.
 use Prim.Native.Nat.{ℕ, _+_, _-_, _≤_, _<_}
-use mathlib.Core.Path.{_≡_, sym, ap, _∙_}
-use mathlib.Core.List.{List, []}
+use mathlib.Core.Path.{_≡_, refl, sym, ap, _∙_}
+use mathlib.Core.List.{List, [], _++_}
 use mathlib.Core.Bool.{Bool, true, false}
 use native.Mathlib.Omega.{arith}
 use lib.ListN.{length}
+use lib.Dec.{eqb}
 use borrow.Author.Tests.{eq-eqb, ne-eqb, le-leb, lt-leb}
+use Rattle.wire.specs.Pick.{pick}
 use Rattle.wire.specs.Tests.{allBelow}
-use Rattle.wire.specs.Bytes.{byteAt, numberAt, u16At, u32At, part, partAt}
+use Rattle.wire.specs.Bytes.{Bytes, byteAt, numberAt, u16At, u32At, part, bytesOf, partAt}
 use Rattle.wire.specs.Items.{advance}
-use Rattle.wire.proofs.TestLaws.{means, no, not-both}
-use Rattle.wire.proofs.ByteLaws.{byte-out, number-out, part-out}
+use Rattle.wire.proofs.TestLaws.{means, yes, no, not-both}
+use Rattle.wire.proofs.ByteLaws.{byte-out, number-out, part-out, part-whole}
 use Rattle.wire.proofs.ItemLaws.{advance-grows}
-use Rattle.crc32c.specs.Crc.{crcPart}
+use Rattle.wire.proofs.PlaceLaws.{Placed, placed-first, placed-next, placed-part, placed-value}
+use Rattle.crc32c.specs.Crc.{crcOf, crcPart}
+use Rattle.crc32c.proofs.Range.{crc-small}
 use Rattle.header.specs.Fields.{checksumEnabled, elementCount, headerEnd}
 use Rattle.header.specs.Element.{stringSize, stringEnd}
 use Rattle.header.proofs.NameLaws.{identifier-empty}
@@ -54,6 +58,22 @@ checksum-off s at f p h = rw (← p, ne-eqb f 1 h)
 pub checksum-at-is : (s : List ℕ) (at n d r : ℕ) → n ≡ lengthAt s at → d ≡ n - 4 → r ≡ numberAt 4 s (at + d) → r ≡ checksumAt s at
 unfolding checksumAt
 checksum-at-is s at n d r p q e = e ∙ rw (q, p)
+
+-- bytes that end in the checksum of those before them, as the flag says, are right wherever they stand as a record that is not free space
+pub checksum-placed :
+    {s : List ℕ} {x : ℕ} (u : List ℕ) (v : ℕ) → Placed s x (u ++ bytesOf 4 v) → v ≡ pick (eqb (checksumEnabled s) 1) (crcOf u) 0 → Bytes u →
+    lengthAt s x ≡ length u + 4 → (typeAt s x ≡ 0 → ⊥) → checksumRight s x ≡ true
+unfolding checksumRight checksumAt checksumOf summedBytes crcPart
+checksum-placed {s} {x} u v p e w n k =
+    let m : lengthAt s x - 4 ≡ length u = omega arith in
+    let z : x + 0 ≡ x = omega arith in
+    let a : part s x (length u) ≡ u = (rw z at (placed-part (placed-first u (bytesOf 4 v) p) 0 (length u) (omega arith))) ∙ part-whole u in
+    let b : numberAt 4 s (x + length u) ≡ v = placed-value 4 v (placed-next u (bytesOf 4 v) refl p) (rw e (small (eqb (checksumEnabled s) 1))) in
+    sym (yes _ (rw (m, ne-eqb (typeAt s x) 0 k, a) (b ∙ e), tt))
+  where
+    small : (b : Bool) → pick b (crcOf u) 0 < 4294967296
+    small true = crc-small u w
+    small false = omega arith
 
 -- sections
 

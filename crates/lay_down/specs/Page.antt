@@ -1,13 +1,15 @@
 -- Document 01, 'Laying down a page': the file that is written, byte for byte. f is the front, t the time modified, ix the tile
 -- indexes, c the cell bytes of those tiles one after another, all elements in order, no lengths, no padding.
-use Prim.Native.Nat.{ℕ, zero, suc, _+_, _*_, _/_, _-_}
+use Prim.Native.Nat.{ℕ, zero, suc, _+_, _*_, _/_, _-_, _≤_, _<_}
+use mathlib.Core.Path.{_≡_}
+use mathlib.Core.Logic.{_⊎_}
 use mathlib.Core.List.{List, [], _∷_, _++_}
 use lib.ListN.{length, take, drop}
 use lib.Dec.{eqb}
 use Rattle.wire.specs.Pick.{pick}
 use Rattle.wire.specs.Tests.{sumBelow}
 use Rattle.wire.specs.Bytes.{bytesOf, part, put}
-use Rattle.header.specs.Fields.{checksumEnabled, elementCount}
+use Rattle.header.specs.Fields.{checksumEnabled, elementCount, timeModified, timeOpened, fileSpaceReference, metadataReference, tileDirectoryReference}
 use Rattle.record.specs.Record.{contentAt}
 use Rattle.record.specs.Chain.{joined}
 use Rattle.geometry.specs.Tiles.{tilesAcross, tilesDown, tileCount}
@@ -70,3 +72,15 @@ laidFront f t d = sealed (checksumEnabled f) (fieldsSet f t d) 16 (length f - 16
 -- the file
 unfoldable pub laidFile : List ℕ → ℕ → List ℕ → List ℕ → List ℕ
 laidFile f t ix c = laidFront f t (contentAt (directoryStart f ix)) ++ joined (tileRecords f ix c) ++ directoryRecord f ix
+
+-- what a header says whose fields are set so; a time that eight bytes hold is read as it was given
+pub record FieldsRead (s : List ℕ) (t d : ℕ) : Type 0 where
+  pub modified : t < 18446744073709551616 → timeModified s ≡ t
+  pub opened : timeOpened s ≡ 0
+  pub space : fileSpaceReference s ≡ 0
+  pub metadata : metadataReference s ≡ 0
+  pub tiles : tileDirectoryReference s ≡ d
+
+-- the position of a byte of none of those fields, which stand at 40 to 71 and 80 to 87
+abbrev pub NotSet : ℕ → Type 0
+NotSet i = (i < 40) ⊎ (((72 ≤ i) × (i < 80)) ⊎ (88 ≤ i))

@@ -30,7 +30,7 @@ use Rattle.lay_down.proofs.PieceLaws.{least-holds}
 use Rattle.lay_down.proofs.PlaceLaws.{DirectoryPlaced, fields-placed}
 use Rattle.lay_down.proofs.IndexLaws.{Given, compact-given, compact-found, compact-most}
 use Rattle.read_back.proofs.Setting.{Laying, front-range, front-eights, across-kept, down-kept, tiles-kept}
-use Rattle.read_back.proofs.FrontLaws.{length-laid, front-kept, file-refers}
+use Rattle.read_back.proofs.FrontLaws.{length-laid, front-kept, fields-laid}
 use Rattle.read_back.proofs.TileLaws.{tile-indexed}
 use Rattle.read_back.proofs.RecordLaws.{index-below, tile-here, directory-placed, directory-stated, directories-of, none-of, tile-among, among-tiles}
 
@@ -59,15 +59,15 @@ module _ {f : List ℕ} {t : ℕ} {ix c : List ℕ} (l : Laying f t ix c) where
 
   directory-at : tileDirectoryAt s ≡ directoryStart f ix
   unfolding tileDirectoryAt
-  directory-at = omega (arith, file-refers l .tiles)
+  directory-at = omega (arith, fields-laid l .tiles)
 
-  fields-laid : DirectoryPlaced f ix s (directoryStart f ix)
-  fields-laid = fields-placed f ix (directory-placed l)
+  directory-fields : DirectoryPlaced f ix s (directoryStart f ix)
+  directory-fields = fields-placed f ix (directory-placed l)
 
   form-byte : (i : ℕ) → i < 2 → byteAt s (tileDirectoryAt s + (8 + i)) ≡ byteAt (0 ∷ 0 ∷ []) i
   form-byte i h =
       let e : directoryStart f ix + (8 + i) ≡ directoryStart f ix + 8 + i = omega arith in
-      rw (directory-at, e) (placed-byte (fields-laid .form) i h)
+      rw (directory-at, e) (placed-byte (directory-fields .form) i h)
 
   field : (i v : ℕ) → Placed s (directoryStart f ix + i) (bytesOf 4 v) → v < 4294967296 → numberAt 4 s (tileDirectoryAt s + i) ≡ v
   field i v p h = rw directory-at (placed-value 4 v p h)
@@ -81,16 +81,16 @@ module _ {f : List ℕ} {t : ℕ} {ix c : List ℕ} (l : Laying f t ix c) where
   standard-laid = form-byte 1 (omega arith)
 
   row-laid : firstRow s (tileDirectoryAt s) ≡ 0
-  row-laid = field 16 0 (fields-laid .row) (omega arith)
+  row-laid = field 16 0 (directory-fields .row) (omega arith)
 
   column-laid : firstColumn s (tileDirectoryAt s) ≡ 0
-  column-laid = field 20 0 (fields-laid .column) (omega arith)
+  column-laid = field 20 0 (directory-fields .column) (omega arith)
 
   rows-laid : listedRows s (tileDirectoryAt s) ≡ tilesDown f
-  rows-laid = field 24 (tilesDown f) (fields-laid .rows) (omega (arith, down-small))
+  rows-laid = field 24 (tilesDown f) (directory-fields .rows) (omega (arith, down-small))
 
   columns-laid : listedColumns s (tileDirectoryAt s) ≡ tilesAcross f
-  columns-laid = field 28 (tilesAcross f) (fields-laid .columns) (omega (arith, across-small))
+  columns-laid = field 28 (tilesAcross f) (directory-fields .columns) (omega (arith, across-small))
 
   -- the references
 
@@ -98,7 +98,7 @@ module _ {f : List ℕ} {t : ℕ} {ix c : List ℕ} (l : Laying f t ix c) where
   unfolding referenceAt
   reference-laid j h =
       let e : tileDirectoryAt s + 32 + 4 * j ≡ tileDirectoryAt s + (32 + 4 * j) = omega arith in
-      let n = field (32 + 4 * j) (compactFrom f (length f) ix j) (fields-laid .reference j h) (compact-small j) in
+      let n = field (32 + 4 * j) (compactFrom f (length f) ix j) (directory-fields .reference j h) (compact-small j) in
       rw (standard-laid, e, n)
 
   pub tile-reference : (i : ℕ) → i < tileCount f → tileReference s i ≡ compactFrom f (length f) ix i * 8
@@ -161,7 +161,7 @@ module _ {f : List ℕ} {t : ℕ} {ix c : List ℕ} (l : Laying f t ix c) where
   tile-directory-right : tileDirectoryRight s ≡ true
   unfolding tileDirectoryRight
   tile-directory-right =
-      let o = one-of-type s 5 (tileDirectoryReference s) (directoryStart f ix) (directories-of l) (file-refers l .tiles) in
+      let o = one-of-type s 5 (tileDirectoryReference s) (directoryStart f ix) (directories-of l) (fields-laid l .tiles) in
       sym (yes _ (o .0, (o .1, (form-right, (rectangle-right, (directory-padded, (tiles-listed, (tiles-only, tt))))))))
 
   -- stage 9
@@ -173,7 +173,7 @@ module _ {f : List ℕ} {t : ℕ} {ix c : List ℕ} (l : Laying f t ix c) where
       (yes _ (
         tile-directory-right,
         (
-          metadata-empty s (file-refers l .metadata) (none 4 (λ e. omega arith) (λ e. omega arith)) (none 1 (λ e. omega arith) (λ e. omega arith)),
-          (space-empty s (file-refers l .space) (none 3 (λ e. omega arith) (λ e. omega arith)) (none 0 (λ e. omega arith) (λ e. omega arith)), tt),
+          metadata-empty s (fields-laid l .metadata) (none 4 (λ e. omega arith) (λ e. omega arith)) (none 1 (λ e. omega arith) (λ e. omega arith)),
+          (space-empty s (fields-laid l .space) (none 3 (λ e. omega arith) (λ e. omega arith)) (none 0 (λ e. omega arith) (λ e. omega arith)), tt),
         ),
       ))

@@ -1,11 +1,11 @@
 -- The file that is laid down has the front that was given, but for what is set. Assumes nothing.
-use Prim.Native.Nat.{ℕ, _-_, _≤_}
+use Prim.Native.Nat.{ℕ, _+_, _-_, _≤_, _<_}
 use mathlib.Core.Path.{_≡_, sym, _∙_}
 use mathlib.Core.List.{List}
-use mathlib.Core.Logic.{_⊎_, inl, inr}
+use mathlib.Core.Logic.{inl, inr}
 use native.Mathlib.Omega.{arith}
 use lib.ListN.{length}
-use Rattle.wire.specs.Bytes.{Same}
+use Rattle.wire.specs.Bytes.{byteAt, Same}
 use Rattle.wire.proofs.TestLaws.{yes}
 use Rattle.wire.proofs.ByteLaws.{same-trans, same-append}
 use Rattle.header.specs.Fields.{headerEnd}
@@ -17,10 +17,10 @@ use Rattle.check_header.proofs.Judged as judged
 use Rattle.check_header.specs.Judged.{SameJudged}
 use Rattle.check_header.proofs.Judged.{end-same, identified-to, version-same, header-to, ceilings-to}
 use Rattle.page_check.proofs.AcceptedLaws.{Headed}
-use Rattle.lay_down.specs.Page.{directoryStart, fileLength, laidFront, laidFile}
+use Rattle.lay_down.specs.Page.{directoryStart, fileLength, FieldsRead, NotSet, laidFront, laidFile}
 use Rattle.lay_down.proofs.PageLaws.{front-length, laid-length}
 use Rattle.lay_down.proofs.ChainLaws.{laid-joined}
-use Rattle.lay_down.proofs.FieldLaws.{Refers, refers-same, front-same, front-refers}
+use Rattle.lay_down.proofs.FieldLaws.{read-same, front-same, front-read}
 use Rattle.read_back.proofs.Setting.{Laying, Kept}
 
 module _ {f : List ℕ} {t : ℕ} {ix c : List ℕ} (l : Laying f t ix c) where
@@ -32,10 +32,15 @@ module _ {f : List ℕ} {t : ℕ} {ix c : List ℕ} (l : Laying f t ix c) where
   begins a b h =
       rw (laid-joined f t ix c) (same-append _ _ a b (omega (arith, front-length f t (contentAt (directoryStart f ix)))))
 
-  untouched : (a b : ℕ) → b ≤ length f - 4 → (b ≤ 40) ⊎ (88 ≤ a) → Same f (laidFile f t ix c) a b
+  untouched : (a b : ℕ) → b ≤ length f - 4 → ((i : ℕ) → a ≤ i → i < b → NotSet i) → Same f (laidFile f t ix c) a b
   untouched a b h o =
       let k = l .front .least in
       same-trans (front-same f t (contentAt (directoryStart f ix)) (omega arith) a b h o) (begins a b (omega arith))
+
+  pub byte-kept : (i : ℕ) → i < length f - 4 → NotSet i → byteAt (laidFile f t ix c) i ≡ byteAt f i
+  byte-kept i h o =
+      let u = untouched i (i + 1) (omega arith) (λ j p q. let e : j ≡ i = omega arith in rw e o) in
+      sym (u .each i (omega arith) (omega arith))
 
   -- what stages 1 to 4 judge is as it was
   pub front-judged : SameJudged f (laidFile f t ix c)
@@ -44,11 +49,11 @@ module _ {f : List ℕ} {t : ℕ} {ix c : List ℕ} (l : Laying f t ix c) where
       let e = l .rules .no-more in
       let n : length f ≤ length (laidFile f t ix c) = begins 0 (length f) (omega arith) .in-second in
       record {
-        block = untouched 0 14 (omega arith) (inl (omega arith));
-        frame = untouched 16 21 (omega arith) (inl (omega arith));
-        sides = untouched 104 120 (omega arith) (inr (omega arith));
-        options = untouched 128 131 (omega arith) (inr (omega arith));
-        rest = untouched 280 (headerEnd f - 4) (omega arith) (inr (omega arith));
+        block = untouched 0 14 (omega arith) (λ i p q. inl (omega arith));
+        frame = untouched 16 21 (omega arith) (λ i p q. inl (omega arith));
+        sides = untouched 104 120 (omega arith) (λ i p q. inr (inr (omega arith)));
+        options = untouched 128 131 (omega arith) (λ i p q. inr (inr (omega arith)));
+        rest = untouched 280 (headerEnd f - 4) (omega arith) (λ i p q. inr (inr (omega arith)));
         in-first = omega arith;
         in-second = omega arith;
       }
@@ -70,12 +75,12 @@ module _ {f : List ℕ} {t : ℕ} {ix c : List ℕ} (l : Laying f t ix c) where
       }
 
   -- the fields that are set
-  pub file-refers : Refers (laidFile f t ix c) (contentAt (directoryStart f ix))
+  pub fields-laid : FieldsRead (laidFile f t ix c) t (contentAt (directoryStart f ix))
   unfolding fileLength
-  file-refers =
+  fields-laid =
       let k = l .front .least in
       let h = l .file in
-      refers-same (begins 48 88 (omega arith)) (front-refers f t (contentAt (directoryStart f ix)) (omega arith) (omega arith))
+      read-same (begins 40 88 (omega arith)) (front-read f t (contentAt (directoryStart f ix)) (omega arith) (omega arith))
 
   -- stages 1 to 5 pass
   pub front-headed : Headed (laidFile f t ix c)
@@ -90,5 +95,5 @@ module _ {f : List ℕ} {t : ℕ} {ix c : List ℕ} (l : Laying f t ix c) where
         version = sym (version-same (j .block)) ∙ l .rules .version;
         header = header-to f s j (length f) (length s) (l .rules .header) n;
         ceilings = ceilings-to f s j (length f) (length s) (l .rules .header) (l .rules .ceilings) (omega (arith, length-laid, l .file));
-        not-opened = sym (yes _ (file-refers .opened, tt));
+        not-opened = sym (yes _ (fields-laid .opened, tt));
       }

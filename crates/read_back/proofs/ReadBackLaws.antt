@@ -13,7 +13,7 @@ use Rattle.wire.specs.Bytes.{part, numberAt}
 use Rattle.wire.proofs.TestLaws.{yes}
 use Rattle.wire.proofs.PlaceLaws.{part-placed, placed-part}
 use Rattle.answer.specs.declared.Cell.the-variants as cell
-use Rattle.answer.specs.declared.Content.the-variants.{Present}
+use Rattle.answer.specs.declared.Content.the-variants.{Present, Absent}
 use Rattle.answer.specs.Values.{valueOf}
 use Rattle.header.specs.Fields.{gridRows, gridColumns, elementCount}
 use Rattle.header.specs.Element.{cellSize, element}
@@ -28,7 +28,7 @@ use Rattle.cells.specs.TileCells.{fillOf, offsetIn, placeIn, storedAt, cellIn, 
 use Rattle.cells.specs.Meaning.{meaning, contentMeaning}
 use Rattle.cells.specs.DirectoryRoute.{referredCell, directoryCell, referredContent, directoryContent}
 use Rattle.cells.specs.Demand3.{bytesOfCell}
-use Rattle.cells.proofs.CellLaws.{grid-means}
+use Rattle.cells.proofs.CellLaws.{grid-means, tiles-mean}
 use Rattle.cells.proofs.ApartLaws.{offset-within}
 use Rattle.cells.proofs.RouteLaws.{tile-less, directory-means, content-means}
 use Rattle.cells.proofs.ReadLaws.{demand-3}
@@ -36,9 +36,9 @@ use Rattle.lay_down.specs.Page.{laidFile}
 use Rattle.lay_down.specs.Answer.{laidOut}
 use Rattle.lay_down.proofs.PageLaws.{element-within}
 use Rattle.read_back.specs.ReadBack.{contentGiven, contentLaid, cellGiven, cellLaid, ListedAs, ReadBack}
-use Rattle.read_back.proofs.Setting.{Laying, laying-of, front-range, tiles-kept, tile-kept, size-kept, grid-kept, offset-kept, fill-kept}
-use Rattle.read_back.proofs.FrontLaws.{length-laid, front-kept}
-use Rattle.read_back.proofs.TileLaws.{tile-section, tile-whole, tile-bytes}
+use Rattle.read_back.proofs.Setting.{Laying, laying-of, front-range, tiles-kept, tile-kept, size-kept, grid-kept, asked-kept, offset-kept, fill-kept}
+use Rattle.read_back.proofs.FrontLaws.{length-laid, byte-kept, front-kept, fields-laid}
+use Rattle.read_back.proofs.TileLaws.{tile-section, tile-holds, tile-whole, tile-bytes}
 use Rattle.read_back.proofs.RecordLaws.{index-below, cells-inside, tile-here}
 use Rattle.read_back.proofs.DirectoryLaws.{given-reference, reference-found}
 use Rattle.read_back.proofs.ObeyLaws.{laid-obeys, laid-accepted}
@@ -71,6 +71,14 @@ module _ {f : List ℕ} {t : ℕ} {ix c : List ℕ} (l : Laying f t ix c) where
         (tile-bytes (tile-here l k h) e g o n m
         ∙ sym (placed-part (part-placed c (k * tileBytes f) (tileBytes f) (cells-inside l k h)) (b + o) n (omega (arith, tile-here l k h .long))))
 
+    content-given : contentGiven f k e + elementBytes f e ≤ length c
+    unfolding contentGiven
+    content-given = omega (arith, cells-inside l k h, element-within f (l .front .all) e g)
+
+    content-inside : contentLaid f k e + elementBytes f e ≤ length s
+    unfolding contentLaid
+    content-inside = tile-holds (tile-here l k h) e g
+
     content-bytes : part s (contentLaid f k e) (elementBytes f e) ≡ part c (contentGiven f k e) (elementBytes f e)
     content-bytes =
         let p : contentLaid f k e + 0 ≡ contentLaid f k e = omega arith in
@@ -85,6 +93,15 @@ module _ {f : List ℕ} {t : ℕ} {ix c : List ℕ} (l : Laying f t ix c) where
         let d : start k + 8 - 8 ≡ start k = omega arith in
         sym (content-means s one (getD ix k 0) e)
         ∙ rw (i, given-reference l k h, ne-eqb (start k + 8) 0 (λ z. omega arith), d, tile-whole (tile-here l k h) e g, content-place, size-kept (front-kept l) e g)
+
+  -- a tile that is not listed
+  absent-read :
+      (tile e : ℕ) → inTiles f tile e ≡ true → ((k : ℕ) → k < length ix → getD ix k 0 ≡ tile → ⊥) → contentMeaning s tile e ≡ Absent
+  unfolding directoryContent referredContent
+  absent-read tile e i none =
+      let z : tileReference s tile ≡ 0 =
+      ⊎-elim (λ x. x) (λ g. absurd (none (g .number) (g .among) (g .index))) (reference-found l tile (tiles-mean f tile e i .0)) in
+      sym (content-means s one tile e) ∙ rw (asked-kept (front-kept l) tile e, i, z)
 
   -- a cell of the grid: what the record has to which its tile's reference leads
   module _ (row column e : ℕ) (i : inGrid f row column e ≡ true) where
@@ -134,7 +151,7 @@ module _ {f : List ℕ} {t : ℕ} {ix c : List ℕ} (l : Laying f t ix c) where
           ∙ rw (r, ne-eqb (start k + 8) 0 (λ z. omega arith), d, tile-whole (tile-here l k (q .among)) e g, place, front-kept l .elements e g, cell-bytes)
 
 pub read-back : ReadBack
-unfolding laidOut meaning
+unfolding laidOut meaning contentMeaning
 read-back f t ix c out n b d e =
     let p = laying-of f t ix c (length out) n b d e in
     let l = p .0 in
@@ -151,8 +168,14 @@ read-back f t ix c out n b d e =
             bytes = λ row column x k i q. cell-bytes l row column x i k q;
             fill = λ row column x i none. fill-read l row column x i none;
             content = λ k x h g. content-read l k h x g;
+            content-given = λ k x h g. content-given l k h x g;
+            content-inside = λ k x h g. content-inside l k h x g;
             content-bytes = λ k x h g. content-bytes l k h x g;
+            absent = λ tile x i none. absent-read l tile x i none;
             outside = λ row column x i. rw (grid-kept (front-kept l) row column x, i);
+            content-outside = λ tile x i. rw (asked-kept (front-kept l) tile x, i);
+            fields = fields-laid l;
+            front = λ i h o. byte-kept l i h o;
             routes = demand-3 s (laid-accepted l);
           };
     }

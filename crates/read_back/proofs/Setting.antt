@@ -18,7 +18,7 @@ use Rattle.check_header.specs.HeaderRecord.{lengthRight}
 use Rattle.check_header.proofs.Judged.{header-lawful}
 use Rattle.page_check.specs.Accepted.{InRange}
 use Rattle.page_check.proofs.GivenLaws.{range-of}
-use Rattle.cells.specs.Asked.{inGrid}
+use Rattle.cells.specs.Asked.{inGrid, inTiles}
 use Rattle.cells.specs.TileCells.{fillOf, offsetIn}
 use Rattle.lay_down.specs.Answer.{ascending, lengthUnless, laid}
 use Rattle.lay_down.specs.Page.{fileLength}
@@ -88,6 +88,10 @@ module _ {f s : List ℕ} (k : Kept f s) where
   pub grid-kept : (row column e : ℕ) → inGrid s row column e ≡ inGrid f row column e
   unfolding inGrid
   grid-kept row column e = rw (k .rows, k .columns, k .count)
+
+  pub asked-kept : (tile e : ℕ) → inTiles s tile e ≡ inTiles f tile e
+  unfolding inTiles
+  asked-kept tile e = rw (tiles-kept, k .count)
 
   pub offset-kept : (row column e : ℕ) → e < elementCount f → offsetIn s row column e ≡ offsetIn f row column e
   unfolding offsetIn cellInside

@@ -90,6 +90,10 @@ module _ {f s cs : List ℕ} {i x : ℕ} (p : TileHere f s cs i x) where
   given-length : (e : ℕ) → e < elementCount f → length (bytesGiven f cs e) ≡ elementBytes f e
   given-length e h = part-length cs _ _ (omega (arith, element-within f (p .front .all) e h, p .long))
 
+  -- its bytes lie whole in the file
+  pub tile-holds : (e : ℕ) → e < elementCount f → x + 12 + storedBefore f e + 4 + elementBytes f e ≤ length s
+  tile-holds e h = omega (arith, placed-inside (bytes-there _ (section-here e h)), given-length e h)
+
   -- its length field, by its place
   stated-here : (e : ℕ) → e < elementCount f → u32At s (x + 12 + storedBefore f e) ≡ elementBytes f e
   stated-here e h =

@@ -1,28 +1,29 @@
 -- Demand 2, second half: a page laid down is accepted, and reads back. f is the front, t the time modified, ix the tile indexes, c the
 -- cell bytes of those tiles one after another.
-use Prim.Native.Nat.{ℕ, _+_, _*_, _≤_, _<_}
+use Prim.Native.Nat.{ℕ, _+_, _*_, _-_, _≤_, _<_}
 use mathlib.Core.Path.{_≡_}
 use mathlib.Core.List.{List}
 use mathlib.Core.Bool.{true, false}
 use lib.ListN.{length, getD, take}
 use Rattle.wire.specs.Tests.{sumBelow}
-use Rattle.wire.specs.Bytes.{Bytes, part, numberAt}
+use Rattle.wire.specs.Bytes.{Bytes, byteAt, part, numberAt}
 use Rattle.answer.specs.declared.Refusal.the-variants.{OutsideGrid}
 use Rattle.answer.specs.declared.Verdict.the-variants.{Accepted}
 use Rattle.answer.specs.declared.Cell.the-variants as cell
-use Rattle.answer.specs.declared.Content.the-variants.{Present}
+use Rattle.answer.specs.declared.Content.the-variants.{Present, Absent, Refused}
 use Rattle.answer.specs.declared.Laid.the-variants.{Length}
 use Rattle.answer.specs.Values.{valueOf}
 use Rattle.header.specs.Fields.{elementCount}
 use Rattle.header.specs.Element.{cellSize, element}
+use Rattle.record.specs.Record.{contentAt}
 use Rattle.geometry.specs.Tiles.{cellTile}
 use Rattle.geometry.specs.Sizes.{elementBytes, tileBytes, storedSize, plainTileLength}
 use Rattle.page_check.specs.Stages.{check}
-use Rattle.cells.specs.Asked.{inGrid}
+use Rattle.cells.specs.Asked.{inGrid, inTiles}
 use Rattle.cells.specs.TileCells.{fillOf, offsetIn}
 use Rattle.cells.specs.Meaning.{meaning, contentMeaning}
 use Rattle.cells.specs.Demand3.{bytesOfCell, OneAnswer}
-use Rattle.lay_down.specs.Page.{laidFile}
+use Rattle.lay_down.specs.Page.{directoryStart, FieldsRead, NotSet, laidFile}
 use Rattle.lay_down.specs.Answer.{laid, laidOut}
 
 -- where the bytes given for element e of the k-th listed tile stand among the cell bytes: behind k tiles and, in its own, behind the
@@ -67,12 +68,24 @@ pub record ReadsBack (f : List ℕ) (t : ℕ) (ix c : List ℕ) : Type 0 where
       (row column e : ℕ) → inGrid f row column e ≡ true → ((k : ℕ) → ListedAs f ix k row column → ⊥) →
       meaning (laidFile f t ix c) row column e ≡ fillOf f e
   -- an element's content in a listed tile is the bytes given for it, also past the grid's edge
-  pub content : (k e : ℕ) → k < length ix → e < elementCount f → contentMeaning (laidFile f t ix c) (getD ix k 0) e ≡ Present (contentLaid f k e) (elementBytes f e)
+  pub content :
+      (k e : ℕ) → k < length ix → e < elementCount f →
+      contentMeaning (laidFile f t ix c) (getD ix k 0) e ≡ Present (contentLaid f k e) (elementBytes f e)
+  pub content-given : (k e : ℕ) → k < length ix → e < elementCount f → contentGiven f k e + elementBytes f e ≤ length c
+  pub content-inside : (k e : ℕ) → k < length ix → e < elementCount f → contentLaid f k e + elementBytes f e ≤ length (laidFile f t ix c)
   pub content-bytes :
       (k e : ℕ) → k < length ix → e < elementCount f →
       part (laidFile f t ix c) (contentLaid f k e) (elementBytes f e) ≡ part c (contentGiven f k e) (elementBytes f e)
-  -- the grid is the front's
+  -- every other tile of the grid has none
+  pub absent :
+      (tile e : ℕ) → inTiles f tile e ≡ true → ((k : ℕ) → k < length ix → getD ix k 0 ≡ tile → ⊥) →
+      contentMeaning (laidFile f t ix c) tile e ≡ Absent
+  -- the grid and its tiles are the front's
   pub outside : (row column e : ℕ) → inGrid f row column e ≡ false → meaning (laidFile f t ix c) row column e ≡ cell.Refused OutsideGrid
+  pub content-outside : (tile e : ℕ) → inTiles f tile e ≡ false → contentMeaning (laidFile f t ix c) tile e ≡ Refused OutsideGrid
+  -- the header says what is set, and is the front that was given in every other byte before its checksum
+  pub fields : FieldsRead (laidFile f t ix c) t (contentAt (directoryStart f ix))
+  pub front : (i : ℕ) → i < length f - 4 → NotSet i → byteAt (laidFile f t ix c) i ≡ byteAt f i
   -- and every route answers with the meaning
   pub routes : OneAnswer (laidFile f t ix c)
 
