@@ -15,7 +15,7 @@ use Rattle.geometry.specs.Tiles.{tileCount}
 use Rattle.geometry.specs.Sizes.{tileBytes, plainTileLength}
 use Rattle.lay_down.specs.Pieces.{recordLength, recordOf}
 use Rattle.lay_down.specs.Page.{sections, tileRecord, tileRecords, directoryBody, directoryRecord, directoryStart, laidFront, laidFile}
-use Rattle.lay_down.proofs.PieceLaws.{record-length, record-well}
+use Rattle.lay_down.proofs.PieceLaws.{record-well}
 use Rattle.lay_down.proofs.PageLaws.{tile-length, cells-split, directory-length, front-length}
 
 -- each tile record is one by itself, and no byte more; so they make a whole chain with what comes behind them
@@ -27,7 +27,7 @@ module _ (f : List ℕ) (all : entriesRead f ≡ elementCount f) (fits : plainTi
   tile-well i c h =
       let body = bytesOf 4 i ++ sections f (elementCount f) c in
       let a : length (recordOf (checksumEnabled f) 2 body) ≡ plainTileLength f = tile-length f all i c h in
-      record-well (checksumEnabled f) 2 body (omega arith) (omega (arith, a, record-length (checksumEnabled f) 2 body))
+      record-well (checksumEnabled f) 2 body (omega arith) (omega arith)
 
   tiles-well :
       (ix c : List ℕ) (rest : List (List ℕ)) → length c ≡ length ix * tileBytes f → WellFormed rest → WellFormed (tileRecords f ix c ++ rest)
@@ -43,7 +43,7 @@ directory-well :
 unfolding directoryRecord
 directory-well f ix h =
     let a : length (recordOf (checksumEnabled f) 5 (directoryBody f ix)) ≡ recordLength (24 + 4 * tileCount f) = directory-length f ix in
-    record-well (checksumEnabled f) 5 (directoryBody f ix) (omega arith) (omega (arith, a, record-length (checksumEnabled f) 5 (directoryBody f ix)))
+    record-well (checksumEnabled f) 5 (directoryBody f ix) (omega arith) (omega arith)
 
 -- the records in their order
 abbrev pub laidRecords : List ℕ → List ℕ → List ℕ → List (List ℕ)

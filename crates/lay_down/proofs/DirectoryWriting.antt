@@ -1,12 +1,12 @@
 -- The tile directory as it is written. Assumes nothing.
-use Prim.Native.Nat.{ℕ, _+_, _*_, _/_, _%_, _≤_, _<_}
+use Prim.Native.Nat.{ℕ, _+_, _*_, _/_, _%_, _≤_}
 use mathlib.Core.Path.{_≡_, refl, sym, ap, _∙_}
 use mathlib.Core.List.{List, [], _∷_, _++_, append-assoc}
 use native.Mathlib.Omega.{arith}
 use lib.ListN.{length}
 use Rattle.wire.specs.Bytes.{bytesOf, put}
 use Rattle.wire.proofs.ByteLaws.{bytes-length}
-use Rattle.wire.proofs.PutLaws.{put-not, first, then, bytes-mod}
+use Rattle.wire.proofs.PutLaws.{first, then, bytes-mod}
 use Rattle.header.specs.Fields.{checksumEnabled}
 use Rattle.record.specs.Record.{contentAt}
 use Rattle.geometry.specs.Tiles.{tilesAcross, tilesDown, tileCount}
@@ -21,9 +21,6 @@ use Rattle.lay_down.proofs.PieceWriting.{closed-put}
 sixteen : zeros 16 ≡ (0 ∷ 0 ∷ []) ++ zeros 6 ++ bytesOf 4 0 ++ bytesOf 4 0
 unfolding zeros bytesOf
 sixteen = refl
-
-pub form-out : (d : List ℕ) (at down across : ℕ) → length d < at + 24 → d ≡ put d at (directoryForm down across)
-form-out d at down across h = sym (put-not d at (directoryForm down across) (omega (arith, form-length down across)))
 
 pub form-put :
     (d a b l : List ℕ) (at x y : ℕ) → a ≡ put d at (zeros 16) → b ≡ put a (at + 16) (bytesOf 4 x) → l ≡ put b (at + 20) (bytesOf 4 y) →

@@ -88,13 +88,13 @@ module _ {s : List ℕ} {at : ℕ} (flag kind : ℕ) (body : List ℕ) (p : Plac
 
 -- it is a record by itself, and no byte more
 pub record-well :
-    (flag kind : ℕ) (body : List ℕ) → kind ≤ 5 → recordLength (length body) ≤ largestInteger →
+    (flag kind : ℕ) (body : List ℕ) → kind ≤ 5 → length (recordOf flag kind body) ≤ largestInteger →
     (recordOk (recordOf flag kind body) 0 ≡ true) × (lengthAt (recordOf flag kind body) 0 ≡ length (recordOf flag kind body))
 unfolding recordLength
 record-well flag kind body k h =
     let p = placed-self (recordOf flag kind body) in
     let b = record-length flag kind body in
-    let a = placed-stated flag kind body p (omega arith) in
+    let a = placed-stated flag kind body p h in
     let c = placed-kind flag kind body p in
     let d = least-holds (8 + length body) in (
       means-ok _ _

@@ -16,6 +16,10 @@ use Rattle.geometry.specs.Sizes.{storedSize}
 use Rattle.lay_down.specs.Pieces.{zeros, checksumFor, recordHead, recordLength, unclosed, recordOf, sealed, closedAt, section}
 use Rattle.lay_down.proofs.PieceLaws.{zeros-length, zeros-joined, head-length, record-holds, unclosed-length, section-length}
 
+-- what is n long and does not fit is not written
+pub put-out : (d : List ℕ) (at : ℕ) (v : List ℕ) {n : ℕ} → length v ≡ n → length d < at + n → d ≡ put d at v
+put-out d at v e h = sym (put-not d at v (omega arith))
+
 -- zeros, one more at a time
 
 pub zeros-none : (d : List ℕ) (at : ℕ) → d ≡ put d at (zeros 0)
@@ -32,13 +36,7 @@ zeros-put-more d l at i e h =
 pub zeros-all : (d l : List ℕ) (at i n : ℕ) → l ≡ put d at (zeros i) → i ≤ n → n ≤ i → l ≡ put d at (zeros n)
 zeros-all d l at i n e h k = let q : i ≡ n = omega arith in rw (← q) e
 
-pub zeros-out : (d : List ℕ) (at n : ℕ) → length d < at + n → d ≡ put d at (zeros n)
-zeros-out d at n h = sym (put-not d at (zeros n) (omega (arith, zeros-length n)))
-
 -- a record's head
-
-pub head-out : (d : List ℕ) (at n kind : ℕ) → length d < at + 8 → d ≡ put d at (recordHead n kind)
-head-out d at n kind h = sym (put-not d at (recordHead n kind) (omega (arith, head-length n kind)))
 
 pub head-put :
     (d a b l : List ℕ) (at n kind : ℕ) → a ≡ put d at (bytesOf 4 n) → b ≡ put a (at + 4) (kind ∷ []) → l ≡ put b (at + 5) (zeros 3) → at + 8 ≤ length d →
@@ -68,14 +66,14 @@ sealed-is flag d l at n m sum e p q = q ∙ rw (p, e)
 
 pub sealed-out : (flag : ℕ) (d : List ℕ) (at n m : ℕ) → m ≡ n - 4 → length d < at + m → d ≡ sealed flag d at n
 unfolding sealed
-sealed-out flag d at n m e h = sym (put-not d _ _ (omega (arith, bytes-length 4 (checksumFor flag (part d at (n - 4))))))
+sealed-out flag d at n m e h = put-out d _ _ (bytes-length 4 (checksumFor flag (part d at (n - 4)))) (omega arith)
 
 pub closed-out : (flag : ℕ) (d : List ℕ) (at end n m : ℕ) → m ≡ n - 4 → length d < at + m → d ≡ closedAt flag d at end n
 unfolding closedAt
 closed-out flag d at end n m e h =
     let z : d ≡ put d end (zeros (at + (n - 4) - end)) =
     by-cases (decLe (at + (n - 4)) end) (λ k. let q : at + (n - 4) - end ≡ 0 = omega arith in rw q (zeros-none d end))
-    (λ k. zeros-out d end (at + (n - 4) - end) (omega arith)) in
+    (λ k. put-out d end _ (zeros-length (at + (n - 4) - end)) (omega arith)) in
     sealed-out flag d at n m e h ∙ ap (λ (x : List ℕ). sealed flag x at n) z
 
 pub closed-is :
@@ -87,7 +85,7 @@ closed-is flag d a l at end n m k e f p q = q ∙ rw (p, f, e)
 
 pub section-out : (d : List ℕ) (at n pad : ℕ) (bytes : List ℕ) → n ≡ length bytes → pad ≡ roundUp 4 n - n → length d < at + (4 + n + pad) → d ≡ put d at (section bytes)
 unfolding storedSize
-section-out d at n pad bytes e p h = sym (put-not d at (section bytes) (omega (arith, section-length bytes)))
+section-out d at n pad bytes e p h = put-out d at (section bytes) (section-length bytes) (omega arith)
 
 pub section-put :
     (d a b l : List ℕ) (at n pad v : ℕ) (bytes : List ℕ) → n ≡ length bytes → pad ≡ roundUp 4 n - n → v ≡ n % 4294967296 → a ≡ put d at (bytesOf 4 v) →

@@ -1,5 +1,7 @@
 -- `lay_down::directory::put_form` meets its contract. Assumes nothing.
-use Rattle.lay_down.proofs.DirectoryWriting.{form-out, form-put}
+use Rattle.lay_down.proofs.PageLaws.{form-length}
+use Rattle.lay_down.proofs.PieceWriting.{put-out}
+use Rattle.lay_down.proofs.DirectoryWriting.{form-put}
 use native.Mathlib.Omega.{arith}
 use borrow.Author.Needs.{needs}
 use Rattle.lay_down.proofs.directory.put_form.Statement.{statement}
@@ -9,8 +11,8 @@ pub put-form-spec : {M : Type 1} → statement M
 put-form-spec =
     tie.close
     (tie.spec
-    (λ c. form-out _ _ _ _ (omega arith))
-    (λ c. form-out _ _ _ _ (omega arith))
+    (λ c. put-out _ _ _ (form-length _ _) (omega arith))
+    (λ c. put-out _ _ _ (form-length _ _) (omega arith))
     (λ c κs. search needs)
     (λ c. search needs)
     (λ c κs. search needs)

@@ -1,5 +1,6 @@
 -- `lay_down::pieces::put_head` meets its contract. Assumes nothing.
-use Rattle.lay_down.proofs.PieceWriting.{head-out, head-put}
+use Rattle.lay_down.proofs.PieceLaws.{head-length}
+use Rattle.lay_down.proofs.PieceWriting.{put-out, head-put}
 use native.Mathlib.Omega.{arith}
 use borrow.Author.Needs.{needs}
 use Rattle.lay_down.proofs.pieces.put_head.Statement.{statement}
@@ -9,8 +10,8 @@ pub put-head-spec : {M : Type 1} → statement M
 put-head-spec =
     tie.close
     (tie.spec
-    (λ c. head-out _ _ _ _ (omega arith))
-    (λ c. head-out _ _ _ _ (omega arith))
+    (λ c. put-out _ _ _ (head-length _ _) (omega arith))
+    (λ c. put-out _ _ _ (head-length _ _) (omega arith))
     (λ c κs. search needs)
     (λ c. search needs)
     (λ c κs. search needs)

@@ -1,5 +1,6 @@
 -- `lay_down::pieces::put_zeros` meets its contract. Assumes nothing.
-use Rattle.lay_down.proofs.PieceWriting.{zeros-all, zeros-none, zeros-put-more, zeros-out}
+use Rattle.lay_down.proofs.PieceLaws.{zeros-length}
+use Rattle.lay_down.proofs.PieceWriting.{put-out, zeros-all, zeros-none, zeros-put-more}
 use lib.ListN.{length, length-set}
 use borrow.Author.Needs.{needs}
 use Rattle.lay_down.specs.Pieces.{zeros}
@@ -22,9 +23,9 @@ put-zeros-spec =
     (tie.spec
     Inv-loop
     μ-loop
-    (λ c. zeros-out _ _ _ (omega arith))
+    (λ c. put-out _ _ _ (zeros-length _) (omega arith))
     (λ c. search needs)
-    (λ c. zeros-out _ _ _ (omega arith))
+    (λ c. put-out _ _ _ (zeros-length _) (omega arith))
     (λ c. (search needs, omega arith, search needs, zeros-none _ _))
     (λ c. search needs)
     (λ c. search needs)
