@@ -1,4 +1,5 @@
--- No sentence of document 01 asks this. What it is for: a file's first bytes and its length suffice for stages 1 to 5.
+-- What stages 1 to 5 depend on: the file's length, and the bytes up to the header's end. No sentence of document 01 asks it; by it a
+-- file's first bytes and its length suffice for these stages.
 use Prim.Native.Nat.{ℕ, max}
 use mathlib.Core.Path.{_≡_}
 use mathlib.Core.List.{List, [], _∷_}

@@ -1,7 +1,7 @@
 -- Document 01, 'Laying down a page': what a lay-down answers, and what the buffer holds afterwards.
 use Prim.Native.Nat.{ℕ, _+_, _*_}
 use mathlib.Core.List.{List, [], _∷_, _++_}
-use mathlib.Core.Bool.{Bool, true, false}
+use mathlib.Core.Bool.{Bool, true}
 use lib.ListN.{length, drop}
 use Rattle.wire.specs.Tests.{_≤?_, _≡?_, _≢?_, is, passes}
 use Rattle.answer.specs.declared.Refusal.the-variants.{Ceiling, Input, Room}

@@ -21,7 +21,7 @@ ghost use Rattle.wire.specs.Bytes.{put};
 ghost use Rattle.header.specs.Fields.{elementCount};
 ghost use Rattle.record.specs.Chain.{joined};
 ghost use Rattle.geometry.specs.Tiles.{tileCount};
-ghost use Rattle.geometry.specs.Sizes.{storedSize, elementBytes, tileBytes, plainTileLength};
+ghost use Rattle.geometry.specs.Sizes.{storedSize, elementBytes, plainTileLength};
 ghost use Rattle.check_header.specs.Stages.{checkFront};
 ghost use Rattle.answer.specs.declared.Verdict.the-variants.{Accepted};
 ghost use Rattle.lay_down.specs.Pieces.{recordLength};

@@ -19,6 +19,7 @@ mod out;
 mod reads;
 mod run;
 mod sample_sums;
+mod stack;
 
 use std::env;
 use std::process::ExitCode;
@@ -51,7 +52,7 @@ fn main() -> ExitCode {
 
 /// Every section. Each has a generator of its own, so that one can change without the others.
 fn whole_run(seed: u64, small: bool) -> bool {
-    let sections: [fn(&mut Run, &mut Prng); 11] = [
+    let sections: [fn(&mut Run, &mut Prng); 12] = [
         sample_sums::section,
         made::section,
         allowed::section,
@@ -63,6 +64,7 @@ fn whole_run(seed: u64, small: bool) -> bool {
         reads::section,
         lay_downs::section,
         listings::section,
+        stack::section,
     ];
     let mut run = Run::new(small);
     for (number, section) in sections.into_iter().enumerate() {

@@ -2,7 +2,7 @@
 
 mod ask;
 mod changed;
-mod draft;
+pub mod draft;
 mod every_value;
 mod faults;
 mod fronts;
