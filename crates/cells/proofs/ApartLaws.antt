@@ -13,7 +13,7 @@ use Rattle.answer.specs.declared.Refusal.{Refusal}
 use Rattle.answer.specs.declared.Value.{Value}
 use Rattle.answer.specs.declared.Cell.the-variants.{Stored, Fill, Refused}
 use Rattle.answer.specs.Answers.{cellPlace}
-use Rattle.header.specs.Fields.{headerEnd, gridRows, gridColumns, tileRows, tileColumns, elementCount}
+use Rattle.header.specs.Fields.{headerEnd, gridColumns, tileRows, tileColumns, elementCount}
 use Rattle.header.specs.Element.{cellSize, element}
 use Rattle.record.specs.Record.{lengthAt}
 use Rattle.record.proofs.ChainLaws.{whole-apart}
@@ -100,7 +100,6 @@ pub record StoredAs (s : List ℕ) (row column e place : ℕ) : Type 0 where
   pub index : tileIndex s start ≡ cellTile s row column
   pub whole : packed s start e ≡ false
   pub here : place ≡ placeIn s start row column e
-  pub row-in : row < gridRows s
   pub column-in : column < gridColumns s
   pub element-in : e < elementCount s
 
@@ -144,7 +143,6 @@ stored-as s row column e place v q = go (inGrid s row column e) refl (recordsWit
           index = t .1;
           whole = c .0;
           here = c .1;
-          row-in = omega (arith, g .0);
           column-in = omega (arith, g .1 .0);
           element-in = omega (arith, g .1 .1 .0);
         }

@@ -58,7 +58,7 @@ contentIn s x e =
 unfoldable pub sidesLawful : List ℕ → Bool
 sidesLawful s = passes (is (sidesRight s) ∷ is (sidesWithin s) ∷ [])
 
--- x lies in the file, and its sides are such
+-- x lies in the file, and the sides of grid and tiles are lawful
 unfoldable pub withinReach : List ℕ → ℕ → Bool
 withinReach s x = passes ((x + 1 ≤? length s) ∷ is (sidesLawful s) ∷ [])
 

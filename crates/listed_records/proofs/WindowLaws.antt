@@ -32,7 +32,7 @@ use Rattle.listed_records.specs.Listed.{listedOnce}
 use Rattle.listed_records.specs.FileSpace.{freeEntryOf}
 use Rattle.listed_records.specs.Metadata.{metadataEntryOf}
 use Rattle.listed_records.specs.Search.{listedKind, listCount, listFits, listEntryAt, listEntrySize, listEntryOf, listEntryIs}
-use Rattle.listed_records.specs.Windows.{namedBy, entryIn, slotOf, oneMore, noted, tallied, oddIn, awryIn, windowCounts, windowRight}
+use Rattle.listed_records.specs.Windows.{namedBy, entryIn, slotOf, oneMore, noted, tallied, countNotOne, notOnceIn, windowCounts, windowRight}
 use Rattle.listed_records.proofs.ListLaws.{list-room, list-step, entry-is}
 
 -- the record that an entry names
@@ -238,38 +238,38 @@ module _ (s : List ℕ) (l : Listing) (base : ℕ) (cs : List ℕ) (n p k : ℕ)
 -- a record of the list's type in the window that is not counted once
 
 module _ (s : List ℕ) (l : Listing) (base : ℕ) (cs : List ℕ) (x k i : ℕ) (p : k ≡ typeAt s x) (q : i ≡ listedKind l) where
-  pub awry-type : (k ≡ i → ⊥) → false ≡ awryIn s l base cs x
-  unfolding awryIn
-  awry-type h = no _ (λ z. h (p ∙ z .0 ∙ sym q))
+  pub not-once-type : (k ≡ i → ⊥) → false ≡ notOnceIn s l base cs x
+  unfolding notOnceIn
+  not-once-type h = no _ (λ z. h (p ∙ z .0 ∙ sym q))
 
-  pub awry-yes : k ≡ i → base ≤ x → (x - base) / 8 < length cs → (getD cs ((x - base) / 8) 0 ≡ 1 → ⊥) → true ≡ awryIn s l base cs x
-  unfolding awryIn oddIn
-  awry-yes h f g e = yes _ (sym p ∙ h ∙ q, (sym (yes _ (f, (omega arith, (e, tt)))), tt))
+  pub not-once-yes : k ≡ i → base ≤ x → (x - base) / 8 < length cs → (getD cs ((x - base) / 8) 0 ≡ 1 → ⊥) → true ≡ notOnceIn s l base cs x
+  unfolding notOnceIn countNotOne
+  not-once-yes h f g e = yes _ (sym p ∙ h ∙ q, (sym (yes _ (f, (omega arith, (e, tt)))), tt))
 
 module _ (s : List ℕ) (l : Listing) (base : ℕ) (cs : List ℕ) (x : ℕ) where
-  pub awry-before : x < base → false ≡ awryIn s l base cs x
-  unfolding awryIn oddIn
-  awry-before h = no _ (λ z. let y = means _ (z .1 .0) in omega (arith, y .0))
+  pub not-once-before : x < base → false ≡ notOnceIn s l base cs x
+  unfolding notOnceIn countNotOne
+  not-once-before h = no _ (λ z. let y = means _ (z .1 .0) in omega (arith, y .0))
 
-  pub awry-past : length cs ≤ (x - base) / 8 → false ≡ awryIn s l base cs x
-  unfolding awryIn oddIn
-  awry-past h = no _ (λ z. let y = means _ (z .1 .0) in omega (arith, y .1 .0))
+  pub not-once-past : length cs ≤ (x - base) / 8 → false ≡ notOnceIn s l base cs x
+  unfolding notOnceIn countNotOne
+  not-once-past h = no _ (λ z. let y = means _ (z .1 .0) in omega (arith, y .1 .0))
 
-  pub awry-once : getD cs ((x - base) / 8) 0 ≡ 1 → false ≡ awryIn s l base cs x
-  unfolding awryIn oddIn
-  awry-once h = no _ (λ z. let y = means _ (z .1 .0) in y .1 .1 .0 h)
+  pub not-once-once : getD cs ((x - base) / 8) 0 ≡ 1 → false ≡ notOnceIn s l base cs x
+  unfolding notOnceIn countNotOne
+  not-once-once h = no _ (λ z. let y = means _ (z .1 .0) in y .1 .1 .0 h)
 
 -- a window holds no such record
 
 window-found :
-    (s : List ℕ) (l : Listing) (base : ℕ) (cs : List ℕ) (f : Found) → cs ≡ windowCounts s l base → f ≡ firstRecord s (headerEnd s) (awryIn s l base cs) →
+    (s : List ℕ) (l : Listing) (base : ℕ) (cs : List ℕ) (f : Found) → cs ≡ windowCounts s l base → f ≡ firstRecord s (headerEnd s) (notOnceIn s l base cs) →
     not (isFound f) ≡ windowRight s l base
-unfolding windowRight recordsOf records firstRecord awryIn passes
+unfolding windowRight recordsOf records firstRecord notOnceIn passes
 window-found s l base cs f d e =
     ap (λ (g : Found). not (isFound g)) e
     ∙ sym
     (rw (← d)
-    (every-found (λ x. not (oddIn base cs x)) (λ x. eqb (typeAt s x) (listedKind l)) (awryIn s l base cs) (λ x. go (eqb (typeAt s x) (listedKind l)) (oddIn base cs x)) (starts s (headerEnd s))))
+    (every-found (λ x. not (countNotOne base cs x)) (λ x. eqb (typeAt s x) (listedKind l)) (notOnceIn s l base cs) (λ x. go (eqb (typeAt s x) (listedKind l)) (countNotOne base cs x)) (starts s (headerEnd s))))
   where
     go : (a b : Bool) → both a (both b true) ≡ both a (not (not b))
     go true true = refl
@@ -278,7 +278,7 @@ window-found s l base cs f d e =
 
 module _
     (s : List ℕ) (l : Listing) (base : ℕ) (zs cs : List ℕ) (f : Found) (z : zs ≡ replicate 131072 0) (q : cs ≡ tallied s l base zs (listCount s l))
-    (e : f ≡ firstRecord s (headerEnd s) (awryIn s l base cs))
+    (e : f ≡ firstRecord s (headerEnd s) (notOnceIn s l base cs))
   where
     whole : cs ≡ windowCounts s l base
     unfolding windowCounts
@@ -333,9 +333,9 @@ module _ (s : List ℕ) (l : Listing) (base x : ℕ) (f : base ≤ x) (h : x < b
       let j : base + 8 * ((x - base) / 8) ≡ x = omega arith in
       counts-each s l base ((x - base) / 8) (omega arith) ∙ rw j
 
-  odd-once : oddIn base (windowCounts s l base) x ≡ false → countBelow (listCount s l) (listEntryIs s l x) ≡ 1
-  unfolding oddIn
-  odd-once g = go (eqb (getD (windowCounts s l base) ((x - base) / 8) 0) 1) refl
+  not-one-once : countNotOne base (windowCounts s l base) x ≡ false → countBelow (listCount s l) (listEntryIs s l x) ≡ 1
+  unfolding countNotOne
+  not-one-once g = go (eqb (getD (windowCounts s l base) ((x - base) / 8) 0) 1) refl
     where
       go : (b : Bool) → eqb (getD (windowCounts s l base) ((x - base) / 8) 0) 1 ≡ b → countBelow (listCount s l) (listEntryIs s l x) ≡ 1
       go true i = two-one _ (sym count-at ∙ eqb-true _ _ i)
@@ -343,17 +343,17 @@ module _ (s : List ℕ) (l : Listing) (base x : ℕ) (f : base ≤ x) (h : x < b
           let n = counts-length s l base in
           not-both (sym (yes _ (f, (omega arith, (eqb-false _ _ i, tt))))) g
 
-  once-odd : countBelow (listCount s l) (listEntryIs s l x) ≡ 1 → oddIn base (windowCounts s l base) x ≡ false
-  unfolding oddIn
-  once-odd g = sym (no _ (λ z. z .1 .1 .0 (count-at ∙ ap upToTwo g ∙ two-few 1 (omega arith))))
+  once-not-one : countBelow (listCount s l) (listEntryIs s l x) ≡ 1 → countNotOne base (windowCounts s l base) x ≡ false
+  unfolding countNotOne
+  once-not-one g = sym (no _ (λ z. z .1 .1 .0 (count-at ∙ ap upToTwo g ∙ two-few 1 (omega arith))))
 
-odd-outside : (s : List ℕ) (l : Listing) (base x : ℕ) → base + 1048576 ≤ x → oddIn base (windowCounts s l base) x ≡ false
-unfolding oddIn
-odd-outside s l base x h = sym (no _ (λ z. let n = counts-length s l base in omega (arith, z .1 .0)))
+not-one-outside : (s : List ℕ) (l : Listing) (base x : ℕ) → base + 1048576 ≤ x → countNotOne base (windowCounts s l base) x ≡ false
+unfolding countNotOne
+not-one-outside s l base x h = sym (no _ (λ z. let n = counts-length s l base in omega (arith, z .1 .0)))
 
-odd-before : (s : List ℕ) (l : Listing) (base x : ℕ) → x < base → oddIn base (windowCounts s l base) x ≡ false
-unfolding oddIn
-odd-before s l base x h = sym (no _ (λ z. omega (arith, z .0)))
+not-one-before : (s : List ℕ) (l : Listing) (base x : ℕ) → x < base → countNotOne base (windowCounts s l base) x ≡ false
+unfolding countNotOne
+not-one-before s l base x h = sym (no _ (λ z. omega (arith, z .0)))
 
 -- a loop over the windows
 
@@ -386,7 +386,7 @@ module _ (s : List ℕ) (l : Listing) (base : ℕ) (g : Passed s l base) where
             countBelow (listCount s l) (listEntryIs s l x) ≡ 1
         go x m h true i =
             let p = record-placed s (listedKind l) m in
-            odd-once s l base x (leb-true _ _ i) h (omega (arith, leb-true base x i, p .behind, p .eights, g .behind, g .eights))
+            not-one-once s l base x (leb-true _ _ i) h (omega (arith, leb-true base x i, p .behind, p .eights, g .behind, g .eights))
             (not-true _ (every-member _ (recordsOf s (listedKind l)) (sym q ∙ e) m))
         go x m h false i = g .once x m (leb-false _ _ i)
 
@@ -397,13 +397,13 @@ module _ (s : List ℕ) (l : Listing) (base : ℕ) (g : Passed s l base) where
         all :
             every (λ x. eqb (countBelow (listCount s l) (listEntryIs s l x)) 1) (recordsOf s (listedKind l)) ≡ true →
             (x : ℕ) → List·Memᴰ x (recordsOf s (listedKind l)) → (b : Bool) → leb base x ≡ b → (c : Bool) → leb (base + 1048576) x ≡ c →
-            not (oddIn base (windowCounts s l base) x) ≡ true
+            not (countNotOne base (windowCounts s l base) x) ≡ true
         all o x m true i false j =
             let p = record-placed s (listedKind l) m in
-            rw (once-odd s l base x (leb-true _ _ i) (leb-false _ _ j) (omega (arith, leb-true base x i, p .behind, p .eights, g .behind, g .eights))
+            rw (once-not-one s l base x (leb-true _ _ i) (leb-false _ _ j) (omega (arith, leb-true base x i, p .behind, p .eights, g .behind, g .eights))
             (eqb-true _ _ (every-member _ (recordsOf s (listedKind l)) o m)))
-        all o x m true i true j = rw (odd-outside s l base x (leb-true _ _ j))
-        all o x m false i c j = rw (odd-before s l base x (leb-false _ _ i))
+        all o x m true i true j = rw (not-one-outside s l base x (leb-true _ _ j))
+        all o x m false i c j = rw (not-one-before s l base x (leb-false _ _ i))
 
   pub passed-all : length s ≤ base → true ≡ listedOnce s (listedKind l) (listCount s l) (listEntryIs s l)
   unfolding listedOnce

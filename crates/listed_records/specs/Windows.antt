@@ -40,12 +40,12 @@ tallied s l base cs zero = cs
 tallied s l base cs (suc k) = noted (tallied s l base cs k) (slotOf s l base (listEntryAt s l k))
 
 -- a record in the window whose count is not 1
-unfoldable pub oddIn : ℕ → List ℕ → ℕ → Bool
-oddIn base cs x = passes ((base ≤? x) ∷ ((x - base) / 8 + 1 ≤? length cs) ∷ (getD cs ((x - base) / 8) 0 ≢? 1) ∷ [])
+unfoldable pub countNotOne : ℕ → List ℕ → ℕ → Bool
+countNotOne base cs x = passes ((base ≤? x) ∷ ((x - base) / 8 + 1 ≤? length cs) ∷ (getD cs ((x - base) / 8) 0 ≢? 1) ∷ [])
 
 -- and which is of the list's type
-unfoldable pub awryIn : List ℕ → Listing → ℕ → List ℕ → ℕ → Bool
-awryIn s l base cs x = passes ((typeAt s x ≡? listedKind l) ∷ is (oddIn base cs x) ∷ [])
+unfoldable pub notOnceIn : List ℕ → Listing → ℕ → List ℕ → ℕ → Bool
+notOnceIn s l base cs x = passes ((typeAt s x ≡? listedKind l) ∷ is (countNotOne base cs x) ∷ [])
 
 -- the counts of the window at base, whole
 unfoldable pub windowCounts : List ℕ → Listing → ℕ → List ℕ
@@ -53,4 +53,4 @@ windowCounts s l base = tallied s l base (replicate 131072 0) (listCount s l)
 
 -- no record of the list's type is one
 unfoldable pub windowRight : List ℕ → Listing → ℕ → Bool
-windowRight s l base = every (λ x. not (oddIn base (windowCounts s l base) x)) (recordsOf s (listedKind l))
+windowRight s l base = every (λ x. not (countNotOne base (windowCounts s l base) x)) (recordsOf s (listedKind l))

@@ -20,7 +20,7 @@ ghost use Rattle.listed_records.specs.Listed.{listedOnce};
 ghost use Rattle.listed_records.specs.Metadata.{keysDistinct};
 ghost use Rattle.listed_records.specs.Search.{listedKind, listCount, listFits, listEntryAt, listEntryOf, listEntryIs, listEntrySize, listRight, twinOf, hasTwin};
 ghost use Rattle.listed_records.specs.Keys.{keyHash, keySlot, keyFine, keySeen, allFine, partDistinct};
-ghost use Rattle.listed_records.specs.Windows.{namedBy, slotOf, oneMore, noted, tallied, awryIn, windowRight};
+ghost use Rattle.listed_records.specs.Windows.{namedBy, slotOf, oneMore, noted, tallied, notOnceIn, windowRight};
 
 // The type of the records that a list is of.
 fn listed_kind(list: Listing) -> u32
@@ -151,8 +151,8 @@ fn tally(s: &[u8], list: Listing, base: usize, counts: &mut [u8])
 }
 
 // Whether a record is of the list's type, in the window and not counted once.
-fn is_awry(s: &[u8], list: Listing, base: usize, counts: &[u8], at: usize) -> bool
-    ensures { λ r. ⌜ r ≡ awryIn (now (s .entry)) list base (now (counts .entry)) at ⌝ }
+fn is_not_once(s: &[u8], list: Listing, base: usize, counts: &[u8], at: usize) -> bool
+    ensures { λ r. ⌜ r ≡ notOnceIn (now (s .entry)) list base (now (counts .entry)) at ⌝ }
 {
     if wire::byte_off(s, at, 4) != listed_kind(list) {
         return false;
@@ -171,8 +171,8 @@ fn is_awry(s: &[u8], list: Listing, base: usize, counts: &[u8], at: usize) -> bo
 }
 
 // The first such record.
-fn find_awry(s: &[u8], list: Listing, base: usize, counts: &[u8]) -> Found
-    ensures { λ r. ⌜ r ≡ firstRecord (now (s .entry)) (headerEnd (now (s .entry))) (awryIn (now (s .entry)) list base (now (counts .entry))) ⌝ }
+fn find_not_once(s: &[u8], list: Listing, base: usize, counts: &[u8]) -> Found
+    ensures { λ r. ⌜ r ≡ firstRecord (now (s .entry)) (headerEnd (now (s .entry))) (notOnceIn (now (s .entry)) list base (now (counts .entry))) ⌝ }
 {
     let mut c = Cursor {
         at: fields::header_end(s),
@@ -185,14 +185,14 @@ fn find_awry(s: &[u8], list: Listing, base: usize, counts: &[u8]) -> Found
                 length: _,
                 next,
             } => {
-                if is_awry(s, list, base, counts, start) {
+                if is_not_once(s, list, base, counts, start) {
                     return Found::At(start);
                 }
                 c = next;
             }
             Step::Bad => {
                 let start = c.at;
-                if is_awry(s, list, base, counts, start) {
+                if is_not_once(s, list, base, counts, start) {
                     return Found::At(start);
                 }
                 return Found::Nothing;
@@ -211,7 +211,7 @@ fn window_right(s: &[u8], list: Listing, base: usize) -> bool
 {
     let mut counts = [0u8; 131072];
     tally(s, list, base, &mut counts);
-    if let Found::At(_) = find_awry(s, list, base, &counts) {
+    if let Found::At(_) = find_not_once(s, list, base, &counts) {
         return false;
     }
     true
