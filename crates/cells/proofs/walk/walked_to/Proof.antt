@@ -1,7 +1,10 @@
 -- `cells::walk::walked_to` meets its contract. Assumes nothing.
+-- That the measure falls is shown from the record before the cursor, so a wrong next cursor is refused by the invariant, for what it skips.
 use borrow.Author.Needs.{needs}
+use native.Mathlib.Omega.{arith}
 use Prim.Native.Nat.{_-_}
 use lib.ListN.{length}
+use Rattle.record.proofs.ChainLaws.{stepped}
 use Rattle.record.proofs.SeekLaws.{Seeking, seek}
 use Rattle.cells.specs.TileCells.{carries}
 use Rattle.cells.specs.Walk.{walkedTo}
@@ -25,7 +28,7 @@ walked-to-spec =
     (λ c κs. search (needs, seek))
     (λ c. search (needs, seek))
     (λ c κs. search (needs, seek))
-    (λ c. search (needs, seek))
+    (λ c. let h = stepped (c .before .before .before .start .given .1) (c .before .before .before .before .before .step .ensures) in omega arith)
     (λ c. search (needs, seek))
     (λ c. search (needs, seek))
     (λ c κs. search (needs, seek))
