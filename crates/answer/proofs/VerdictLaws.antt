@@ -1,12 +1,12 @@
 -- What an acceptance behind tests and checks gives. Assumes nothing.
 use Prim.Native.Nat.{ℕ}
-use mathlib.Core.Path.{_≡_, refl}
+use mathlib.Core.Path.{_≡_, refl, sym, _∙_}
 use mathlib.Core.Bool.{Bool, true, false}
 use native.Mathlib.Omega.{arith}
 use Rattle.answer.specs.declared.Refusal.{Refusal}
 use Rattle.answer.specs.declared.Verdict.{Verdict}
 use Rattle.answer.specs.declared.Verdict.the-variants.{Accepted, Refused}
-use Rattle.answer.specs.Refusals.{verdictNumber, gate, after}
+use Rattle.answer.specs.Refusals.{verdictNumber, gate, unlessRefused}
 
 -- a refusal is no acceptance
 pub refused-not : {C : Type 0} {r : Refusal} → Refused r ≡ Accepted → C
@@ -17,7 +17,24 @@ unfolding gate
 gate-passed true r v e = (refl, e)
 gate-passed false r v e = refused-not e
 
-pub after-passed : (v w : Verdict) → after v w ≡ Accepted → (v ≡ Accepted) × (w ≡ Accepted)
-unfolding after
-after-passed Accepted w e = (refl, e)
-after-passed (Refused r) w e = refused-not e
+pub behind-passed : (v w : Verdict) → unlessRefused Refused v w ≡ Accepted → (v ≡ Accepted) × (w ≡ Accepted)
+unfolding unlessRefused
+behind-passed Accepted w e = (refl, e)
+behind-passed (Refused r) w e = refused-not e
+
+-- a function that asks a check and hands its refusal on
+
+module _ {A : Type 0} (refused : Refusal → A) (v w : Verdict) (p : v ≡ w) (x : A) where
+  pub refusal-handed : (r : Refusal) → v ≡ Refused r → refused r ≡ unlessRefused refused w x
+  unfolding unlessRefused
+  refusal-handed r f = rw (← p, f)
+
+  pub answer-behind : (y : A) → v ≡ Accepted → (w ≡ Accepted → y ≡ x) → y ≡ unlessRefused refused w x
+  unfolding unlessRefused
+  answer-behind y f g = rw (← p, f) (g (sym p ∙ f))
+
+-- two answers behind one check are one where they are one behind its acceptance
+pub same-behind : {A : Type 0} (refused : Refusal → A) (w : Verdict) (x y : A) → (w ≡ Accepted → x ≡ y) → unlessRefused refused w x ≡ unlessRefused refused w y
+unfolding unlessRefused
+same-behind refused Accepted x y f = f refl
+same-behind refused (Refused r) x y f = refl

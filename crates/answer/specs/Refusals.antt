@@ -50,7 +50,7 @@ unfoldable pub gate : Bool → Refusal → Verdict → Verdict
 gate true r v = v
 gate false r v = Refused r
 
--- what comes behind where a check accepts, and its refusal where it does not
-unfoldable pub after : Verdict → Verdict → Verdict
-after Accepted behind = behind
-after (Refused r) behind = Refused r
+-- what comes behind where a check accepts, and else its refusal handed on, as the kind of answer that is asked for
+unfoldable pub unlessRefused : {A : Type 0} → (Refusal → A) → Verdict → A → A
+unlessRefused refused Accepted behind = behind
+unlessRefused refused (Refused r) behind = refused r

@@ -1,13 +1,15 @@
 // What benches/ measures and the C interface does not offer: the look-up that does not repeat the check, and the checksum by itself.
 ghost use mathlib.Core.Path.{_≡_};
 ghost use Rattle.answer.specs.Answers.{cellBits};
-ghost use Rattle.cells.specs.DirectoryRoute.{lookedUp};
+ghost use Rattle.directory.specs.TileDirectory.{tileDirectoryAt};
+ghost use Rattle.cells.specs.Routes.{referredTo};
+ghost use Rattle.cells.specs.inner.Lookups.{lookedUp};
 ghost use Rattle.crc32c.specs.Crc.{crcOf};
 
 // The bits of a cell by the directory, without the check.
 #[no_mangle]
 pub extern "C" fn gvrs_bench_look_up(file: &[u8], row: u64, column: u64, element: u64) -> u32
-    ensures { λ r. ⌜ r ≡ cellBits (lookedUp (now (file .entry)) row column element) ⌝ }
+    ensures { λ r. ⌜ r ≡ cellBits (lookedUp (now (file .entry)) (referredTo (now (file .entry)) (tileDirectoryAt (now (file .entry)))) row column element) ⌝ }
 {
     answer::cell_bits(cells::reads::cell_of_accepted(file, row, column, element))
 }

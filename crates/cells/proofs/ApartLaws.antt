@@ -1,75 +1,40 @@
 -- Two stored cells of an accepted file are one cell, or share no byte. Assumes nothing.
-use Prim.Native.Nat.{ℕ, _+_, _*_, _/_, _%_, _-_, _≤_, _<_}
+use Prim.Native.Nat.{ℕ, _+_, _*_, _≤_, _<_}
 use mathlib.Core.Path.{_≡_, refl, sym, ap, _∙_}
-use mathlib.Core.List.{List, [], _∷_, List·Memᴰ, List·Memᴰ·head}
+use mathlib.Core.List.{List, List·Memᴰ}
 use mathlib.Core.Logic.{_⊎_, inl, inr, ⊎-elim, by-cases}
 use mathlib.Core.Bool.{Bool, true, false}
 use native.Mathlib.Decide.{decLe}
 use native.Mathlib.Omega.{arith}
-use native.Mathlib.Nat.{div-add-mod', mod-lt, div-lt-iff-lt-mul}
-use Rattle.wire.proofs.TestLaws.{means, fails}
-use Rattle.wire.proofs.ItemLaws.{item-within}
+use Rattle.wire.proofs.TestLaws.{fails}
+use Rattle.wire.proofs.ItemLaws.{item-within, items-apart}
 use Rattle.answer.specs.declared.Refusal.{Refusal}
 use Rattle.answer.specs.declared.Value.{Value}
 use Rattle.answer.specs.declared.Cell.the-variants.{Stored, Fill, Refused}
 use Rattle.answer.specs.Answers.{cellPlace}
-use Rattle.header.specs.Fields.{headerEnd, gridColumns, tileRows, tileColumns, elementCount}
+use Rattle.header.specs.Fields.{gridColumns, tileRows, tileColumns, elementCount}
+use Rattle.record.specs.Chain.{headerEnd, records, recordsOf}
 use Rattle.header.specs.Element.{cellSize, element}
 use Rattle.record.specs.Record.{lengthAt}
 use Rattle.record.proofs.ChainLaws.{whole-apart}
-use Rattle.geometry.specs.Tiles.{tilesAlong, tileOf, insideOf, tileIn, cellTile, cellInside}
+use Rattle.geometry.specs.Tiles.{cellTile, cellInside}
 use Rattle.geometry.specs.Sizes.{uncompressed, cellOffset, elementBytes}
-use Rattle.check_records.specs.Chain.{records}
+use Rattle.geometry.proofs.GridLaws.{inside-less, one-cell}
 use Rattle.check_records.specs.TileBody.{tileIndex, sectionAt, sectionLength, elementContentAt, tileRight}
 use Rattle.check_records.proofs.RecordLaws.{section-least}
 use Rattle.check_records.proofs.SectionLaws.{section-holds, section-mono, section-next, limit-inside, sections-end}
-use Rattle.directory.specs.Lists.{recordsOf}
-use Rattle.directory.proofs.OnlyLaws.{row-of, column-of, grid-less, same-index}
-use Rattle.directory.proofs.MemberLaws.{select-member, of-type, type-of}
+use Rattle.record.proofs.FindLaws.{of-type}
+use Rattle.record.specs.declared.Found.{Found}
+use Rattle.record.specs.declared.Found.the-variants.{At, Nothing}
 use Rattle.page_check.specs.Accepted.{Obeys}
 use Rattle.page_check.proofs.GivenLaws.{obeys-range, obeys-tile}
 use Rattle.cells.specs.Asked.{inGrid}
-use Rattle.cells.specs.TileCells.{carries, packed, offsetIn, placeIn, storedAt, cellIn, fillOf}
-use Rattle.cells.specs.Meaning.{recordsWith, meaning}
 use Rattle.cells.specs.Demand3.{bytesOfCell}
-
--- two items of one size are one, or share nothing
-pub items-apart : (j k z : ℕ) → (j ≡ k) ⊎ ((j * z + z ≤ k * z) ⊎ (k * z + z ≤ j * z))
-items-apart j k z =
-    by-cases (decLe (j + 1) k) (λ h. inr (inl (item-within k j z (omega arith))))
-    (λ h. by-cases (decLe (k + 1) j) (λ i. inr (inr (item-within j k z (omega arith)))) (λ i. inl (omega arith)))
-
--- cells and tiles
-
--- a place inside the grid stands in one of the tiles along its side
-pub along-less : (side tile i : ℕ) → 0 < tile → i < side → i / tile < tilesAlong side tile
-unfolding tilesAlong
-along-less side tile i p h =
-    let e = div-add-mod' (side + (tile - 1)) tile in
-    let m = mod-lt (side + (tile - 1)) p in
-    div-lt-iff-lt-mul p .1 (omega arith)
-
--- a cell's number inside its tile is below the tile's cells
-pub inside-less : (h w r c : ℕ) → 0 < h → 0 < w → insideOf h w r c < h * w
-unfolding insideOf
-inside-less h w r c p q = grid-less w (r % h) (c % w) (mod-lt c q) h (mod-lt r p)
-
--- the tile and the number inside it fix the cell
-pub one-cell :
-    (columns h w r c r2 c2 : ℕ) → 0 < w → c < columns → c2 < columns → tileIn columns h w r c ≡ tileIn columns h w r2 c2 →
-    insideOf h w r c ≡ insideOf h w r2 c2 → (r ≡ r2) × (c ≡ c2)
-unfolding tileIn tileOf insideOf
-one-cell columns h w r c r2 c2 p k l e f =
-    let n = tilesAlong columns w in
-    let a = along-less columns w c p k in
-    let b = along-less columns w c2 p l in
-    let rq : r / h ≡ r2 / h = sym (row-of n _ _ a) ∙ ap (λ (x : ℕ). x / n) e ∙ row-of n _ _ b in
-    let cq : c / w ≡ c2 / w = sym (column-of n _ _ a) ∙ ap (λ (x : ℕ). x % n) e ∙ column-of n _ _ b in
-    let i = mod-lt c p in
-    let j = mod-lt c2 p in
-    let rr : r % h ≡ r2 % h = sym (row-of w _ _ i) ∙ ap (λ (x : ℕ). x / w) f ∙ row-of w _ _ j in
-    let cr : c % w ≡ c2 % w = sym (column-of w _ _ i) ∙ ap (λ (x : ℕ). x % w) f ∙ column-of w _ _ j in
-    (same-index h r r2 rq rr, same-index w c c2 cq cr)
+use Rattle.cells.specs.TileCells.{packed, cellIn, offsetIn, placeIn, storedAt, fillOf}
+use Rattle.cells.specs.Meaning.{meaning}
+use Rattle.cells.specs.Routes.{cellBy, meant}
+use Rattle.cells.proofs.CellLaws.{grid-means}
+use Rattle.cells.proofs.RouteLaws.{meant-is}
 
 -- the sections of a tile record
 
@@ -109,14 +74,6 @@ refused-not-stored q = let z : _≡_ {A = ℕ} 0 1 = cc in absurd (omega arith)
 fill-not-stored : {C : Type 0} {w v : Value} {p : ℕ} → Fill w ≡ Stored v p → C
 fill-not-stored q = let z : _≡_ {A = ℕ} 0 1 = cc in absurd (omega arith)
 
--- a record that carries an index is a tile record with that index
-pub carries-tile : (s : List ℕ) (i : ℕ) {x : ℕ} → List·Memᴰ x (recordsWith s i) → List·Memᴰ x (recordsOf s 2) × (tileIndex s x ≡ i)
-unfolding recordsWith carries
-carries-tile s i m =
-    let h = select-member _ (records s) m in
-    let c = means _ (h .1) in
-    (type-of s 2 (h .0) (c .0), c .1 .0)
-
 stored-in : (s : List ℕ) (x row column e place : ℕ) (v : Value) → cellIn s x row column e ≡ Stored v place → (packed s x e ≡ false) × (place ≡ placeIn s x row column e)
 unfolding cellIn storedAt
 stored-in s x row column e place v q = go (packed s x e) refl
@@ -126,26 +83,17 @@ stored-in s x row column e place v q = go (packed s x e) refl
     go false i = (i, sym (ap cellPlace (rw i at q)))
 
 pub stored-as : (s : List ℕ) (row column e place : ℕ) (v : Value) → meaning s row column e ≡ Stored v place → StoredAs s row column e place
-unfolding meaning inGrid fillOf
-stored-as s row column e place v q = go (inGrid s row column e) refl (recordsWith s (cellTile s row column)) refl
+unfolding meaning cellBy fillOf
+stored-as s row column e place v q = go (inGrid s row column e) refl (meant s (cellTile s row column)) refl
   where
-    go : (b : Bool) → inGrid s row column e ≡ b → (l : List ℕ) → recordsWith s (cellTile s row column) ≡ l → StoredAs s row column e place
-    go false i l j = refused-not-stored (rw i at q)
-    go true i [] j = fill-not-stored (rw (i, j) at q)
-    go true i (x ∷ xs) j =
-        let g = means _ i in
-        let m : List·Memᴰ x (recordsWith s (cellTile s row column)) = rw j (List·Memᴰ·head refl) in
-        let t = carries-tile s (cellTile s row column) m in
+    go : (b : Bool) → inGrid s row column e ≡ b → (f : Found) → meant s (cellTile s row column) ≡ f → StoredAs s row column e place
+    go false i f j = refused-not-stored (rw i at q)
+    go true i Nothing j = fill-not-stored (rw (i, j) at q)
+    go true i (At x) j =
+        let g = grid-means s row column e i in
+        let t = meant-is s (cellTile s row column) x j in
         let c = stored-in s x row column e place v (rw (i, j) at q) in
-        record {
-          start = x;
-          among = t .0;
-          index = t .1;
-          whole = c .0;
-          here = c .1;
-          column-in = omega (arith, g .1 .0);
-          element-in = omega (arith, g .1 .1 .0);
-        }
+        record { start = x; among = t .among; index = t .index; whole = c .0; here = c .1; column-in = g .1 .0; element-in = g .1 .1 }
 
 -- its bytes lie in its element's uncompressed content
 
@@ -154,7 +102,7 @@ unfolding offsetIn cellOffset elementBytes uncompressed cellInside
 offset-within s row column e p q =
     item-within (tileRows s * tileColumns s) _ (cellSize (element s e .kind)) (inside-less (tileRows s) (tileColumns s) row column p q)
 
-whole-least : (s : List ℕ) (x e : ℕ) → packed s x e ≡ false → elementBytes s e ≤ sectionLength s x e
+pub whole-least : (s : List ℕ) (x e : ℕ) → packed s x e ≡ false → elementBytes s e ≤ sectionLength s x e
 unfolding packed
 whole-least s x e q =
     by-cases (decLe (sectionLength s x e + 1) (elementBytes s e)) (λ h. absurd (fails _ q (h, tt))) (λ h. omega arith)

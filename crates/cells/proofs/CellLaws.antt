@@ -1,5 +1,5 @@
 -- What is asked for, and what a tile record says of it, from what the functions below answer. Assumes nothing.
-use Prim.Native.Nat.{ℕ, min, _+_, _*_, _%_, _-_, _≤_, _<_}
+use Prim.Native.Nat.{ℕ, min, _+_, _*_, _%_, _≤_, _<_}
 use mathlib.Core.Path.{_≡_, refl, sym, ap, _∙_}
 use mathlib.Core.List.{List, [], _∷_}
 use mathlib.Core.Bool.{Bool, true, false}
@@ -22,17 +22,19 @@ use Rattle.answer.specs.Values.{valueOf}
 use Rattle.header.specs.declared.Element.{Element}
 use Rattle.header.specs.Fields.{gridRows, gridColumns, tileRows, tileColumns, elementCount}
 use Rattle.header.specs.Element.{cellSize, element}
-use Rattle.record.specs.Record.{typeAt}
-use Rattle.geometry.specs.Tiles.{tileCount, insideOf, cellInside}
+use Rattle.geometry.specs.Tiles.{tileCount, insideOf, cellInside, tilesIn, cellTile, tilesAlong}
 use Rattle.geometry.specs.Sizes.{cap, judge, judgeElement, cellOffset, uncompressed, elementBytes}
 use Rattle.geometry.specs.declared.Judged.the-variants.{Uncompressed, Compressed, Fault}
 use Rattle.geometry.proofs.SizeLaws.{size-range}
 use Rattle.check_header.specs.HeaderRecord.{positive, sidesRight}
 use Rattle.check_header.specs.Ceilings.{sidesWithin}
-use Rattle.check_records.specs.TileBody.{tileIndex, sectionAt, sectionStart, sectionLength, sectionJudged, notFault, sectionRight, elementContentAt}
-use Rattle.directory.proofs.OnlyLaws.{grid-less}
+use Rattle.check_records.specs.TileBody.{sectionAt, sectionStart, sectionLength, sectionJudged, notFault, sectionRight, elementContentAt}
+use Rattle.geometry.proofs.GridLaws.{grid-less, tile-less, along-most}
+use Rattle.record.specs.declared.Found.{Found}
+use Rattle.record.specs.declared.Found.the-variants.{Nothing, At}
 use Rattle.cells.specs.Asked.{inGrid, inTiles}
-use Rattle.cells.specs.TileCells.{carries, packed, offsetIn, placeIn, storedAt, cellIn, fillOf, contentIn, sidesLawful, withinReach, cellWithin, contentWithin}
+use Rattle.cells.specs.inner.Lookups.{sidesLawful, cellReached, contentReached}
+use Rattle.cells.specs.TileCells.{offsetIn, packed, placeIn, storedAt, fillOf, cellIn, contentIn}
 
 -- what is asked for
 
@@ -103,19 +105,20 @@ sides-mean s e =
       tile-columns = (means _ (a .1 .1 .1 .0) .0, b .1 .1 .1 .0);
     }
 
-pub reach-past : (s : List ℕ) (x : ℕ) → length s ≤ x → false ≡ withinReach s x
-unfolding withinReach
-reach-past s x h = no _ (λ y. omega (arith, y .0))
+-- numbers of tiles, numbers inside a tile and bytes of an element are small
 
-pub reach-is : (s : List ℕ) (x : ℕ) (b : Bool) → x < length s → b ≡ sidesLawful s → b ≡ withinReach s x
-unfolding withinReach
-reach-is s x b h e = either-way _ b (λ z. (omega arith, (sym e ∙ z, tt))) (λ z w. not-both (w .1 .0) (sym e ∙ z))
+pub count-small : (s : List ℕ) → Sides s → tileCount s ≤ 4294967296
+unfolding tileCount tilesIn
+count-small s d =
+    let a : tilesAlong (gridRows s) (tileRows s) ≤ 65536 = omega (arith, along-most (gridRows s) (tileRows s) (omega (arith, d .tile-rows .0)), d .rows) in
+    let b : tilesAlong (gridColumns s) (tileColumns s) ≤ 65536 =
+    omega (arith, along-most (gridColumns s) (tileColumns s) (omega (arith, d .tile-columns .0)), d .columns) in
+    let m : tilesAlong (gridRows s) (tileRows s) * tilesAlong (gridColumns s) (tileColumns s) ≤ 65536 * 65536 = mul-le-mul a b in
+    omega arith
 
-pub reach-means : (s : List ℕ) (x : ℕ) → withinReach s x ≡ true → (x < length s) × (sidesLawful s ≡ true)
-unfolding withinReach
-reach-means s x e = let y = means _ e in (omega (arith, y .0), y .1 .0)
-
--- numbers inside a tile and bytes of an element are small
+pub tile-small : (s : List ℕ) (row column : ℕ) → Sides s → row < gridRows s → column < gridColumns s → cellTile s row column < 4294967296
+tile-small s row column d r c =
+    omega (arith, count-small s d, tile-less s row column (omega (arith, d .tile-rows .0)) (omega (arith, d .tile-columns .0)) r c)
 
 product-small : (h w : ℕ) → h ≤ 4096 → w ≤ 4096 → h * w ≤ 16777216
 product-small h w p q = let m : h * w ≤ 4096 * 4096 = mul-le-mul p q in omega arith
@@ -213,18 +216,6 @@ fill-is s e x v p f = ap (λ (y : Value). cell.Fill y) (f ∙ rw p)
 
 -- a cell and an element's content in a tile record
 
-pub carries-not : (s : List ℕ) (i x k : ℕ) → k ≡ typeAt s x → (k ≡ 2 → ⊥) → false ≡ carries s i x
-unfolding carries
-carries-not s i x k p h = no _ (λ y. h (p ∙ y .0))
-
-pub carries-other : (s : List ℕ) (i x j : ℕ) → j ≡ u32At s (x + 8) → (j ≡ i → ⊥) → false ≡ carries s i x
-unfolding carries tileIndex
-carries-other s i x j p h = no _ (λ y. h (p ∙ y .1 .0))
-
-pub carries-yes : (s : List ℕ) (i x k j : ℕ) → k ≡ typeAt s x → k ≡ 2 → j ≡ u32At s (x + 8) → j ≡ i → true ≡ carries s i x
-unfolding carries tileIndex
-carries-yes s i x k j p h q m = yes _ (sym p ∙ h, (sym q ∙ m, tt))
-
 module _ (s : List ℕ) (x e : ℕ) (b : Bool) (p : b ≡ packed s x e) where
   pub cell-packed : (row column : ℕ) → b ≡ true → cell.Refused (refusal.Compressed x) ≡ cellIn s x row column e
   unfolding cellIn
@@ -242,19 +233,30 @@ module _ (s : List ℕ) (x e : ℕ) (b : Bool) (p : b ≡ packed s x e) where
   unfolding contentIn elementContentAt
   content-whole at n m f q t u = rw (← p, f, q, u, t)
 
-module _ (s : List ℕ) (x e : ℕ) (b : Bool) (p : b ≡ withinReach s x) where
-  pub cell-reached : (row column : ℕ) (r : Cell) → b ≡ true → r ≡ cellIn s x row column e → r ≡ cellWithin s x row column e
-  unfolding cellWithin
-  cell-reached row column r f q = rw (← p, f) q
+-- by what was found for the tile
 
-  pub cell-unreached : (row column : ℕ) → b ≡ false → cell.Refused refusal.Directory ≡ cellWithin s x row column e
-  unfolding cellWithin
-  cell-unreached row column f = rw (← p, f)
+module _ (s : List ℕ) (row column e : ℕ) (f : Found) (r : Cell) where
+  pub cell-absent : f ≡ Nothing → r ≡ fillOf s e → r ≡ cellReached s row column e f
+  unfolding cellReached
+  cell-absent p q = rw p q
 
-  pub content-reached : (r : Content) → b ≡ true → r ≡ contentIn s x e → r ≡ contentWithin s x e
-  unfolding contentWithin
-  content-reached r f q = rw (← p, f) q
+  pub cell-found : (x : ℕ) → f ≡ At x → x < length s → r ≡ cellIn s x row column e → r ≡ cellReached s row column e f
+  unfolding cellReached
+  cell-found x p h q = rw (p, ← yes ((x + 1 ≤? length s) ∷ []) (omega arith, tt)) q
 
-  pub content-unreached : b ≡ false → content.Refused refusal.Directory ≡ contentWithin s x e
-  unfolding contentWithin
-  content-unreached f = rw (← p, f)
+pub cell-lost : (s : List ℕ) (row column e : ℕ) (f : Found) (x : ℕ) → f ≡ At x → length s ≤ x → cell.Refused refusal.Directory ≡ cellReached s row column e f
+unfolding cellReached
+cell-lost s row column e f x p h = rw (p, ← no ((x + 1 ≤? length s) ∷ []) (λ y. omega (arith, y .0)))
+
+module _ (s : List ℕ) (e : ℕ) (f : Found) where
+  pub content-absent : f ≡ Nothing → content.Absent ≡ contentReached s e f
+  unfolding contentReached
+  content-absent p = rw p
+
+  pub content-found : (x : ℕ) (r : Content) → f ≡ At x → x < length s → r ≡ contentIn s x e → r ≡ contentReached s e f
+  unfolding contentReached
+  content-found x r p h q = rw (p, ← yes ((x + 1 ≤? length s) ∷ []) (omega arith, tt)) q
+
+  pub content-lost : (x : ℕ) → f ≡ At x → length s ≤ x → content.Refused refusal.Directory ≡ contentReached s e f
+  unfolding contentReached
+  content-lost x p h = rw (p, ← no ((x + 1 ≤? length s) ∷ []) (λ y. omega (arith, y .0)))

@@ -2,3 +2,4 @@ pub mod CellLaws
 pub mod ApartLaws
 pub mod RouteLaws
 pub mod ReadLaws
+pub mod DemandLaws

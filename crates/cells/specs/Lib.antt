@@ -1,7 +1,8 @@
 pub mod Asked
 pub mod TileCells
+pub mod Routes
 pub mod Meaning
-pub mod DirectoryRoute
-pub mod Walk
 pub mod Reads
+pub mod Demand2
 pub mod Demand3
+pub mod inner

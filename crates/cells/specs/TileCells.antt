@@ -1,10 +1,9 @@
--- Document 01, 'Finding a cell': what a tile record says of a cell or of an element, and what stands for a cell of an absent tile.
+-- Document 01, 'Finding a cell': what a tile record says of a cell or of an element's content, and what is said where the tile has none.
 use Prim.Native.Nat.{ℕ, _+_}
 use mathlib.Core.List.{List, [], _∷_}
 use mathlib.Core.Bool.{Bool}
-use lib.ListN.{length}
 use Rattle.wire.specs.Pick.{pick}
-use Rattle.wire.specs.Tests.{_≤?_, _≡?_, is, passes}
+use Rattle.wire.specs.Tests.{_≤?_, passes}
 use Rattle.wire.specs.Bytes.{numberAt}
 use Rattle.answer.specs.declared.Refusal.the-variants as refusal
 use Rattle.answer.specs.declared.Cell.{Cell}
@@ -13,16 +12,11 @@ use Rattle.answer.specs.declared.Content.{Content}
 use Rattle.answer.specs.declared.Content.the-variants as content
 use Rattle.answer.specs.Values.{valueOf}
 use Rattle.header.specs.Element.{cellSize, element}
-use Rattle.record.specs.Record.{typeAt}
+use Rattle.record.specs.declared.Found.{Found}
+use Rattle.record.specs.declared.Found.the-variants.{At, Nothing}
 use Rattle.geometry.specs.Tiles.{cellInside}
 use Rattle.geometry.specs.Sizes.{cellOffset, elementBytes}
-use Rattle.check_header.specs.HeaderRecord.{sidesRight}
-use Rattle.check_header.specs.Ceilings.{sidesWithin}
-use Rattle.check_records.specs.TileBody.{tileIndex, sectionLength, elementContentAt}
-
--- a tile record that carries the index i
-unfoldable pub carries : List ℕ → ℕ → ℕ → Bool
-carries s i x = passes ((typeAt s x ≡? 2) ∷ (tileIndex s x ≡? i) ∷ [])
+use Rattle.check_records.specs.TileBody.{sectionLength, elementContentAt}
 
 -- a cell of an absent tile: the element's fill, as it stands
 unfoldable pub fillOf : List ℕ → ℕ → Cell
@@ -54,17 +48,12 @@ unfoldable pub contentIn : List ℕ → ℕ → ℕ → Content
 contentIn s x e =
     pick (packed s x e) (content.Refused (refusal.Compressed x)) (content.Present (elementContentAt s x e) (elementBytes s e))
 
--- the sides keep stages 3 and 4; so no number of a cell or tile below is large
-unfoldable pub sidesLawful : List ℕ → Bool
-sidesLawful s = passes (is (sidesRight s) ∷ is (sidesWithin s) ∷ [])
+-- what a tile says of a cell: by its record where one was found, and else by the fill
+abbrev pub cellOf : List ℕ → ℕ → ℕ → ℕ → Found → Cell
+cellOf s row column e Nothing = fillOf s e
+cellOf s row column e (At x) = cellIn s x row column e
 
--- x lies in the file, and the sides of grid and tiles are lawful
-unfoldable pub withinReach : List ℕ → ℕ → Bool
-withinReach s x = passes ((x + 1 ≤? length s) ∷ is (sidesLawful s) ∷ [])
-
--- the same where nothing was checked: 9 where the sides are not lawful or x lies past the file
-unfoldable pub cellWithin : List ℕ → ℕ → ℕ → ℕ → ℕ → Cell
-cellWithin s x row column e = pick (withinReach s x) (cellIn s x row column e) (cell.Refused refusal.Directory)
-
-unfoldable pub contentWithin : List ℕ → ℕ → ℕ → Content
-contentWithin s x e = pick (withinReach s x) (contentIn s x e) (content.Refused refusal.Directory)
+-- and of an element's content
+abbrev pub contentOf : List ℕ → ℕ → Found → Content
+contentOf s e Nothing = content.Absent
+contentOf s e (At x) = contentIn s x e

@@ -2,12 +2,11 @@
 use answer::Cell;
 use answer::Content;
 use answer::Refusal;
-use check_header::ceilings;
-use check_header::header_record;
 use check_records::tile_body;
 use geometry::sizes;
 use geometry::tiles;
 use header::entries;
+use record::Found;
 ghost use mathlib.Core.Path.{_≡_};
 ghost use mathlib.Core.Bool.{true};
 ghost use Prim.Native.Nat.{_+_, _≤_, _<_};
@@ -15,27 +14,8 @@ ghost use lib.ListN.{length};
 ghost use Rattle.wire.specs.Bytes.{numberAt};
 ghost use Rattle.header.specs.Element.{cellSize};
 ghost use Rattle.check_records.specs.TileBody.{sectionAt};
-ghost use Rattle.cells.specs.TileCells.{packed, offsetIn, placeIn, storedAt, cellIn, fillOf, contentIn, sidesLawful, withinReach, cellWithin, contentWithin};
-
-// The sides keep stages 3 and 4.
-pub fn sides_lawful(s: &[u8]) -> bool
-    ensures { λ r. ⌜ r ≡ sidesLawful (now (s .entry)) ⌝ }
-{
-    if header_record::sides_right(s) {
-        return ceilings::sides_within(s);
-    }
-    false
-}
-
-// Whether a record can start at a position, in a file whose sides are lawful.
-fn within_reach(s: &[u8], x: usize) -> bool
-    ensures { λ r. ⌜ r ≡ withinReach (now (s .entry)) x ⌝ }
-{
-    if s.len() <= x {
-        return false;
-    }
-    sides_lawful(s)
-}
+ghost use Rattle.cells.specs.TileCells.{packed, offsetIn, placeIn, storedAt, cellIn, fillOf, contentIn};
+ghost use Rattle.cells.specs.inner.Lookups.{sidesLawful, cellReached, contentReached};
 
 // Where the section of element e of the tile record at x starts.
 fn section(s: &[u8], x: usize, e: u32) -> usize
@@ -71,7 +51,7 @@ fn offset_in(s: &[u8], row: u32, column: u32, e: u32) -> u64
 
 // A cell's place.
 fn place_in(s: &[u8], x: usize, row: u32, column: u32, e: u32) -> usize
-    requires { ⌜ withinReach (now s) x ≡ true ⌝ }
+    requires { ⌜ (x < length (now s)) × (sidesLawful (now s) ≡ true) ⌝ }
     ensures { λ r. ⌜ r ≡ placeIn (now (s .entry)) x row column e ⌝ }
 {
     let at = section(s, x, e);
@@ -102,7 +82,7 @@ fn stored_at(s: &[u8], e: u32, place: usize) -> Cell
 
 // The cell, as the tile record at x has it.
 fn cell_in(s: &[u8], x: usize, row: u32, column: u32, e: u32) -> Cell
-    requires { ⌜ withinReach (now s) x ≡ true ⌝ }
+    requires { ⌜ (x < length (now s)) × (sidesLawful (now s) ≡ true) ⌝ }
     ensures { λ r. ⌜ r ≡ cellIn (now (s .entry)) x row column e ⌝ }
 {
     if is_packed(s, x, e) {
@@ -111,18 +91,8 @@ fn cell_in(s: &[u8], x: usize, row: u32, column: u32, e: u32) -> Cell
     stored_at(s, e, place_in(s, x, row, column, e))
 }
 
-// The same for any position.
-pub fn cell_within(s: &[u8], x: usize, row: u32, column: u32, e: u32) -> Cell
-    ensures { λ r. ⌜ r ≡ cellWithin (now (s .entry)) x row column e ⌝ }
-{
-    if within_reach(s, x) {
-        return cell_in(s, x, row, column, e);
-    }
-    Cell::Refused(Refusal::Directory)
-}
-
 // A cell of an absent tile.
-pub fn fill_of(s: &[u8], e: u32) -> Cell
+fn fill_of(s: &[u8], e: u32) -> Cell
     ensures { λ r. ⌜ r ≡ fillOf (now (s .entry)) e ⌝ }
 {
     let x = entries::element(s, e as usize);
@@ -135,7 +105,7 @@ pub fn fill_of(s: &[u8], e: u32) -> Cell
 
 // An element's content, as the tile record at x has it.
 fn content_in(s: &[u8], x: usize, e: u32) -> Content
-    requires { ⌜ withinReach (now s) x ≡ true ⌝ }
+    requires { ⌜ (x < length (now s)) × (sidesLawful (now s) ≡ true) ⌝ }
     ensures { λ r. ⌜ r ≡ contentIn (now (s .entry)) x e ⌝ }
 {
     if is_packed(s, x, e) {
@@ -148,12 +118,34 @@ fn content_in(s: &[u8], x: usize, e: u32) -> Content
     }
 }
 
-// The same for any position.
-pub fn content_within(s: &[u8], x: usize, e: u32) -> Content
-    ensures { λ r. ⌜ r ≡ contentWithin (now (s .entry)) x e ⌝ }
+// The cell, by the record that was found for its tile: 9 where that starts past the file.
+pub(crate) fn cell_reached(s: &[u8], found: Found, row: u32, column: u32, e: u32) -> Cell
+    requires { ⌜ sidesLawful (now s) ≡ true ⌝ }
+    ensures { λ r. ⌜ r ≡ cellReached (now (s .entry)) row column e found ⌝ }
 {
-    if within_reach(s, x) {
-        return content_in(s, x, e);
+    match found {
+        Found::Nothing => fill_of(s, e),
+        Found::At(x) => {
+            if x < s.len() {
+                return cell_in(s, x, row, column, e);
+            }
+            Cell::Refused(Refusal::Directory)
+        }
     }
-    Content::Refused(Refusal::Directory)
+}
+
+// An element's content, by the record that was found.
+pub(crate) fn content_reached(s: &[u8], found: Found, e: u32) -> Content
+    requires { ⌜ sidesLawful (now s) ≡ true ⌝ }
+    ensures { λ r. ⌜ r ≡ contentReached (now (s .entry)) e found ⌝ }
+{
+    match found {
+        Found::Nothing => Content::Absent,
+        Found::At(x) => {
+            if x < s.len() {
+                return content_in(s, x, e);
+            }
+            Content::Refused(Refusal::Directory)
+        }
+    }
 }

@@ -13,7 +13,7 @@ use Rattle.wire.specs.Bytes.{Same}
 use Rattle.wire.proofs.TestLaws.{no-true, not-both}
 use Rattle.wire.proofs.ByteLaws.{number-same, same-part, same-from-take}
 use Rattle.answer.specs.Refusals.{gate}
-use Rattle.header.specs.Fields.{headerEnd}
+use Rattle.record.specs.Chain.{headerEnd}
 use Rattle.check_header.specs.Identification.{identified, versionRight}
 use Rattle.check_header.specs.HeaderRecord.{lengthRight, headerRight}
 use Rattle.check_header.specs.Ceilings.{withinCeilings}

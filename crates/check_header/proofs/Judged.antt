@@ -11,7 +11,8 @@ use Rattle.wire.specs.Tests.{allBelow, sumBelow}
 use Rattle.wire.specs.Bytes.{byteAt, numberAt, Same}
 use Rattle.wire.proofs.TestLaws.{means, yes, iff, below-same, sum-same}
 use Rattle.wire.proofs.ByteLaws.{number-same, part-same, byte-same, same-sym}
-use Rattle.header.specs.Fields.{gridRows, gridColumns, tileRows, tileColumns, elementCount, headerEnd, headerLimit}
+use Rattle.header.specs.Fields.{gridRows, gridColumns, tileRows, tileColumns, elementCount, headerLimit}
+use Rattle.record.specs.Chain.{headerEnd}
 use Rattle.header.specs.Element.{entryStart, entriesRead}
 use Rattle.header.proofs.SameLaws.{SameRest, limit-same, start-same, start-least, limit-is, element-same, element-name-same, method-count-same, fields-end-same}
 use Rattle.geometry.specs.Tiles.{tileCount}

@@ -6,7 +6,7 @@ use mathlib.Core.List.{List, [], _∷_}
 use lib.ListN.{take}
 use Rattle.wire.specs.Pick.{pick}
 use Rattle.wire.specs.Tests.{is, passes}
-use Rattle.header.specs.Fields.{headerEnd}
+use Rattle.record.specs.Chain.{headerEnd}
 use Rattle.check_header.specs.Identification.{identified, versionRight}
 use Rattle.check_header.specs.HeaderRecord.{lengthRight}
 use Rattle.check_header.specs.Stages.{checkHeader}

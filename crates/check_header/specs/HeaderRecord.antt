@@ -8,7 +8,8 @@ use Rattle.wire.specs.Pick.{pick}
 use Rattle.wire.specs.Tests.{_≤?_, _≡?_, is, isNot, passes, allBelow}
 use Rattle.wire.specs.Bytes.{sameBytes, largestInteger}
 use Rattle.header.specs.Names.{identifier}
-use Rattle.header.specs.Fields.{headerLength, headerType, gridRows, gridColumns, tileRows, tileColumns, checksumEnabled, rasterSpace, coordinateSystem, elementCount, headerEnd, headerLimit}
+use Rattle.header.specs.Fields.{headerLength, headerType, gridRows, gridColumns, tileRows, tileColumns, checksumEnabled, rasterSpace, coordinateSystem, elementCount, headerLimit}
+use Rattle.record.specs.Chain.{headerEnd}
 use Rattle.header.specs.Element.{entryStart, element, elementName, entriesRead}
 use Rattle.header.specs.Tail.{methodCount, fieldsEnd}
 

@@ -5,7 +5,7 @@ use mathlib.Core.List.{List}
 use mathlib.Core.Bool.{true}
 use lib.ListN.{length}
 use Rattle.wire.specs.Bytes.{Same}
-use Rattle.header.specs.Fields.{headerEnd}
+use Rattle.record.specs.Chain.{headerEnd}
 use Rattle.check_header.specs.Identification.{identified, versionRight}
 use Rattle.check_header.specs.HeaderRecord.{headerRight}
 use Rattle.check_header.specs.Ceilings.{withinCeilings}

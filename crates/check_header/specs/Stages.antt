@@ -9,7 +9,8 @@ use Rattle.answer.specs.declared.Refusal.the-variants.{Identification, Version,
 use Rattle.answer.specs.declared.Verdict.{Verdict}
 use Rattle.answer.specs.declared.Verdict.the-variants.{Accepted}
 use Rattle.answer.specs.Refusals.{gate}
-use Rattle.header.specs.Fields.{timeOpened, headerEnd}
+use Rattle.header.specs.Fields.{timeOpened}
+use Rattle.record.specs.Chain.{headerEnd}
 use Rattle.check_header.specs.Identification.{identified, versionRight}
 use Rattle.check_header.specs.HeaderRecord.{headerRight}
 use Rattle.check_header.specs.Ceilings.{withinCeilings}

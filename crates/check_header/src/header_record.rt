@@ -3,6 +3,7 @@ use header::entries;
 use header::fields;
 use header::names;
 use header::tail;
+use record::chain;
 ghost use mathlib.Core.Path.{_≡_};
 ghost use Rattle.wire.specs.Tests.{allBelow};
 ghost use Rattle.check_header.specs.HeaderRecord.{lengthRight, frameRight, positive, sidesRight, optionsRight, namesDiffer, elementRight, elementsRight, tailRight, headerRight};
@@ -18,7 +19,7 @@ pub fn length_right(s: &[u8], length: usize) -> bool
     if 2147483647 < n {
         return false;
     }
-    if length < fields::header_end(s) {
+    if length < chain::header_end(s) {
         return false;
     }
     true
@@ -29,7 +30,7 @@ pub fn frame_right(s: &[u8], length: usize) -> bool
     ensures { λ r. ⌜ r ≡ frameRight (now (s .entry)) length ⌝ }
 {
     if length_right(s, length) {
-        if s.len() < fields::header_end(s) {
+        if s.len() < chain::header_end(s) {
             return false;
         }
         if fields::header_type(s) != 6 {

@@ -5,6 +5,7 @@ use crate::identification;
 use answer::Refusal;
 use answer::Verdict;
 use header::fields;
+use record::chain;
 ghost use mathlib.Core.Path.{_≡_};
 ghost use Rattle.check_header.specs.Stages.{frontRight, checkHeader, checkFront};
 
@@ -35,7 +36,7 @@ fn front_right(s: &[u8]) -> bool
     ensures { λ r. ⌜ r ≡ frontRight (now (s .entry)) ⌝ }
 {
     if header_record::header_right(s, s.len()) {
-        if fields::header_end(s) != s.len() {
+        if chain::header_end(s) != s.len() {
             return false;
         }
         return true;

@@ -5,8 +5,8 @@ use mathlib.Core.List.{List, [], _++_}
 use mathlib.Core.Bool.{Bool, true, false}
 use native.Mathlib.Omega.{arith}
 use lib.ListN.{length}
-use lib.Dec.{eqb}
-use borrow.Author.Tests.{eq-eqb, ne-eqb, le-leb, lt-leb}
+use lib.Dec.{leb, eqb}
+use borrow.Author.Tests.{eq-eqb, ne-eqb, le-leb, lt-leb, leb-true, leb-false}
 use Rattle.wire.specs.Pick.{pick}
 use Rattle.wire.specs.Tests.{allBelow}
 use Rattle.wire.specs.Bytes.{Bytes, byteAt, numberAt, u16At, u32At, part, bytesOf, partAt}
@@ -17,47 +17,60 @@ use Rattle.wire.proofs.ItemLaws.{advance-grows}
 use Rattle.wire.proofs.PlaceLaws.{Placed, placed-first, placed-next, placed-part, placed-value}
 use Rattle.crc32c.specs.Crc.{crcOf, crcPart}
 use Rattle.crc32c.proofs.Range.{crc-small}
-use Rattle.header.specs.Fields.{checksumEnabled, elementCount, headerEnd}
+use Rattle.header.specs.Fields.{checksumEnabled, elementCount}
 use Rattle.header.specs.Element.{stringSize, stringEnd}
 use Rattle.header.proofs.NameLaws.{identifier-empty}
 use Rattle.record.specs.declared.Found.{Found}
 use Rattle.record.specs.declared.Found.the-variants.{At, Nothing}
-use Rattle.record.specs.Record.{lengthAt, typeAt, recordOk}
-use Rattle.record.specs.Chain.{find, firstRecord, Whole}
-use Rattle.record.proofs.ChainLaws.{whole-if}
+use Rattle.record.specs.Record.{lengthAt, typeAt, recordLimit, Told}
+use Rattle.record.specs.Chain.{headerEnd, records, recordsEnd, find, findNot, Whole}
+use Rattle.record.proofs.ChainLaws.{chain-ends, stand-starts, stand-end, whole-starts}
+use Rattle.record.proofs.FindLaws.{found-not}
 use Rattle.geometry.specs.declared.Judged.{Judged}
 use Rattle.geometry.specs.declared.Judged.the-variants.{Uncompressed, Compressed, Fault}
 use Rattle.geometry.specs.Sizes.{judgeElement, storedSize}
 use Rattle.check_records.specs.declared.Rule.{Rule}
-use Rattle.check_records.specs.declared.Rule.the-variants.{Chain, Checksum, Body}
-use Rattle.check_records.specs.Chain.{records, recordLimit, endRight}
+use Rattle.check_records.specs.declared.Rule.the-variants.{Checksum, Body}
+use Rattle.check_records.specs.Frame.{endRight}
 use Rattle.check_records.specs.Checksum.{summedBytes, checksumOf, checksumAt, checksumRight}
 use Rattle.check_records.specs.TileBody.{sectionEnd, sectionAt, sectionStart, sectionLength, sectionJudged, sectionRight, tileEnd, tileRight}
 use Rattle.check_records.specs.MetadataBody.{metadataName, recordIdAt, recordId, dataType, contentLengthAt, metadataLength, metadataEnd, metadataRight}
-use Rattle.check_records.specs.Faults.{bodyRight, rightOf, wrongOf, chainFault, checksumFault, bodyFault}
+use Rattle.check_records.specs.Faults.{bodyRight, rightOf, firstWrong, chainFault, BrokenAt, ChainFaultExactly, checksumFault}
 
 -- checksums
 
-pub summed-free : (s : List ℕ) (at k : ℕ) → k ≡ typeAt s at → k ≡ 0 → 8 ≡ summedBytes s at
+pub summed-free : (k n : ℕ) → k ≡ 0 → 8 ≡ summedBytes k n
 unfolding summedBytes
-summed-free s at k p h = rw (← p, h)
+summed-free k n h = rw h
 
-pub summed-other : (s : List ℕ) (at k n r : ℕ) → k ≡ typeAt s at → (k ≡ 0 → ⊥) → n ≡ lengthAt s at → r ≡ n - 4 → r ≡ summedBytes s at
+pub summed-other : (k n r : ℕ) → (k ≡ 0 → ⊥) → r ≡ n - 4 → r ≡ summedBytes k n
 unfolding summedBytes
-summed-other s at k n r p h q e = rw (← p, ne-eqb k 0 h, ← q) e
+summed-other k n r h e = rw (ne-eqb k 0 h) e
 
-pub checksum-on :
-    (s : List ℕ) (at f n r : ℕ) → f ≡ checksumEnabled s → f ≡ 1 → n ≡ summedBytes s at → r ≡ crcPart s at n → r ≡ checksumOf s at
-unfolding checksumOf
-checksum-on s at f n r p h q e = rw (← p, h, ← q) e
+module _ (s : List ℕ) (k at n : ℕ) (t : Told s k at n) where
+  pub checksum-on : (f m r : ℕ) → f ≡ checksumEnabled s → f ≡ 1 → m ≡ summedBytes k n → r ≡ crcPart s at m → r ≡ checksumOf s at
+  unfolding checksumOf
+  checksum-on f m r p h q e = rw (← p, h, ← t .type-is, ← t .length-is, ← q) e
+
+  pub checksum-at-is : (d r : ℕ) → d ≡ n - 4 → r ≡ numberAt 4 s (at + d) → r ≡ checksumAt s at
+  unfolding checksumAt
+  checksum-at-is d r q e = rw (← t .length-is, ← q) e
+
+  pub body-tile : (r : Bool) → k ≡ 2 → r ≡ tileRight s at → r ≡ bodyRight s at
+  unfolding bodyRight
+  body-tile r h e = rw (← t .type-is, h) e
+
+  pub body-metadata : (r : Bool) → (k ≡ 2 → ⊥) → k ≡ 1 → r ≡ metadataRight s at → r ≡ bodyRight s at
+  unfolding bodyRight
+  body-metadata r g h e = rw (← t .type-is, ne-eqb k 2 g, eq-eqb k 1 h) e
+
+  pub body-other : (k ≡ 2 → ⊥) → (k ≡ 1 → ⊥) → true ≡ bodyRight s at
+  unfolding bodyRight
+  body-other g h = rw (← t .type-is, ne-eqb k 2 g, ne-eqb k 1 h)
 
 pub checksum-off : (s : List ℕ) (at f : ℕ) → f ≡ checksumEnabled s → (f ≡ 1 → ⊥) → 0 ≡ checksumOf s at
 unfolding checksumOf
 checksum-off s at f p h = rw (← p, ne-eqb f 1 h)
-
-pub checksum-at-is : (s : List ℕ) (at n d r : ℕ) → n ≡ lengthAt s at → d ≡ n - 4 → r ≡ numberAt 4 s (at + d) → r ≡ checksumAt s at
-unfolding checksumAt
-checksum-at-is s at n d r p q e = e ∙ rw (q, p)
 
 -- bytes that end in the checksum of those before them, as the flag says, are right wherever they stand as a record that is not free space
 pub checksum-placed :
@@ -191,25 +204,7 @@ metadata-end-is s at p l n a b e =
     let k : p + 9 + l ≡ recordIdAt s at + 5 + 4 + metadataLength s at = omega arith in
     rw (e, ← k)
 
--- one record
-
-pub body-tile : (s : List ℕ) (at k : ℕ) (r : Bool) → k ≡ typeAt s at → k ≡ 2 → r ≡ tileRight s at → r ≡ bodyRight s at
-unfolding bodyRight
-body-tile s at k r p h e = rw (← p, h) e
-
-pub body-metadata : (s : List ℕ) (at k : ℕ) (r : Bool) → k ≡ typeAt s at → (k ≡ 2 → ⊥) → k ≡ 1 → r ≡ metadataRight s at → r ≡ bodyRight s at
-unfolding bodyRight
-body-metadata s at k r p g h e = rw (← p, ne-eqb k 2 g, eq-eqb k 1 h) e
-
-pub body-other : (s : List ℕ) (at k : ℕ) → k ≡ typeAt s at → (k ≡ 2 → ⊥) → (k ≡ 1 → ⊥) → true ≡ bodyRight s at
-unfolding bodyRight
-body-other s at k p g h = rw (← p, ne-eqb k 2 g, ne-eqb k 1 h)
-
 -- by the rule
-
-pub keeps-chain : (s : List ℕ) (w : Rule) (at : ℕ) (r : Bool) → w ≡ Chain → r ≡ recordOk s at → r ≡ rightOf s w at
-unfolding rightOf
-keeps-chain s w at r p q = rw p q
 
 pub keeps-checksum : (s : List ℕ) (w : Rule) (at : ℕ) (r : Bool) → w ≡ Checksum → r ≡ checksumRight s at → r ≡ rightOf s w at
 unfolding rightOf
@@ -219,38 +214,63 @@ pub keeps-body : (s : List ℕ) (w : Rule) (at : ℕ) (r : Bool) → w ≡ Body 
 unfolding rightOf
 keeps-body s w at r p q = rw p q
 
-pub wrong-not : (s : List ℕ) (w : Rule) (at : ℕ) (r : Bool) → r ≡ rightOf s w at → r ≡ true → false ≡ wrongOf s w at
-unfolding wrongOf
-wrong-not s w at r p q = rw (← p, q)
+-- stage 6
 
-pub wrong-is : (s : List ℕ) (w : Rule) (at : ℕ) (r : Bool) → r ≡ rightOf s w at → r ≡ false → true ≡ wrongOf s w at
-unfolding wrongOf
-wrong-is s w at r p q = rw (← p, q)
+pub chain-fault : (s : List ℕ) (e : ℕ) → e ≡ recordsEnd s → e < length s → At e ≡ chainFault s
+unfolding chainFault
+chain-fault s e p h = rw (← p, lt-leb (length s) e h)
 
--- the faults
+pub chain-fine : (s : List ℕ) (e : ℕ) → e ≡ recordsEnd s → length s ≤ e → Nothing ≡ chainFault s
+unfolding chainFault
+chain-fine s e p h = rw (← p, le-leb (length s) e h)
 
-pub chain-is : (s : List ℕ) (e : ℕ) (f : Found) → e ≡ headerEnd s → f ≡ firstRecord s e (wrongOf s Chain) → f ≡ chainFault s
-unfolding chainFault records firstRecord
-chain-is s e f p q = q ∙ rw p
-
-pub body-is : (s : List ℕ) (e : ℕ) (f : Found) → e ≡ headerEnd s → f ≡ firstRecord s e (wrongOf s Body) → f ≡ bodyFault s
-unfolding bodyFault records firstRecord
-body-is s e f p q = q ∙ rw p
-
-pub checksum-header : (s : List ℕ) (r : Bool) → r ≡ wrongOf s Checksum 16 → r ≡ true → At 16 ≡ checksumFault s
-unfolding checksumFault find
-checksum-header s r p q = rw (← p, q)
-
-pub checksum-is :
-    (s : List ℕ) (e : ℕ) (r : Bool) (f : Found) → r ≡ wrongOf s Checksum 16 → r ≡ false → e ≡ headerEnd s →
-    f ≡ firstRecord s e (wrongOf s Checksum) → f ≡ checksumFault s
-unfolding checksumFault records firstRecord find
-checksum-is s e r f a b p q = rw (← a, b) (q ∙ rw p)
-
--- a chain without a fault is whole
+-- a chain without a fault is whole, and a whole one has none
 pub chain-whole : (s : List ℕ) → headerEnd s ≤ length s → chainFault s ≡ Nothing → Whole s (headerEnd s) (records s)
-unfolding chainFault records wrongOf rightOf firstRecord
-chain-whole s h e = whole-if s (headerEnd s) h e
+unfolding records recordsEnd
+chain-whole s h e = go (leb (length s) (recordsEnd s)) refl
+  where
+    go : (b : Bool) → leb (length s) (recordsEnd s) ≡ b → Whole s (headerEnd s) (records s)
+    go true i =
+        let x = chain-ends s (headerEnd s) in
+        let z : recordsEnd s ≡ length s = omega (arith, leb-true (length s) (recordsEnd s) i, x .inside h) in
+        rw z at (x .stand)
+    go false i = found-not (chain-fault s (recordsEnd s) refl (leb-false (length s) (recordsEnd s) i)) e
+
+pub whole-chain : (s xs : List ℕ) → Whole s (headerEnd s) xs → chainFault s ≡ Nothing
+unfolding recordsEnd records
+whole-chain s xs w =
+    let r = whole-starts s (headerEnd s) xs w in
+    let e : recordsEnd s ≡ length s = rw r (stand-end s (headerEnd s) xs (length s) w) in
+    sym (chain-fine s (recordsEnd s) refl (omega arith))
+
+pub chain-fault-exactly : ChainFaultExactly
+unfolding recordsEnd records
+chain-fault-exactly s x = (λ e. go e (leb (length s) (recordsEnd s)) refl, back)
+  where
+    go : chainFault s ≡ At x → (b : Bool) → leb (length s) (recordsEnd s) ≡ b → BrokenAt s x
+    go e true i = found-not (sym e) (sym (chain-fine s (recordsEnd s) refl (leb-true _ _ i)))
+    go e false i =
+        let l = leb-false _ _ i in
+        let q = chain-fault s (recordsEnd s) refl l ∙ e in
+        let z : recordsEnd s ≡ x = cc in
+        let y = chain-ends s (headerEnd s) in
+        record { before = records s; stand = rw z at (y .stand); inside = rw z at l; bad = rw z at (y .bad) }
+
+    back : BrokenAt s x → chainFault s ≡ At x
+    back b =
+        let r = stand-starts s (headerEnd s) (b .before) x (b .stand) (b .bad) in
+        let e : recordsEnd s ≡ x = rw r (stand-end s (headerEnd s) (b .before) x (b .stand)) in
+        sym (chain-fault s x (sym e) (b .inside))
+
+-- stages 7 and 8
+
+pub header-wrong : (s : List ℕ) (r : Bool) → r ≡ rightOf s Checksum 16 → r ≡ false → At 16 ≡ checksumFault s
+unfolding checksumFault firstWrong find findNot
+header-wrong s r p q = rw (← p, q)
+
+pub header-right : (s : List ℕ) (r : Bool) (f : Found) → r ≡ rightOf s Checksum 16 → r ≡ true → f ≡ firstWrong s Checksum (records s) → f ≡ checksumFault s
+unfolding checksumFault firstWrong find findNot
+header-right s r f p q e = rw (← p, q) e
 
 -- what a function's answer tells of its definition
 pub told : {r b v : Bool} → r ≡ b → r ≡ v → b ≡ v

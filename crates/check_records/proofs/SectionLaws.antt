@@ -11,9 +11,9 @@ use Rattle.wire.specs.Bytes.{u32At}
 use Rattle.wire.proofs.TestLaws.{means}
 use Rattle.wire.proofs.ItemLaws.{advance-none, advance-more, advance-mono}
 use Rattle.header.specs.Fields.{elementCount}
-use Rattle.record.specs.Record.{lengthAt}
+use Rattle.record.specs.Record.{lengthAt, recordLimit}
 use Rattle.geometry.specs.Sizes.{storedSize, tileLength}
-use Rattle.check_records.specs.Chain.{recordLimit, endRight}
+use Rattle.check_records.specs.Frame.{endRight}
 use Rattle.check_records.specs.TileBody.{sectionEnd, sectionAt, sectionLength, tileEnd, tileRight, LeastTileLength}
 use Rattle.check_records.proofs.RecordLaws.{section-grows}
 

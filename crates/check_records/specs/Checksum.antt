@@ -10,13 +10,14 @@ use Rattle.crc32c.specs.Crc.{crcPart}
 use Rattle.header.specs.Fields.{checksumEnabled}
 use Rattle.record.specs.Record.{lengthAt, typeAt}
 
--- how many of a record's bytes are summed: all before the last four; of a free-space record the first eight only
-unfoldable pub summedBytes : List ℕ → ℕ → ℕ
-summedBytes s at = pick (eqb (typeAt s at) 0) 8 (lengthAt s at - 4)
+-- how many bytes of a record of a type and a length are summed: all before the last four; of a free-space record the first
+-- eight only
+unfoldable pub summedBytes : ℕ → ℕ → ℕ
+summedBytes kind length = pick (eqb kind 0) 8 (length - 4)
 
 -- what the last four bytes have to be: if checksums are on, the CRC32C of those bytes; if off, zero
 unfoldable pub checksumOf : List ℕ → ℕ → ℕ
-checksumOf s at = pick (eqb (checksumEnabled s) 1) (crcPart s at (summedBytes s at)) 0
+checksumOf s at = pick (eqb (checksumEnabled s) 1) (crcPart s at (summedBytes (typeAt s at) (lengthAt s at))) 0
 
 -- the last four bytes of the record at `at`
 unfoldable pub checksumAt : List ℕ → ℕ → ℕ

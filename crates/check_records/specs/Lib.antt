@@ -1,4 +1,4 @@
-pub mod Chain
+pub mod Frame
 pub mod Checksum
 pub mod TileBody
 pub mod MetadataBody

@@ -6,7 +6,7 @@ use Rattle.wire.specs.Tests.{_≤?_, is, passes}
 use Rattle.wire.specs.Bytes.{byteAt, u16At, u32At, part, largestInteger}
 use Rattle.header.specs.Names.{identifier}
 use Rattle.header.specs.Element.{stringEnd}
-use Rattle.check_records.specs.Chain.{endRight}
+use Rattle.check_records.specs.Frame.{endRight}
 
 -- the name, a string at 8
 unfoldable pub metadataName : List ℕ → ℕ → List ℕ

@@ -10,12 +10,12 @@ use Rattle.wire.specs.Tests.{_≤?_, is, passes, allBelow}
 use Rattle.wire.specs.Bytes.{u32At, largestInteger}
 use Rattle.wire.specs.Items.{advance}
 use Rattle.header.specs.Fields.{elementCount}
-use Rattle.record.specs.Record.{lengthAt}
+use Rattle.record.specs.Record.{lengthAt, recordLimit}
 use Rattle.geometry.specs.declared.Judged.{Judged}
 use Rattle.geometry.specs.declared.Judged.the-variants.{Uncompressed, Compressed, Fault}
 use Rattle.geometry.specs.Tiles.{tileCount}
 use Rattle.geometry.specs.Sizes.{judgeElement, storedSize, tileLength}
-use Rattle.check_records.specs.Chain.{recordLimit, endRight}
+use Rattle.check_records.specs.Frame.{endRight}
 
 -- G Table 15: the tile index
 unfoldable pub tileIndex : List ℕ → ℕ → ℕ

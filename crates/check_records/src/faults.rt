@@ -3,19 +3,31 @@ use crate::Rule;
 use crate::checksum;
 use crate::metadata_body;
 use crate::tile_body;
-use header::fields;
 use record::Cursor;
 use record::Found;
 use record::Step;
+use record::chain;
 ghost use mathlib.Core.Path.{_≡_};
-ghost use Rattle.record.specs.Chain.{firstRecord};
-ghost use Rattle.check_records.specs.Faults.{bodyRight, rightOf, wrongOf, chainFault, checksumFault, bodyFault};
+ghost use Rattle.record.specs.Record.{Told};
+ghost use Rattle.record.specs.Chain.{records};
+ghost use Rattle.check_records.specs.Faults.{bodyRight, rightOf, firstWrong, chainFault, checksumFault, bodyFault};
 
-// Stage 8 of one record.
-pub fn body_right(s: &[u8], at: usize) -> bool
+// Stage 6.
+pub fn chain_fault(s: &[u8]) -> Found
+    ensures { λ r. ⌜ r ≡ chainFault (now (s .entry)) ⌝ }
+{
+    let end = chain::records_end(s);
+    if end < s.len() {
+        return Found::At(end);
+    }
+    Found::Nothing
+}
+
+// Stage 8 of one record, of a type and length.
+fn body_right(s: &[u8], kind: u32, at: usize, length: usize) -> bool
+    requires { ⌜ Told (now s) kind at length ⌝ }
     ensures { λ r. ⌜ r ≡ bodyRight (now (s .entry)) at ⌝ }
 {
-    let kind = wire::byte_off(s, at, 4);
     if kind == 2 {
         return tile_body::tile_right(s, at);
     }
@@ -26,78 +38,56 @@ pub fn body_right(s: &[u8], at: usize) -> bool
 }
 
 // Whether a record keeps a rule.
-fn keeps(s: &[u8], rule: Rule, at: usize) -> bool
+fn keeps(s: &[u8], rule: Rule, kind: u32, at: usize, length: usize) -> bool
+    requires { ⌜ Told (now s) kind at length ⌝ }
     ensures { λ r. ⌜ r ≡ rightOf (now (s .entry)) rule at ⌝ }
 {
     match rule {
-        Rule::Chain => record::record_ok(s, at),
-        Rule::Checksum => checksum::checksum_right(s, at),
-        Rule::Body => body_right(s, at),
+        Rule::Checksum => checksum::checksum_right(s, kind, at, length),
+        Rule::Body => body_right(s, kind, at, length),
     }
 }
 
-// Whether it breaks it.
-fn is_wrong(s: &[u8], rule: Rule, at: usize) -> bool
-    ensures { λ r. ⌜ r ≡ wrongOf (now (s .entry)) rule at ⌝ }
+// The first record behind the header that does not.
+fn first_wrong(s: &[u8], rule: Rule) -> Found
+    ensures { λ r. ⌜ r ≡ firstWrong (now (s .entry)) rule (records (now (s .entry))) ⌝ }
 {
-    if keeps(s, rule, at) {
-        return false;
-    }
-    true
-}
-
-// The first record from a position on that does.
-pub fn first_wrong(s: &[u8], rule: Rule, at: usize) -> Found
-    ensures { λ r. ⌜ r ≡ firstRecord (now (s .entry)) at (wrongOf (now (s .entry)) rule) ⌝ }
-{
-    let mut c = Cursor { at };
+    let mut c = Cursor {
+        at: chain::header_end(s),
+    };
     loop {
-        match c.step(s) {
-            Step::Record {
-                kind: _,
-                start,
-                length: _,
-                next,
-            } => {
-                if is_wrong(s, rule, start) {
-                    return Found::At(start);
-                }
-                c = next;
-            }
-            Step::Bad => {
-                let start = c.at;
-                if is_wrong(s, rule, start) {
-                    return Found::At(start);
-                }
-                return Found::Nothing;
-            }
-            Step::End => {
-                return Found::Nothing;
-            }
+        let Step::Record {
+            kind,
+            start,
+            length,
+            next,
+        } = c.step(s)
+        else {
+            return Found::Nothing;
+        };
+        if keeps(s, rule, kind, start, length) {
+            c = next;
+        } else {
+            return Found::At(start);
         }
     }
-}
-
-// Stage 6.
-pub fn chain_fault(s: &[u8]) -> Found
-    ensures { λ r. ⌜ r ≡ chainFault (now (s .entry)) ⌝ }
-{
-    first_wrong(s, Rule::Chain, fields::header_end(s))
 }
 
 // Stage 7: the header first.
 pub fn checksum_fault(s: &[u8]) -> Found
     ensures { λ r. ⌜ r ≡ checksumFault (now (s .entry)) ⌝ }
 {
-    if is_wrong(s, Rule::Checksum, 16) {
-        return Found::At(16);
+    let kind = wire::byte_at(s, 20);
+    let length = wire::u32_at(s, 16) as usize;
+    if keeps(s, Rule::Checksum, kind, 16, length) {
+        return first_wrong(s, Rule::Checksum);
     }
-    first_wrong(s, Rule::Checksum, fields::header_end(s))
+    Found::At(16)
 }
 
 // Stage 8.
 pub fn body_fault(s: &[u8]) -> Found
     ensures { λ r. ⌜ r ≡ bodyFault (now (s .entry)) ⌝ }
 {
-    first_wrong(s, Rule::Body, fields::header_end(s))
+    first_wrong(s, Rule::Body)
 }

@@ -1,5 +1,5 @@
 // Stage 8: the body of a metadata record.
-use crate::frame;
+use crate::ends;
 use header::entries;
 use header::names;
 ghost use mathlib.Core.Path.{_≡_};
@@ -7,8 +7,7 @@ ghost use Prim.Native.Nat.{_+_, _≤_, _<_};
 ghost use lib.ListN.{length};
 ghost use Rattle.wire.specs.Bytes.{u16At, partAt};
 ghost use Rattle.header.specs.Names.{identifier};
-ghost use Rattle.check_records.specs.Chain.{endRight};
-ghost use Rattle.check_records.specs.MetadataBody.{metadataName, recordIdAt, recordId, dataType, contentLengthAt, metadataLength, metadataEnd, metadataRight};
+ghost use Rattle.check_records.specs.MetadataBody.{metadataName, recordIdAt, recordId, dataType, metadataLength, metadataEnd, metadataRight};
 
 // Where the record ID stands.
 fn record_id_at(s: &[u8], at: usize) -> usize
@@ -83,7 +82,7 @@ pub fn metadata_right(s: &[u8], at: usize) -> bool
     if 2147483647 < metadata_length(s, at) {
         return false;
     }
-    if frame::end_right(s, at, metadata_end(s, at)) {
+    if ends::end_right(s, at, metadata_end(s, at)) {
         if name_right(s, at) {
             if 9 < data_type(s, at) {
                 return false;

@@ -1,14 +1,15 @@
 // Stage 8: the body of a tile record.
-use crate::frame;
+use crate::ends;
 use geometry::Judged;
 use geometry::sizes;
 use geometry::tiles;
 use header::fields;
+use record::frame;
 ghost use mathlib.Core.Path.{_≡_};
 ghost use Prim.Native.Nat.{_+_, _≤_, _<_};
 ghost use lib.ListN.{length};
 ghost use Rattle.wire.specs.Tests.{allBelow};
-ghost use Rattle.check_records.specs.Chain.{endRight};
+ghost use Rattle.check_records.specs.Frame.{endRight};
 ghost use Rattle.check_records.specs.TileBody.{sectionEnd, sectionAt, sectionStart, sectionRight, tileEnd, indexRight, tileRight};
 
 // Where the section at a position ends; it has at most 4 + 4294967296 bytes.
@@ -98,7 +99,7 @@ fn sections_end_right(s: &[u8], at: usize) -> bool
     requires { ⌜ at < length (now s) ⌝ }
     ensures { λ r. ⌜ r ≡ endRight (now (s .entry)) at (tileEnd (now (s .entry)) at) ⌝ }
 {
-    frame::end_right(s, at, section_at(s, at, fields::element_count(s)))
+    ends::end_right(s, at, section_at(s, at, fields::element_count(s)))
 }
 
 pub fn tile_right(s: &[u8], at: usize) -> bool

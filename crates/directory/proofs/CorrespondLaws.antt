@@ -6,16 +6,15 @@ use mathlib.Core.Bool.{Bool, true, false, _||_}
 use native.Mathlib.Omega.{arith}
 use lib.Dec.{eqb}
 use borrow.Author.Tests.{eqb-true, eqb-false, eq-eqb, ne-eqb}
-use Rattle.wire.specs.Tests.{allBelow}
 use Rattle.wire.proofs.TestLaws.{means, yes, below-each, below-all}
 use Rattle.record.specs.Record.{contentAt}
 use Rattle.geometry.specs.Tiles.{tileCount}
 use Rattle.check_records.specs.TileBody.{tileIndex}
-use Rattle.directory.specs.Lists.{every, some, recordsOf}
+use Rattle.record.specs.Chain.{recordsOf}
 use Rattle.directory.specs.TileDirectory.{rectangleRight, tileReference, tilesListed, givesTile, tilesOnly}
 use Rattle.directory.specs.Correspondence.{TileRecord, OneToOne}
 use Rattle.directory.proofs.OnlyLaws.{referenced-below}
-use Rattle.directory.proofs.MemberLaws.{every-member, member-every, some-member, member-some}
+use Rattle.wire.proofs.ListLaws.{every-member, member-every, some-member, member-some}
 
 module _ (s : List ℕ) (listed : tilesListed s ≡ true) (only : tilesOnly s ≡ true) where
   own-content : {x : ℕ} → List·Memᴰ x (recordsOf s 2) → tileReference s (tileIndex s x) ≡ contentAt x

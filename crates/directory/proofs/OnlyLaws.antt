@@ -2,74 +2,24 @@
 use Prim.Native.Nat.{ℕ, zero, suc, _+_, _*_, _/_, _%_, _-_, _≤_, _<_}
 use mathlib.Core.Path.{_≡_, refl, sym, ap, _∙_}
 use mathlib.Core.List.{List, [], _∷_}
-use mathlib.Core.Bool.{Bool, true, false, not, _||_}
+use mathlib.Core.Bool.{Bool, true, false, _||_}
 use native.Mathlib.Omega.{arith}
-use native.Mathlib.Nat.{mul-add-div-right, mul-add-mod-self-right, div-eq-of-lt, mod-eq-of-lt, div-add-mod', mod-lt, mul-le-mul-right, div-lt-iff-lt-mul}
+use native.Mathlib.Nat.{div-add-mod', mod-lt, div-lt-iff-lt-mul}
 use lib.ListN.{length}
 use lib.Dec.{eqb}
 use borrow.Author.Tests.{eqb-true, eqb-false, eq-eqb, ne-eqb}
-use Rattle.wire.specs.Tests.{_≡?_, passes, allBelow}
+use Rattle.wire.specs.Tests.{_≡?_, passes}
 use Rattle.wire.proofs.TestLaws.{means, yes, not-both, iff, below-each, below-all}
-use Rattle.header.specs.Fields.{headerEnd}
-use Rattle.record.specs.Record.{typeAt, contentAt}
-use Rattle.record.specs.Chain.{starts}
-use Rattle.record.proofs.ChainLaws.{Behind, behind-more, starts-behind}
+use Rattle.record.specs.Record.{contentAt}
+use Rattle.record.specs.Chain.{recordsOf}
+use Rattle.record.proofs.FindLaws.{records-behind}
+use Rattle.wire.proofs.ListLaws.{some-gives, every-some, every-more}
 use Rattle.geometry.specs.Tiles.{tilesAcross, tilesDown, tileCount, tilesIn}
-use Rattle.check_records.specs.Chain.{records}
+use Rattle.geometry.proofs.GridLaws.{grid-less, row-of, column-of, same-index}
 use Rattle.check_records.specs.TileBody.{tileIndex}
-use Rattle.directory.specs.Lists.{every, some, countBelow, recordsOf}
+use Rattle.wire.specs.Lists.{some, countBelow}
 use Rattle.directory.specs.TileDirectory.{tileDirectoryAt, firstRow, firstColumn, listedRows, listedColumns, spanRight, rectangleRight, referenceCount, referenceAt, gives, inSpan, inRectangle, numberOf, referenceOf, referenceFrom, tileReference, tilesListed, givesTile, tilesOnly}
-use Rattle.directory.proofs.CountLaws.{behind-select, every-each, count-one, count-both, count-same, count-named}
-
--- the records of a type increase
-
-pub records-behind : (s : List ℕ) (kind : ℕ) → Behind 0 (recordsOf s kind)
-unfolding recordsOf records
-records-behind s kind =
-    behind-select (λ x. eqb (typeAt s x) kind) 0 (starts s (headerEnd s))
-    (behind-more 0 (headerEnd s) (starts s (headerEnd s)) (omega arith) (starts-behind s (headerEnd s)))
-
--- a number in rows of w
-
-module _ (w a b : ℕ) (h : b < w) where
-  pub row-of : (a * w + b) / w ≡ a
-  row-of = let e = div-eq-of-lt h in mul-add-div-right (omega arith) a b ∙ omega arith
-
-  pub column-of : (a * w + b) % w ≡ b
-  column-of = mul-add-mod-self-right a w b ∙ mod-eq-of-lt h
-
-  pub grid-less : (n : ℕ) → a < n → a * w + b < n * w
-  grid-less n l = let m : (a + 1) * w ≤ n * w = mul-le-mul-right w (omega arith) in omega arith
-
--- a row and a column fix the number
-pub same-index : (w i j : ℕ) → i / w ≡ j / w → i % w ≡ j % w → i ≡ j
-same-index w i j e f = sym (div-add-mod' i w) ∙ rw (e, f) (div-add-mod' j w)
-
--- lists
-
-pub every-some : (p q r : ℕ → Bool) (l : List ℕ) → ((x : ℕ) → p x ≡ true → q x ≡ true → r x ≡ true) → every p l ≡ true → some q l ≡ true → some r l ≡ true
-unfolding some
-every-some p q r [] f e g = g
-every-some p q r (x ∷ xs) f e g = every-each p x xs e (λ a b. go (q x) refl (r x) refl a (every-some p q r xs f b))
-  where
-    go : (c : Bool) → q x ≡ c → (d : Bool) → r x ≡ d → p x ≡ true → (some q xs ≡ true → some r xs ≡ true) → (r x || some r xs) ≡ true
-    go true i d j a k = rw (f x a i)
-    go false i true j a k = rw j
-    go false i false j a k = rw j (k (rw i at g))
-
-pub every-more : (p q : ℕ → Bool) (l : List ℕ) → ((x : ℕ) → p x ≡ true → q x ≡ true) → every p l ≡ true → every q l ≡ true
-unfolding every
-every-more p q [] f e = refl
-every-more p q (x ∷ xs) f e = every-each p x xs e (λ a b. sym (yes _ (f x a, (every-more p q xs f b, tt))))
-
-pub some-gives : (C : Type 0) (p : ℕ → Bool) (l : List ℕ) → some p l ≡ true → ((x : ℕ) → p x ≡ true → C) → C
-unfolding some
-some-gives C p [] e f = not-both e refl
-some-gives C p (x ∷ xs) e f = go (p x) refl (some-gives C p xs)
-  where
-    go : (b : Bool) → p x ≡ b → (some p xs ≡ true → ((y : ℕ) → p y ≡ true → C) → C) → C
-    go true i r = f x i
-    go false i r = r (rw i at e) f
+use Rattle.wire.proofs.CountLaws.{count-one, count-both, count-same, count-named}
 
 -- a tile in the rectangle
 

@@ -7,9 +7,11 @@ use lib.ListN.{length}
 use borrow.Author.Tests.{eq-eqb, ne-eqb, not-true}
 use Rattle.wire.proofs.TestLaws.{yes, no, not-both}
 use Rattle.header.specs.Fields.{tileDirectoryReference}
-use Rattle.directory.specs.Lists.{countBelow, recordsOf}
-use Rattle.directory.specs.References.{refersTo, noOther, padded}
-use Rattle.directory.specs.TileDirectory.{tileDirectoryAt, formRight, rectangleRight, referenceCount, referencesEnd, gives, tilesListed, tilesOnly, tileDirectoryRight}
+use Rattle.record.specs.Chain.{recordsOf}
+use Rattle.wire.specs.Lists.{countBelow}
+use Rattle.directory.specs.References.{refersTo, noOther}
+use Rattle.record.specs.Record.{padded}
+use Rattle.directory.specs.TileDirectory.{tileDirectoryAt, formRight, rectangleRight, referenceCount, referencesEnd, gives, tilesListed, tileDirectoryRight}
 use Rattle.directory.proofs.OnlyLaws.{only-is}
 
 -- what an answer tells of the rule that it is equal to, where the code asks for its opposite

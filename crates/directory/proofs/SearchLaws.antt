@@ -1,62 +1,22 @@
 -- Rules over the records of a type, by a search for a record that keeps or breaks them. Assumes nothing.
 use Prim.Native.Nat.{ℕ}
 use mathlib.Core.Path.{_≡_, refl, sym, ap, _∙_}
-use mathlib.Core.List.{List, [], _∷_}
+use mathlib.Core.List.{List}
 use mathlib.Core.Bool.{Bool, true, false, not}
 use lib.Dec.{eqb}
 use borrow.Author.Tests.{ne-eqb}
-use Rattle.wire.specs.Pick.{pick}
 use Rattle.wire.specs.Tests.{both, passes}
-use Rattle.header.specs.Fields.{headerEnd}
 use Rattle.record.specs.declared.Found.{Found}
 use Rattle.record.specs.declared.Found.the-variants.{At, Nothing}
 use Rattle.record.specs.Record.{typeAt, contentAt}
-use Rattle.record.specs.Chain.{starts, find, firstRecord}
-use Rattle.check_records.specs.Chain.{records}
+use Rattle.record.specs.Chain.{starts, firstRecord, headerEnd, records, recordsOf}
+use Rattle.record.proofs.FindLaws.{isFound, some-found, every-found}
 use Rattle.check_records.specs.TileBody.{tileIndex}
 use Rattle.directory.specs.declared.Want.{Want}
 use Rattle.directory.specs.declared.Want.the-variants.{Referred, Other, Unlisted}
-use Rattle.directory.specs.Lists.{select, every, some, recordsOf}
 use Rattle.directory.specs.References.{refersTo, refersOrZero, noOther}
 use Rattle.directory.specs.TileDirectory.{tileReference, tilesListed}
 use Rattle.directory.specs.Search.{wants}
-
--- what a search found
-
-abbrev pub isFound : Found → Bool
-isFound Nothing = false
-isFound (At x) = true
-
--- some record that q selects has p; none that q selects lacks p
-
-module _ (p q w : ℕ → Bool) where
-  pub some-found : ((x : ℕ) → w x ≡ both (q x) (p x)) → (l : List ℕ) → some p (select q l) ≡ isFound (find w l)
-  unfolding some select find
-  some-found e [] = refl
-  some-found e (x ∷ xs) = go (q x) refl (p x) refl (some-found e xs)
-    where
-      go :
-          (a : Bool) → q x ≡ a → (b : Bool) → p x ≡ b → some p (select q xs) ≡ isFound (find w xs) →
-          some p (pick (q x) (x ∷ select q xs) (select q xs)) ≡ isFound (pick (w x) (At x) (find w xs))
-      go true f true g r = rw (e x, f, g)
-      go true f false g r = rw (e x, f, g) r
-      go false f b g r = rw (e x, f) r
-
-  pub every-found : ((x : ℕ) → w x ≡ both (q x) (not (p x))) → (l : List ℕ) → every p (select q l) ≡ not (isFound (find w l))
-  unfolding every select find passes
-  every-found e [] = refl
-  every-found e (x ∷ xs) = go (q x) refl (p x) refl (every-found e xs)
-    where
-      plain : (b : Bool) → both b true ≡ b
-      plain true = refl
-      plain false = refl
-
-      go :
-          (a : Bool) → q x ≡ a → (b : Bool) → p x ≡ b → every p (select q xs) ≡ not (isFound (find w xs)) →
-          every p (pick (q x) (x ∷ select q xs) (select q xs)) ≡ not (isFound (pick (w x) (At x) (find w xs)))
-      go true f true g r = rw (e x, f, g, plain) r
-      go true f false g r = rw (e x, f, g)
-      go false f b g r = rw (e x, f) r
 
 -- by what is looked for
 

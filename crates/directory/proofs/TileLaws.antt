@@ -5,15 +5,15 @@ use mathlib.Core.List.{List}
 use mathlib.Core.Bool.{Bool, true, false}
 use native.Mathlib.Omega.{arith}
 use lib.ListN.{length}
-use Rattle.directory.specs.Lists.{oneIf}
-use Rattle.directory.proofs.CountLaws.{one-yes, one-no}
+use Rattle.wire.proofs.CountLaws.{one-yes, one-no}
+use Rattle.wire.specs.Lists.{oneIf}
 use borrow.Author.Tests.{ne-eqb}
 use Rattle.wire.specs.Bytes.{numberAt}
 use Rattle.wire.proofs.TestLaws.{yes, no}
 use Rattle.wire.proofs.ByteLaws.{number-out}
 use Rattle.geometry.specs.Tiles.{tilesAcross}
 use Rattle.directory.specs.TileDirectory.{tileDirectoryAt, directoryFormat, standardReferences, firstRow, firstColumn, listedColumns, referenceCount, inSpan, referenceAt, referenceOf, referenceFrom, inRectangle, numberOf, referenceSize, referencesEnd, gives, formRight}
-use Rattle.directory.specs.References.{padded}
+use Rattle.record.specs.Record.{padded}
 
 -- the form
 

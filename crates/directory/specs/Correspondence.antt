@@ -6,7 +6,7 @@ use mathlib.Core.List.{List, List·Memᴰ}
 use Rattle.record.specs.Record.{contentAt}
 use Rattle.geometry.specs.Tiles.{tileCount}
 use Rattle.check_records.specs.TileBody.{tileIndex}
-use Rattle.directory.specs.Lists.{recordsOf}
+use Rattle.record.specs.Chain.{recordsOf}
 use Rattle.directory.specs.TileDirectory.{tileReference}
 
 -- a tile record with index i whose content the directory gives for it

@@ -1,4 +1,3 @@
-pub mod Lists
 pub mod References
 pub mod TileDirectory
 pub mod Search

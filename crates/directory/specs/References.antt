@@ -1,14 +1,13 @@
 -- Document 01, stage 9: the three references of the header, and that no other record of types 3 to 5 exists.
-use Prim.Native.Nat.{ℕ, _+_}
-use mathlib.Core.List.{List, [], _∷_}
+use Prim.Native.Nat.{ℕ}
+use mathlib.Core.List.{List}
 use mathlib.Core.Bool.{Bool, _||_}
 use lib.Dec.{eqb}
 use Rattle.wire.specs.Pick.{pick}
 use Rattle.wire.specs.Bytes.{u32At}
-use Rattle.wire.specs.Tests.{_≤?_, passes}
 use Rattle.record.specs.Record.{contentAt}
-use Rattle.check_records.specs.Chain.{recordLimit}
-use Rattle.directory.specs.Lists.{every, some, recordsOf}
+use Rattle.record.specs.Chain.{recordsOf}
+use Rattle.wire.specs.Lists.{every, some}
 
 -- a reference is the content, start plus 8, of a record of a type
 unfoldable pub refersTo : List ℕ → ℕ → ℕ → Bool
@@ -26,7 +25,3 @@ noOther s kind reference = every (λ x. eqb (contentAt x) reference) (recordsOf 
 -- the reference is zero
 unfoldable pub entryCount : List ℕ → ℕ → ℕ
 entryCount s reference = pick (eqb reference 0) 0 (u32At s reference)
-
--- counts fit their record with 0 to 7 padding bytes: the last entry ends at `end`
-unfoldable pub padded : List ℕ → ℕ → ℕ → Bool
-padded s at end = passes ((end ≤? recordLimit s at) ∷ (recordLimit s at ≤? end + 7) ∷ [])

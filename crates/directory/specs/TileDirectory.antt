@@ -7,11 +7,12 @@ use Rattle.wire.specs.Pick.{pick}
 use Rattle.wire.specs.Tests.{_≤?_, _≡?_, is, passes, allBelow}
 use Rattle.wire.specs.Bytes.{byteAt, u32At, u64At, largestInteger}
 use Rattle.header.specs.Fields.{tileDirectoryReference}
-use Rattle.record.specs.Record.{contentAt}
+use Rattle.record.specs.Record.{contentAt, padded}
 use Rattle.geometry.specs.Tiles.{tilesAcross, tilesDown, tileCount}
 use Rattle.check_records.specs.TileBody.{tileIndex}
-use Rattle.directory.specs.Lists.{every, some, recordsOf}
-use Rattle.directory.specs.References.{refersTo, noOther, padded}
+use Rattle.record.specs.Chain.{recordsOf}
+use Rattle.wire.specs.Lists.{every, some}
+use Rattle.directory.specs.References.{refersTo, noOther}
 
 -- the start of the record that the header refers to
 unfoldable pub tileDirectoryAt : List ℕ → ℕ

@@ -1,16 +1,15 @@
 // Stage 9: the header's references, and records that they give or do not give.
 use crate::Want;
 use crate::tile_directory;
-use header::fields;
 use record::Cursor;
 use record::Found;
 use record::Step;
+use record::chain;
 ghost use mathlib.Core.Path.{_≡_};
+ghost use Rattle.record.specs.Record.{typeAt};
+ghost use Rattle.record.specs.Chain.{headerEnd, firstRecord};
 ghost use Prim.Native.Nat.{_<_};
 ghost use lib.ListN.{length};
-ghost use Rattle.directory.specs.Lists.{recordsOf};
-ghost use Rattle.record.specs.Chain.{firstRecord};
-ghost use Rattle.header.specs.Fields.{headerEnd};
 ghost use Rattle.check_records.specs.TileBody.{tileIndex};
 ghost use Rattle.directory.specs.References.{refersTo, refersOrZero, noOther};
 ghost use Rattle.directory.specs.TileDirectory.{tileReference, tilesListed};
@@ -23,12 +22,12 @@ fn own_reference(s: &[u8], at: usize) -> u64
     tile_directory::tile_reference(s, wire::u32_off(s, at, 8))
 }
 
-// Whether a record at a position is a tile record that is not listed at its own index.
-fn unlisted(s: &[u8], at: usize) -> bool
-    requires { ⌜ at < length (now s) ⌝ }
+// Whether the record of a type at a position is a tile record that is not listed at its own index.
+fn unlisted(s: &[u8], own: u32, at: usize) -> bool
+    requires { ⌜ (own ≡ typeAt (now s) at) × (at < length (now s)) ⌝ }
     ensures { λ r. ⌜ r ≡ wants (now (s .entry)) Want.Unlisted at ⌝ }
 {
-    if wire::byte_off(s, at, 4) != 2 {
+    if own != 2 {
         return false;
     }
     if own_reference(s, at) == (at as u64) + 8 {
@@ -37,11 +36,11 @@ fn unlisted(s: &[u8], at: usize) -> bool
     true
 }
 
-fn referred(s: &[u8], kind: u32, reference: u64, at: usize) -> bool
-    requires { ⌜ at < length (now s) ⌝ }
+fn referred(s: &[u8], own: u32, kind: u32, reference: u64, at: usize) -> bool
+    requires { ⌜ (own ≡ typeAt (now s) at) × (at < length (now s)) ⌝ }
     ensures { λ r. ⌜ r ≡ wants (now (s .entry)) (Want.Referred kind reference) at ⌝ }
 {
-    if wire::byte_off(s, at, 4) != kind {
+    if own != kind {
         return false;
     }
     if (at as u64) + 8 != reference {
@@ -50,11 +49,11 @@ fn referred(s: &[u8], kind: u32, reference: u64, at: usize) -> bool
     true
 }
 
-fn other(s: &[u8], kind: u32, reference: u64, at: usize) -> bool
-    requires { ⌜ at < length (now s) ⌝ }
+fn other(s: &[u8], own: u32, kind: u32, reference: u64, at: usize) -> bool
+    requires { ⌜ (own ≡ typeAt (now s) at) × (at < length (now s)) ⌝ }
     ensures { λ r. ⌜ r ≡ wants (now (s .entry)) (Want.Other kind reference) at ⌝ }
 {
-    if wire::byte_off(s, at, 4) != kind {
+    if own != kind {
         return false;
     }
     if (at as u64) + 8 == reference {
@@ -63,15 +62,15 @@ fn other(s: &[u8], kind: u32, reference: u64, at: usize) -> bool
     true
 }
 
-// Whether a record is what is looked for.
-fn is_wanted(s: &[u8], want: Want, at: usize) -> bool
-    requires { ⌜ at < length (now s) ⌝ }
+// Whether the record of a type at a position is what is looked for.
+fn is_wanted(s: &[u8], want: Want, own: u32, at: usize) -> bool
+    requires { ⌜ (own ≡ typeAt (now s) at) × (at < length (now s)) ⌝ }
     ensures { λ r. ⌜ r ≡ wants (now (s .entry)) want at ⌝ }
 {
     match want {
-        Want::Referred { kind, reference } => referred(s, kind, reference, at),
-        Want::Other { kind, reference } => other(s, kind, reference, at),
-        Want::Unlisted => unlisted(s, at),
+        Want::Referred { kind, reference } => referred(s, own, kind, reference, at),
+        Want::Other { kind, reference } => other(s, own, kind, reference, at),
+        Want::Unlisted => unlisted(s, own, at),
     }
 }
 
@@ -80,32 +79,22 @@ pub fn find_record(s: &[u8], want: Want) -> Found
     ensures { λ r. ⌜ r ≡ firstRecord (now (s .entry)) (headerEnd (now (s .entry))) (wants (now (s .entry)) want) ⌝ }
 {
     let mut c = Cursor {
-        at: fields::header_end(s),
+        at: chain::header_end(s),
     };
     loop {
-        match c.step(s) {
-            Step::Record {
-                kind: _,
-                start,
-                length: _,
-                next,
-            } => {
-                if is_wanted(s, want, start) {
-                    return Found::At(start);
-                }
-                c = next;
-            }
-            Step::Bad => {
-                let start = c.at;
-                if is_wanted(s, want, start) {
-                    return Found::At(start);
-                }
-                return Found::Nothing;
-            }
-            Step::End => {
-                return Found::Nothing;
-            }
+        let Step::Record {
+            kind,
+            start,
+            length: _,
+            next,
+        } = c.step(s)
+        else {
+            return Found::Nothing;
+        };
+        if is_wanted(s, want, kind, start) {
+            return Found::At(start);
         }
+        c = next;
     }
 }
 
@@ -147,38 +136,4 @@ pub fn tiles_listed(s: &[u8]) -> bool
         return false;
     }
     true
-}
-
-// How many records of a type a file has.
-pub fn record_count(s: &[u8], kind: u32) -> usize
-    ensures { λ r. ⌜ r ≡ length (recordsOf (now (s .entry)) kind) ⌝ }
-{
-    let mut c = Cursor {
-        at: fields::header_end(s),
-    };
-    let mut found = 0;
-    loop {
-        match c.step(s) {
-            Step::Record {
-                kind: k,
-                start: _,
-                length: _,
-                next,
-            } => {
-                if k == kind {
-                    found += 1;
-                }
-                c = next;
-            }
-            Step::Bad => {
-                if wire::byte_off(s, c.at, 4) == kind {
-                    found += 1;
-                }
-                return found;
-            }
-            Step::End => {
-                return found;
-            }
-        }
-    }
 }

@@ -1,18 +1,18 @@
 // Stage 9: the tile directory's fields and references.
-use crate::entries;
 use geometry::tiles;
 use header::fields;
+use record::frame;
 ghost use mathlib.Core.Path.{_≡_};
 ghost use Prim.Native.Nat.{_-_, _≤_};
 ghost use Rattle.geometry.specs.Tiles.{tilesAcross, tilesDown};
 ghost use Rattle.directory.specs.TileDirectory.{tileDirectoryAt, directoryFormat, standardReferences, firstRow, firstColumn, listedRows, listedColumns, formRight, spanRight, rectangleRight, referenceCount, referenceAt, referenceOf, referenceFrom, tileReference, inSpan, inRectangle, numberOf, referenceSize, referencesEnd};
-ghost use Rattle.directory.specs.References.{padded};
+ghost use Rattle.record.specs.Record.{padded};
 
 // The start of the record that the header refers to.
 pub fn tile_directory_at(s: &[u8]) -> usize
     ensures { λ r. ⌜ r ≡ tileDirectoryAt (now (s .entry)) ⌝ }
 {
-    entries::record_of(fields::tile_directory_reference(s))
+    frame::record_of(fields::tile_directory_reference(s))
 }
 
 // The fields of a tile directory, whose record starts at a position.
@@ -225,7 +225,7 @@ pub fn reference_count(s: &[u8]) -> u64
 pub fn references_fit(s: &[u8]) -> bool
     ensures { λ r. ⌜ r ≡ padded (now (s .entry)) (tileDirectoryAt (now (s .entry))) (referencesEnd (now (s .entry))) ⌝ }
 {
-    entries::entries_fit(
+    frame::entries_fit(
         s,
         tile_directory_at(s),
         32,

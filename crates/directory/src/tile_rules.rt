@@ -2,9 +2,10 @@
 use crate::references;
 use crate::tile_directory;
 use header::fields;
+use record::chain;
 ghost use mathlib.Core.Path.{_≡_};
 ghost use Prim.Native.Nat.{_≤_};
-ghost use Rattle.directory.specs.Lists.{oneIf, countBelow};
+ghost use Rattle.wire.specs.Lists.{oneIf, countBelow};
 ghost use Rattle.directory.specs.TileDirectory.{referenceCount, gives, tileDirectoryRight};
 
 // 1 where reference number k is not zero, else 0.
@@ -57,7 +58,7 @@ pub fn tile_directory_right(s: &[u8]) -> bool
     if !references::tiles_listed(s) {
         return false;
     }
-    let tiles = references::record_count(s, 2) as u64;
+    let tiles = chain::record_count(s, 2) as u64;
     if references_given(s) != tiles {
         return false;
     }

@@ -1,3 +1,4 @@
 pub mod TileLaws
 pub mod SizeLaws
 pub mod Samples
+pub mod GridLaws

@@ -1,10 +1,10 @@
 -- Numbers written at the front of a list, one after the other. Assumes nothing.
-use Prim.Native.Nat.{ℕ, _≤_}
-use mathlib.Core.Path.{_≡_, refl, sym, ap, _∙_}
+use Prim.Native.Nat.{ℕ}
+use mathlib.Core.Path.{_≡_, refl, ap, _∙_}
 use mathlib.Core.List.{List, [], _∷_}
 use mathlib.Core.Bool.{Bool, true, false}
 use native.Mathlib.Omega.{arith}
-use lib.ListN.{length, set}
+use lib.ListN.{set}
 use lib.Dec.{eqb}
 use borrow.Author.Tests.{eqb-true, ne-eqb}
 use Rattle.wire.specs.Pick.{pick}
@@ -15,7 +15,7 @@ use Rattle.answer.specs.declared.Laid.{Laid}
 use Rattle.answer.specs.Refusals.{verdictNumber, verdictPlace}
 use Rattle.answer.specs.Answers.{cellKind, cellType, cellBits, cellPlace, contentKind, contentPlace, contentLength, laidNumber}
 use Rattle.page_check.specs.Stages.{check}
-use Rattle.cells.specs.Reads.{readByDirectory, readByWalk, readByRecords, readMeaning, recordsMeaning, readContent}
+use Rattle.cells.specs.Reads.{readByDirectory, readByWalk, readByRecords, readMeaning, recordsMeaning}
 use Rattle.cells.proofs.ReadLaws.{directory-read, walk-read, records-read}
 use Rattle.gvrs_c.specs.Report.{reported, cellNumbers, contentNumbers, laidReport}
 use Rattle.gvrs_c.specs.Route.{readBy, meaningBy, RouteMeans}

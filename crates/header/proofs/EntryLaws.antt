@@ -3,33 +3,14 @@ use Prim.Native.Nat.{ℕ, _+_, _*_, _/_, _-_, _≤_, _<_}
 use mathlib.Core.Path.{_≡_}
 use mathlib.Core.List.{List}
 use native.Mathlib.Omega.{arith}
-use lib.ListN.{length}
 use borrow.Author.Tests.{ne-eqb}
 use Rattle.wire.specs.Bytes.{byteAt, numberAt, u16At}
 use Rattle.wire.specs.Items.{advance}
 use Rattle.wire.proofs.ItemLaws.{items-step}
 use Rattle.header.specs.declared.Element.{Element}
-use Rattle.header.specs.Fields.{headerEnd, headerLimit, elementCount}
+use Rattle.header.specs.Fields.{headerLimit, elementCount}
 use Rattle.header.specs.Element.{stringSize, stringEnd, blockSize, fillOffset, cellSize, blockAt, labelAt, descriptionAt, unitAt, entryEnd, fillBits, entryAt, entryStart, entriesRead}
 use Rattle.header.specs.Tail.{methodsAt, methodCount, productLabelAt, fieldsEnd}
-
--- the header's last four bytes
-
-pub limit-none : (s : List ℕ) → length s < 4 → 0 ≡ headerLimit s
-unfolding headerLimit
-limit-none s h = omega arith
-
-pub limit-room : (s : List ℕ) (e : ℕ) → e ≡ headerEnd s → 4 ≤ e
-unfolding headerEnd
-limit-room s e p = omega arith
-
-pub limit-end : (s : List ℕ) (e : ℕ) → e ≡ headerEnd s → e ≤ length s → e - 4 ≡ headerLimit s
-unfolding headerLimit
-limit-end s e p h = omega arith
-
-pub limit-short : (s : List ℕ) (e : ℕ) → e ≡ headerEnd s → length s < e → length s - 4 ≡ headerLimit s
-unfolding headerLimit
-limit-short s e p h = omega arith
 
 -- an entry, from its parts
 

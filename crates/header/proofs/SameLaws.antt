@@ -12,7 +12,9 @@ use Rattle.wire.specs.Bytes.{byteAt, u16At, u32At, part, Same}
 use Rattle.wire.specs.Items.{advance}
 use Rattle.wire.proofs.ByteLaws.{number-same, part-same, byte-same}
 use Rattle.wire.proofs.ItemLaws.{advance-grows, advance-same, advance-mono, advance-more}
-use Rattle.header.specs.Fields.{headerEnd, headerLimit, elementCount}
+use Rattle.header.specs.Fields.{headerLimit, elementCount}
+use Rattle.record.specs.Record.{recordLimit}
+use Rattle.record.specs.Chain.{headerEnd}
 use Rattle.header.specs.Element.{stringSize, stringEnd, blockSize, fillOffset, cellSize, blockAt, labelAt, descriptionAt, unitAt, entryEnd, fillBits, entryAt, entryStart, element, elementName}
 use Rattle.header.specs.Tail.{methodsAt, methodCount, productLabelAt, fieldsEnd}
 
@@ -87,7 +89,7 @@ start-least s j = advance-grows (entryEnd s) (headerLimit s) (entry-grows s) j 2
 
 -- the header's checksum starts four bytes before its end, where the bytes hold it
 pub limit-is : (s : List ℕ) → headerEnd s ≤ length s → headerLimit s ≡ headerEnd s - 4
-unfolding headerLimit
+unfolding recordLimit headerEnd
 limit-is s h = omega arith
 
 -- a string, and an entry that ends by b, are the same in s and t where the bytes from a up to b are
@@ -151,7 +153,7 @@ pub record SameRest (s t : List ℕ) : Type 0 where
 
 module _ (s t : List ℕ) (r : SameRest s t) where
   pub limit-same : headerLimit s ≡ headerLimit t
-  unfolding headerLimit
+  unfolding recordLimit headerEnd
   limit-same = omega (arith, r .in-first, r .in-second, r .length-same)
 
   pub start-same : (k : ℕ) → entryStart s k ≤ headerLimit s → entryStart s k ≡ entryStart t k

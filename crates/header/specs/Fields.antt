@@ -1,9 +1,9 @@
 -- G Table 7, the fields of the header record at fixed places; the record starts at 16. A position is an offset of the
 -- table plus 16.
-use Prim.Native.Nat.{ℕ, _+_, _-_, min}
+use Prim.Native.Nat.{ℕ}
 use mathlib.Core.List.{List}
-use lib.ListN.{length}
 use Rattle.wire.specs.Bytes.{byteAt, u32At, u64At}
+use Rattle.record.specs.Record.{recordLimit}
 
 -- offset 0
 abbrev pub headerLength : List ℕ → ℕ
@@ -65,11 +65,6 @@ coordinateSystem s = byteAt s 130
 abbrev pub elementCount : List ℕ → ℕ
 elementCount s = u32At s 280
 
--- the position behind the header record
-unfoldable pub headerEnd : List ℕ → ℕ
-headerEnd s = 16 + headerLength s
-
--- where the header's checksum starts, its last four bytes, if the bytes hold the whole header; otherwise four before the
--- bytes' end, which only bounds the reading
-unfoldable pub headerLimit : List ℕ → ℕ
-headerLimit s = min (headerEnd s) (length s) - 4
+-- where the header's checksum starts, which is that of the record at 16
+abbrev pub headerLimit : List ℕ → ℕ
+headerLimit s = recordLimit s 16

@@ -1,8 +1,9 @@
 // G Table 7: the fields of the header record at fixed places.
+use record::frame;
 ghost use mathlib.Core.Path.{_≡_};
-ghost use Prim.Native.Nat.{_+_, _≤_};
+ghost use Prim.Native.Nat.{_≤_};
 ghost use lib.ListN.{length};
-ghost use Rattle.header.specs.Fields.{headerLength, headerType, timeModified, timeOpened, fileSpaceReference, metadataReference, tileDirectoryReference, gridRows, gridColumns, tileRows, tileColumns, checksumEnabled, rasterSpace, coordinateSystem, elementCount, headerEnd, headerLimit};
+ghost use Rattle.header.specs.Fields.{headerLength, headerType, timeModified, timeOpened, fileSpaceReference, metadataReference, tileDirectoryReference, gridRows, gridColumns, tileRows, tileColumns, checksumEnabled, rasterSpace, coordinateSystem, elementCount, headerLimit};
 
 pub fn header_length(s: &[u8]) -> u32
     ensures { λ r. ⌜ r ≡ headerLength (now (s .entry)) ⌝ }
@@ -94,24 +95,10 @@ pub fn element_count(s: &[u8]) -> u32
     wire::u32_at(s, 280)
 }
 
-// The position behind the header record.
-pub fn header_end(s: &[u8]) -> usize
-    ensures { λ r. ⌜ r ≡ headerEnd (now (s .entry)) ⌝ }
-{
-    16 + header_length(s) as usize
-}
-
 // The position of the header's last four bytes, no further than the bytes go.
 pub fn header_limit(s: &[u8]) -> usize
     ensures is { λ r. ⌜ r ≡ headerLimit (now (s .entry)) ⌝ }
     ensures inside { λ r. ⌜ r ≤ length (now (s .entry)) ⌝ }
 {
-    let end = header_end(s);
-    if s.len() < 4 {
-        return 0;
-    }
-    if end <= s.len() {
-        return end - 4;
-    }
-    s.len() - 4
+    frame::record_limit(s, 16)
 }

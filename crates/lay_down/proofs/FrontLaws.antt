@@ -12,7 +12,8 @@ use lib.Seq.{getD-set-same, getD-set-other}
 use Rattle.wire.proofs.TestLaws.{means, sum-more, sum-within}
 use Rattle.answer.specs.declared.Verdict.the-variants.{Accepted}
 use Rattle.answer.proofs.VerdictLaws.{gate-passed}
-use Rattle.header.specs.Fields.{elementCount, headerEnd}
+use Rattle.header.specs.Fields.{elementCount}
+use Rattle.record.specs.Chain.{headerEnd}
 use Rattle.header.specs.Element.{entriesRead}
 use Rattle.geometry.specs.Tiles.{tileCount}
 use Rattle.geometry.specs.Sizes.{storedSize, leastLength, tileLength, cap, elementBytes, tileBytes, plainTileLength}

@@ -13,8 +13,8 @@ use Rattle.answer.specs.declared.Refusal.{Refusal}
 use Rattle.answer.specs.declared.Refusal.the-variants.{Ceiling, Input, Room}
 use Rattle.answer.specs.declared.Verdict.{Verdict}
 use Rattle.answer.specs.declared.Verdict.the-variants.{Accepted, Refused}
-use Rattle.answer.specs.Refusals.{gate, after}
-use Rattle.answer.proofs.VerdictLaws.{gate-passed, after-passed}
+use Rattle.answer.specs.Refusals.{gate, unlessRefused}
+use Rattle.answer.proofs.VerdictLaws.{gate-passed, behind-passed}
 use Rattle.geometry.specs.Tiles.{tileCount}
 use Rattle.geometry.specs.Sizes.{cap, tileBytes, plainTileLength}
 use Rattle.check_header.specs.Stages.{checkFront}
@@ -78,13 +78,13 @@ module _ (f : List ℕ) (t : ℕ) (ix c : List ℕ) (room : ℕ) (b : Bool) (p :
     judged-done h k = rw (← p, q, le-leb (fileLength f ix) 16777216 (omega arith), le-leb (fileLength f ix) room (omega arith))
 
 pub judged-front : (f : List ℕ) (t : ℕ) (ix c : List ℕ) (room : ℕ) (v : Verdict) (r : Refusal) → v ≡ checkFront f → v ≡ Refused r → Refused r ≡ judged f t ix c room
-unfolding judged after
+unfolding judged unlessRefused
 judged-front f t ix c room v r p e = rw (← p, e)
 
 pub judged-behind :
     (f : List ℕ) (t : ℕ) (ix c : List ℕ) (room : ℕ) (v w : Verdict) → v ≡ checkFront f → v ≡ Accepted → w ≡ judgedInput f t ix c room →
     w ≡ judged f t ix c room
-unfolding judged after
+unfolding judged unlessRefused
 judged-behind f t ix c room v w p e q = rw (← p, e) q
 
 -- what a lay-down that is not refused was given
@@ -102,7 +102,7 @@ pub record Passed (f : List ℕ) (t : ℕ) (ix c : List ℕ) (room : ℕ) : Type
 pub passed-of : (f : List ℕ) (t : ℕ) (ix c : List ℕ) (room : ℕ) → judged f t ix c room ≡ Accepted → Passed f t ix c room
 unfolding judged judgedInput lengthAllowed fitsIn fileLength directoryStart
 passed-of f t ix c room e =
-    let a = after-passed _ _ e in
+    let a = behind-passed _ _ e in
     let b = gate-passed _ _ _ (a .1) in
     let d = gate-passed _ _ _ (b .1) in
     let g = gate-passed _ _ _ (d .1) in

@@ -10,12 +10,13 @@ use Rattle.answer.specs.declared.Laid.the-variants.{Length, Refused}
 use Rattle.answer.specs.declared.Refusal.{Refusal}
 use Rattle.answer.specs.declared.Verdict.{Verdict}
 use Rattle.answer.specs.declared.Verdict.the-variants as verdict
+use Rattle.answer.specs.Refusals.{unlessRefused}
 use Rattle.record.specs.Chain.{joined}
 use Rattle.geometry.specs.Tiles.{tileCount}
 use Rattle.geometry.specs.Sizes.{tileBytes, plainTileLength}
 use Rattle.lay_down.specs.Pieces.{recordLength}
 use Rattle.lay_down.specs.Page.{tileRecords, directoryRecord, directoryStart, fileLength, laidFront, laidFile}
-use Rattle.lay_down.specs.Answer.{judged, lengthUnless, laid, laidOut}
+use Rattle.lay_down.specs.Answer.{judged, laid, laidOut}
 use Rattle.lay_down.proofs.PageLaws.{tiles-length, directory-length, front-length, laid-length}
 use Rattle.lay_down.proofs.FrontLaws.{Front, front-of}
 use Rattle.lay_down.proofs.JudgeLaws.{passed-of}
@@ -38,13 +39,13 @@ page-put d a b l t at f ix c p q r e front h k =
 -- what a lay-down answers, and what the buffer holds
 module _ (f : List ℕ) (t : ℕ) (ix c d : List ℕ) (v : Verdict) (p : v ≡ judged f t ix c (length d)) where
   pub laid-refused : (r : Refusal) → v ≡ verdict.Refused r → (Refused r ≡ laid f t ix c (length d)) × (d ≡ laidOut f t ix c d)
-  unfolding laid laidOut lengthUnless
+  unfolding laid laidOut unlessRefused
   laid-refused r e = (rw (← p, e), rw (← p, e))
 
   pub laid-done :
       (n : ℕ) (l : List ℕ) → v ≡ verdict.Accepted → n ≡ fileLength f ix → l ≡ put d 0 (laidFile f t ix c) →
       (Length n ≡ laid f t ix c (length d)) × (l ≡ laidOut f t ix c d)
-  unfolding laid laidOut lengthUnless
+  unfolding laid laidOut unlessRefused
   laid-done n l e g q =
       let w = passed-of f t ix c (length d) (sym p ∙ e) in
       let ll : length (laidFile f t ix c) ≡ fileLength f ix = laid-length f t ix c (front-of f (w .front) .all) (w .cells) in

@@ -9,7 +9,7 @@ use Rattle.answer.specs.declared.Verdict.{Verdict}
 use Rattle.answer.specs.declared.Verdict.the-variants as verdict
 use Rattle.answer.specs.declared.Laid.{Laid}
 use Rattle.answer.specs.declared.Laid.the-variants.{Length, Refused}
-use Rattle.answer.specs.Refusals.{gate, after}
+use Rattle.answer.specs.Refusals.{gate, unlessRefused}
 use Rattle.geometry.specs.Tiles.{tileCount}
 use Rattle.geometry.specs.Sizes.{tileBytes}
 use Rattle.check_header.specs.Stages.{checkFront}
@@ -38,15 +38,11 @@ judgedInput f t ix c room = gate (inputRight f t ix c) Input (gate (lengthAllowe
 
 -- before that, the front passes stages 1 to 4 taken by itself
 unfoldable pub judged : List ℕ → ℕ → List ℕ → List ℕ → ℕ → Verdict
-judged f t ix c room = after (checkFront f) (judgedInput f t ix c room)
+judged f t ix c room = unlessRefused verdict.Refused (checkFront f) (judgedInput f t ix c room)
 
 -- the answer is the file's length, or the refusal
-unfoldable pub lengthUnless : Verdict → ℕ → Laid
-lengthUnless verdict.Accepted n = Length n
-lengthUnless (verdict.Refused r) n = Refused r
-
 unfoldable pub laid : List ℕ → ℕ → List ℕ → List ℕ → ℕ → Laid
-laid f t ix c room = lengthUnless (judged f t ix c room) (fileLength f ix)
+laid f t ix c room = unlessRefused Refused (judged f t ix c room) (Length (fileLength f ix))
 
 -- done, the buffer is the file, and bytes behind it stay; refused, it is as it was
 abbrev pub written : Laid → List ℕ → List ℕ → List ℕ

@@ -3,7 +3,6 @@ use crc32c;
 use wire::writing;
 ghost use mathlib.Core.Path.{_≡_};
 ghost use Prim.Native.Nat.{_-_};
-ghost use lib.ListN.{length};
 ghost use Rattle.wire.specs.Pick.{roundUp};
 ghost use Rattle.wire.specs.Bytes.{part, put};
 ghost use Rattle.lay_down.specs.Pieces.{zeros, checksumFor, recordHead, section, sealed, closedAt};

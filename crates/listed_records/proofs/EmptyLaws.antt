@@ -6,7 +6,8 @@ use mathlib.Core.Bool.{Bool, true}
 use Rattle.wire.specs.Tests.{allBelow}
 use Rattle.wire.proofs.TestLaws.{yes}
 use Rattle.header.specs.Fields.{metadataReference, fileSpaceReference}
-use Rattle.directory.specs.Lists.{every, recordsOf}
+use Rattle.record.specs.Chain.{recordsOf}
+use Rattle.wire.specs.Lists.{every}
 use Rattle.directory.specs.References.{refersOrZero, noOther, entryCount}
 use Rattle.listed_records.specs.Listed.{listedOnce, nothingElse}
 use Rattle.listed_records.specs.Metadata.{metadataCount, metadataEntryIs, metadataListed, metadataOnly, keysDistinct, metadataFits, metadataDirectoryRight}

@@ -8,16 +8,13 @@ use lib.ListN.{length}
 use lib.Dec.{eqb}
 use Rattle.wire.specs.Tests.{both, passes}
 use Rattle.wire.proofs.TestLaws.{no, not-both, either-way, below-each, below-all}
-use Rattle.header.specs.Fields.{headerEnd}
 use Rattle.record.specs.declared.Found.{Found}
 use Rattle.record.specs.declared.Found.the-variants.{At, Nothing}
 use Rattle.record.specs.Record.{typeAt}
-use Rattle.record.specs.Chain.{starts, firstRecord}
-use Rattle.check_records.specs.Chain.{records}
-use Rattle.directory.specs.Lists.{every, some, countBelow, recordsOf}
-use Rattle.directory.proofs.SearchLaws.{isFound, some-found}
-use Rattle.directory.proofs.CountLaws.{count-all, count-both, count-same, count-named}
-use Rattle.directory.proofs.OnlyLaws.{records-behind}
+use Rattle.record.specs.Chain.{starts, firstRecord, headerEnd, records, recordsOf}
+use Rattle.wire.proofs.CountLaws.{count-all, count-both, count-same, count-named}
+use Rattle.record.proofs.FindLaws.{isFound, some-found, records-behind}
+use Rattle.wire.specs.Lists.{every, some, countBelow}
 use Rattle.listed_records.specs.declared.Listing.{Listing}
 use Rattle.listed_records.specs.Listed.{listedOnce, nothingElse}
 use Rattle.listed_records.specs.Metadata.{sameKey}

@@ -3,29 +3,31 @@
 use Prim.Native.Nat.{ℕ, _+_, _*_, _/_, _%_, _≤_, _<_}
 use mathlib.Core.Path.{_≡_, refl, sym, ap, _∙_}
 use mathlib.Core.List.{List, [], _∷_, List·Memᴰ, List·Memᴰ·head, List·Memᴰ·tail, List·Memᴰ·not-nil, List·Memᴰ·cases-cons}
-use mathlib.Core.Logic.{⊎-elim}
+use mathlib.Core.Logic.{⊎-elim, _⊎_}
 use mathlib.Core.Bool.{Bool, true, false, not, _||_}
 use native.Mathlib.Omega.{arith}
 use native.Mathlib.Nat.{mod-lt}
 use lib.ListN.{length, getD, set, replicate, length-set, length-replicate}
 use lib.Seq.{set-out, getD-set-same, getD-set-other}
+use denote.Enum.Declared.{tagOf}
 use lib.Dec.{leb, eqb}
 use borrow.Author.Tests.{eqb-true, eqb-false, ne-eqb, le-leb, lt-leb}
 use Rattle.wire.specs.Tests.{_≡?_, is, passes, allBelow}
-use Rattle.wire.proofs.TestLaws.{means, yes, no, no-true, not-both, either-way, below-none, below-more, below-each}
+use Rattle.wire.proofs.TestLaws.{means, yes, no, no-true, not-both, below-none, below-more, below-each}
 use Rattle.wire.proofs.ByteLaws.{same-is}
 use Rattle.crc32c.specs.Crc.{crcOf}
-use Rattle.header.specs.Fields.{headerEnd}
 use Rattle.record.specs.declared.Cursor.{Cursor}
 use Rattle.record.specs.declared.Step.{Step}
-use Rattle.record.specs.declared.Step.the-variants.{Record, Bad, End}
+use Rattle.record.specs.declared.Step.the-variants.{Record}
 use Rattle.record.specs.Record.{typeAt, stepAt}
-use Rattle.record.specs.Chain.{starts}
-use Rattle.record.proofs.ChainLaws.{stepped, stepped-bad, stepped-end, starts-end, starts-bad, starts-record, less}
-use Rattle.check_records.specs.Chain.{records}
+use Rattle.record.specs.Chain.{starts, headerEnd, records, recordsOf}
+use Rattle.record.proofs.ChainLaws.{stepped, starts-none, starts-record, less}
+use Rattle.record.proofs.SeekLaws.{over, seek-type}
+use Rattle.record.proofs.Step.{the-type}
 use Rattle.check_records.specs.MetadataBody.{metadataName, recordId}
-use Rattle.directory.specs.Lists.{some, recordsOf}
-use Rattle.directory.proofs.MemberLaws.{every-member, member-every, member-some, of-type, type-of}
+use Rattle.record.proofs.FindLaws.{of-type, type-of}
+use Rattle.wire.proofs.ListLaws.{every-member, member-every, member-some}
+use Rattle.wire.specs.Lists.{some}
 use Rattle.listed_records.specs.Metadata.{sameKey, keysDistinct}
 use Rattle.listed_records.specs.Search.{hasTwin}
 use Rattle.listed_records.specs.Keys.{keyHash, keySlot, keyFine, keySeen, allFine, partDistinct}
@@ -111,7 +113,7 @@ module _ (s : List ℕ) (parts part : ℕ) (seen : List ℕ) (at : ℕ) (now : L
           let f : keyFine s parts part now at ≡ true = rw (← h .start) (sym p ∙ e) in
           let o : next ≡ keySeen s parts part now at = q ∙ rw (h .start) in
           let w : allFine s parts part now (starts s at) ≡ allFine s parts part next (starts s (nx .at)) =
-          rw (starts-record s at (h .before-end) (h .ok), f, o, h .next) (plain _) in
+          rw (starts-record s at (h .ok), f, o, h .next) (plain _) in
           record { same = sym w ∙ g .same; long = rw q (seen-length s parts part now st) ∙ g .long }
 
       pub fine-not : r ≡ false → false ≡ allFine s parts part seen (records s)
@@ -119,19 +121,13 @@ module _ (s : List ℕ) (parts part : ℕ) (seen : List ℕ) (at : ℕ) (now : L
       fine-not e =
           let h = stepped u v in
           let f : keyFine s parts part now at ≡ false = rw (← h .start) (sym p ∙ e) in
-          rw (starts-record s at (h .before-end) (h .ok)) (no _ (λ z. not-both (z .0) f)) ∙ g .same
+          rw (starts-record s at (h .ok)) (no _ (λ z. not-both (z .0) f)) ∙ g .same
 
-    pub fine-last : x ≡ Bad → r ≡ keyFine s parts part now at → r ≡ allFine s parts part seen (records s)
-    unfolding allFine
-    fine-last u p =
-        let h = stepped-bad u v in
-        rw (starts-bad s at (h .before-end) (h .bad)) (either-way _ r (λ z. (sym p ∙ z, (refl, tt))) (λ z y. not-both (y .0) (sym p ∙ z))) ∙ g .same
-
-  pub fine-end : x ≡ End → true ≡ allFine s parts part seen (records s)
+  pub fine-over : (tagOf the-type x ≡ 1) ⊎ (tagOf the-type x ≡ 2) → true ≡ allFine s parts part seen (records s)
   unfolding allFine
-  fine-end u = let h = stepped-end u v in rw (starts-end s at (h .ended)) refl ∙ g .same
+  fine-over t = rw (starts-none s at (over s at x v t)) refl ∙ g .same
 
-pub ruleset fining = (less, fine-begin, fine-next, fine-not, fine-last, fine-end)
+pub ruleset fining = (less, seek-type, fine-begin, fine-next, fine-not, fine-over)
 
 -- where each record is fine, no two with one place have twins
 

@@ -11,9 +11,8 @@ use Rattle.wire.specs.Bytes.{u32At, u64At}
 use Rattle.wire.proofs.TestLaws.{means, yes, no}
 use Rattle.wire.proofs.ItemLaws.{advance-none, advance-more, advance-mono}
 use Rattle.header.specs.Fields.{fileSpaceReference, metadataReference}
-use Rattle.record.specs.Record.{lengthAt}
-use Rattle.check_records.specs.Chain.{recordLimit}
-use Rattle.directory.specs.References.{entryCount, padded}
+use Rattle.record.specs.Record.{lengthAt, recordLimit, padded}
+use Rattle.directory.specs.References.{entryCount}
 use Rattle.listed_records.specs.declared.Listing.{Listing}
 use Rattle.listed_records.specs.declared.Listing.the-variants.{FreeSpace, Metadata}
 use Rattle.listed_records.specs.FileSpace.{fileSpaceAt, freeCount, freeEntryAt, freeEntryOf, freeEntryIs, freeFits}

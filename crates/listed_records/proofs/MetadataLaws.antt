@@ -12,10 +12,9 @@ use Rattle.wire.proofs.TestLaws.{yes, no, not-both, either-way}
 use Rattle.wire.proofs.ItemLaws.{advance-grows}
 use Rattle.header.specs.Fields.{metadataReference}
 use Rattle.header.specs.Element.{stringSize}
-use Rattle.check_records.specs.Chain.{recordLimit}
+use Rattle.record.specs.Record.{recordLimit, padded}
 use Rattle.check_records.specs.MetadataBody.{metadataName, recordId, dataType}
-use Rattle.directory.specs.References.{padded}
-use Rattle.directory.proofs.FitLaws.{fit-over}
+use Rattle.record.proofs.FitLaws.{fit-over}
 use Rattle.directory.proofs.RuleLaws.{not-told, is-told}
 use Rattle.listed_records.specs.Metadata.{metadataAt, metadataCount, metadataEntrySize, metadataEntryEnd, metadataEntryAt, metadataEntryOf, metadataFits, sameKey}
 

@@ -9,10 +9,10 @@ use lib.Dec.{eqb}
 use borrow.Author.Tests.{eqb-true, eqb-false, eq-eqb}
 use Rattle.wire.proofs.TestLaws.{means, yes, no-true, not-both, below-each, below-all}
 use Rattle.wire.proofs.ByteLaws.{same-is, is-same}
-use Rattle.record.proofs.ChainLaws.{Behind}
-use Rattle.directory.specs.Lists.{oneIf, countBelow, recordsOf}
-use Rattle.directory.proofs.MemberLaws.{every-member, member-every, some-member, member-some}
-use Rattle.directory.proofs.OnlyLaws.{records-behind}
+use Rattle.record.proofs.FindLaws.{records-behind}
+use Rattle.record.specs.Chain.{recordsOf}
+use Rattle.wire.specs.Lists.{oneIf, countBelow}
+use Rattle.wire.proofs.ListLaws.{Behind, every-member, member-every, some-member, member-some}
 use Rattle.listed_records.specs.declared.Listing.the-variants.{FreeSpace, Metadata}
 use Rattle.listed_records.specs.Listed.{listedOnce, nothingElse}
 use Rattle.listed_records.specs.FileSpace.{freeCount, freeEntryOf, freeEntryIs, freeListed, freeOnly}

@@ -7,7 +7,7 @@ use native.Mathlib.Omega.{arith}
 use borrow.Author.Tests.{ne-eqb}
 use Rattle.wire.proofs.TestLaws.{means, yes, no, not-both, either-way}
 use Rattle.header.specs.Fields.{fileSpaceReference}
-use Rattle.directory.specs.References.{padded}
+use Rattle.record.specs.Record.{padded}
 use Rattle.listed_records.specs.FileSpace.{fileSpaceAt, freeCount, freeEntryAt, freeNotEmpty, freeFits}
 
 module _ (s : List ℕ) (r : ℕ) (p : r ≡ fileSpaceReference s) where

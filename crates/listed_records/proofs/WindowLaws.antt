@@ -15,17 +15,15 @@ use Rattle.wire.specs.Pick.{pick}
 use Rattle.wire.specs.Tests.{both, passes}
 use Rattle.wire.specs.Bytes.{u64At}
 use Rattle.wire.proofs.TestLaws.{means, yes, no, no-true, not-both, iff}
-use Rattle.header.specs.Fields.{headerEnd}
 use Rattle.record.specs.declared.Found.{Found}
 use Rattle.record.specs.declared.Found.the-variants.{At, Nothing}
-use Rattle.record.specs.Record.{typeAt, lengthAt, recordOk}
-use Rattle.record.specs.Chain.{starts, firstRecord}
-use Rattle.record.proofs.ChainLaws.{starts-end, starts-bad, starts-record, ok-means}
-use Rattle.check_records.specs.Chain.{records}
-use Rattle.directory.specs.Lists.{every, countBelow, recordsOf}
-use Rattle.directory.proofs.CountLaws.{count-none, count-more, count-stay}
-use Rattle.directory.proofs.MemberLaws.{every-member, member-every, of-type}
-use Rattle.directory.proofs.SearchLaws.{isFound, every-found}
+use Rattle.record.specs.Record.{typeAt}
+use Rattle.record.specs.Chain.{starts, firstRecord, headerEnd, records, recordsOf}
+use Rattle.record.proofs.ChainLaws.{by-chain, starts-none, starts-record, ok-means}
+use Rattle.record.proofs.FindLaws.{of-type, isFound, every-found}
+use Rattle.wire.proofs.ListLaws.{every-member, member-every}
+use Rattle.wire.proofs.CountLaws.{count-none, count-more, count-stay}
+use Rattle.wire.specs.Lists.{every, countBelow}
 use Rattle.listed_records.specs.declared.Listing.{Listing}
 use Rattle.listed_records.specs.declared.Listing.the-variants.{FreeSpace, Metadata}
 use Rattle.listed_records.specs.Listed.{listedOnce}
@@ -297,33 +295,20 @@ pub record Placed (s : List ℕ) (at x : ℕ) : Type 0 where
   pub eights : (x - at) % 8 ≡ 0
   pub inside : x < length s
 
-placed : (k : ℕ) (s : List ℕ) (at : ℕ) → length s ≤ at + k → {x : ℕ} → List·Memᴰ x (starts s at) → Placed s at x
-placed zero s at h m = absurd (List·Memᴰ·not-nil (rw (starts-end s at (omega arith)) at m))
-placed (suc k) s at h {x} m = go (leb (length s) at) refl (recordOk s at) refl (λ q n. placed k s (at + lengthAt s at) q n)
-  where
-    here : at < length s → x ≡ at → Placed s at x
-    here f e = record { behind = omega arith; eights = omega arith; inside = omega arith }
-
-    there : recordOk s at ≡ true → Placed s (at + lengthAt s at) x → Placed s at x
-    there f r =
-        let o = ok-means s at f in
-        record { behind = omega (arith, r .behind); eights = omega (arith, r .behind, r .eights, o .eights); inside = r .inside }
-
-    go :
-        (a : Bool) → leb (length s) at ≡ a → (b : Bool) → recordOk s at ≡ b →
-        (length s ≤ at + lengthAt s at + k → List·Memᴰ x (starts s (at + lengthAt s at)) → Placed s (at + lengthAt s at) x) → Placed s at x
-    go true p b q r = absurd (List·Memᴰ·not-nil (rw (starts-end s at (leb-true _ _ p)) at m))
-    go false p true q r =
-        let f = leb-false _ _ p in
-        let o = ok-means s at q in
-        ⊎-elim (λ e. here f e) (λ n. there q (r (omega (arith, o .long)) n)) (List·Memᴰ·cases-cons (rw (starts-record s at f q) at m))
-    go false p false q r =
-        let f = leb-false _ _ p in
-        ⊎-elim (λ e. here f e) (λ n. absurd (List·Memᴰ·not-nil n)) (List·Memᴰ·cases-cons (rw (starts-bad s at f q) at m))
+placed : (s : List ℕ) (x at : ℕ) → List·Memᴰ x (starts s at) → Placed s at x
+placed s x =
+    by-chain s (λ at. List·Memᴰ x (starts s at) → Placed s at x) (λ at e m. absurd (List·Memᴰ·not-nil (rw (starts-none s at e) at m)))
+    (λ at e r m.
+    let o = ok-means s at e in
+    ⊎-elim (λ h. record { behind = omega arith; eights = omega arith; inside = omega (arith, o .long, o .inside) })
+    (λ k.
+    let q = r k in
+    record { behind = omega (arith, q .behind); eights = omega (arith, q .behind, q .eights, o .eights); inside = q .inside })
+    (List·Memᴰ·cases-cons (rw (starts-record s at e) at m)))
 
 pub record-placed : (s : List ℕ) (kind : ℕ) {x : ℕ} → List·Memᴰ x (recordsOf s kind) → Placed s (headerEnd s) x
 unfolding records
-record-placed s kind m = placed (length s) s (headerEnd s) (omega arith) (of-type s kind m .0)
+record-placed s kind {x} m = placed s x (headerEnd s) (of-type s kind m .0)
 
 -- in the window, at a place, a record is right just where it is listed once
 

@@ -6,8 +6,8 @@ use lib.Dec.{eqb}
 use Rattle.wire.specs.Tests.{_≤?_, _≡?_, is, passes}
 use Rattle.wire.specs.Bytes.{u32At, u64At, largestInteger}
 use Rattle.header.specs.Fields.{fileSpaceReference}
-use Rattle.record.specs.Record.{lengthAt}
-use Rattle.directory.specs.References.{refersOrZero, noOther, entryCount, padded}
+use Rattle.record.specs.Record.{lengthAt, padded}
+use Rattle.directory.specs.References.{refersOrZero, noOther, entryCount}
 use Rattle.listed_records.specs.Listed.{listedOnce, nothingElse}
 
 unfoldable pub fileSpaceAt : List ℕ → ℕ

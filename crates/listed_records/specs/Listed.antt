@@ -5,7 +5,8 @@ use mathlib.Core.List.{List}
 use mathlib.Core.Bool.{Bool}
 use lib.Dec.{eqb}
 use Rattle.wire.specs.Tests.{allBelow}
-use Rattle.directory.specs.Lists.{every, some, countBelow, recordsOf}
+use Rattle.record.specs.Chain.{recordsOf}
+use Rattle.wire.specs.Lists.{every, some, countBelow}
 
 -- every record of the type is listed once
 unfoldable pub listedOnce : List ℕ → ℕ → ℕ → (ℕ → ℕ → Bool) → Bool

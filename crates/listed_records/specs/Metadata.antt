@@ -8,11 +8,11 @@ use Rattle.wire.specs.Bytes.{u64At, sameBytes, largestInteger}
 use Rattle.wire.specs.Items.{advance}
 use Rattle.header.specs.Fields.{metadataReference}
 use Rattle.header.specs.Element.{stringSize}
-use Rattle.record.specs.Record.{contentAt}
-use Rattle.check_records.specs.Chain.{recordLimit}
+use Rattle.record.specs.Record.{contentAt, recordLimit, padded}
 use Rattle.check_records.specs.MetadataBody.{metadataName, recordId, dataType}
-use Rattle.directory.specs.Lists.{every, recordsOf}
-use Rattle.directory.specs.References.{refersOrZero, noOther, entryCount, padded}
+use Rattle.record.specs.Chain.{recordsOf}
+use Rattle.wire.specs.Lists.{every}
+use Rattle.directory.specs.References.{refersOrZero, noOther, entryCount}
 use Rattle.listed_records.specs.Listed.{listedOnce, nothingElse}
 
 unfoldable pub metadataAt : List ℕ → ℕ

@@ -6,7 +6,7 @@ use mathlib.Core.List.{List, [], _∷_, _++_, map}
 use Rattle.wire.specs.Bytes.{u32At, u64At}
 use Rattle.record.specs.Record.{lengthAt, contentAt}
 use Rattle.check_records.specs.MetadataBody.{metadataName, recordId, dataType}
-use Rattle.directory.specs.Lists.{recordsOf}
+use Rattle.record.specs.Chain.{recordsOf}
 use Rattle.listed_records.specs.FileSpace.{freeCount, freeEntryAt}
 use Rattle.listed_records.specs.Metadata.{metadataCount, metadataEntryAt}
 

@@ -5,7 +5,8 @@ use mathlib.Core.List.{List, [], _∷_}
 use mathlib.Core.Bool.{Bool}
 use Rattle.wire.specs.Tests.{_≡?_, _≢?_, is, passes}
 use Rattle.record.specs.Record.{typeAt}
-use Rattle.directory.specs.Lists.{some, recordsOf}
+use Rattle.record.specs.Chain.{recordsOf}
+use Rattle.wire.specs.Lists.{some}
 use Rattle.listed_records.specs.declared.Listing.{Listing}
 use Rattle.listed_records.specs.declared.Listing.the-variants.{FreeSpace, Metadata}
 use Rattle.listed_records.specs.Listed.{listedOnce, nothingElse}

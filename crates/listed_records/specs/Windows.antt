@@ -10,7 +10,8 @@ use Rattle.wire.specs.Pick.{pick}
 use Rattle.wire.specs.Tests.{_≤?_, _≡?_, _≢?_, is, passes}
 use Rattle.wire.specs.Bytes.{u64At}
 use Rattle.record.specs.Record.{typeAt}
-use Rattle.directory.specs.Lists.{every, recordsOf}
+use Rattle.record.specs.Chain.{recordsOf}
+use Rattle.wire.specs.Lists.{every}
 use Rattle.listed_records.specs.declared.Listing.{Listing}
 use Rattle.listed_records.specs.declared.Listing.the-variants.{FreeSpace, Metadata}
 use Rattle.listed_records.specs.Search.{listedKind, listCount, listEntryAt, listEntryOf}

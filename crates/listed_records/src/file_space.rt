@@ -1,6 +1,7 @@
 // Stage 9: the file-space directory's fields and entries.
 use directory::entries;
 use header::fields;
+use record::frame;
 ghost use mathlib.Core.Path.{_≡_};
 ghost use Rattle.listed_records.specs.FileSpace.{fileSpaceAt, freeCount, freeEntryOf, freeFits};
 
@@ -8,7 +9,7 @@ ghost use Rattle.listed_records.specs.FileSpace.{fileSpaceAt, freeCount,
 pub fn file_space_at(s: &[u8]) -> usize
     ensures { λ r. ⌜ r ≡ fileSpaceAt (now (s .entry)) ⌝ }
 {
-    entries::record_of(fields::file_space_reference(s))
+    frame::record_of(fields::file_space_reference(s))
 }
 
 // How many free-space records it lists.
@@ -32,7 +33,7 @@ pub fn free_fits(s: &[u8]) -> bool
     if 2147483647 < count {
         return false;
     }
-    entries::entries_fit(s, file_space_at(s), 12, count as u64, 12)
+    frame::entries_fit(s, file_space_at(s), 12, count as u64, 12)
 }
 
 // Whether the entry at a position is that of the free-space record at another.

@@ -3,19 +3,17 @@ use crate::Listing;
 use crate::file_space;
 use crate::metadata;
 use check_records::metadata_body;
-use directory::entries;
-use directory::references;
-use header::fields;
 use record::Cursor;
 use record::Found;
 use record::Step;
+use record::chain;
+use record::frame;
 ghost use mathlib.Core.Path.{_≡_};
 ghost use mathlib.Core.Bool.{true};
 ghost use Prim.Native.Nat.{_+_, _≤_, _<_};
 ghost use lib.ListN.{length};
-ghost use Rattle.header.specs.Fields.{headerEnd};
-ghost use Rattle.record.specs.Chain.{firstRecord};
-ghost use Rattle.check_records.specs.Chain.{records};
+ghost use Rattle.record.specs.Record.{typeAt};
+ghost use Rattle.record.specs.Chain.{firstRecord, headerEnd, records};
 ghost use Rattle.listed_records.specs.Listed.{listedOnce};
 ghost use Rattle.listed_records.specs.Metadata.{keysDistinct};
 ghost use Rattle.listed_records.specs.Search.{listedKind, listCount, listFits, listEntryAt, listEntryOf, listEntryIs, listEntrySize, listRight, twinOf, hasTwin};
@@ -90,7 +88,7 @@ fn named_by(s: &[u8], list: Listing, p: usize) -> usize
 {
     match list {
         Listing::FreeSpace => wire::u64_at(s, p) as usize,
-        Listing::Metadata => entries::record_of(wire::u64_at(s, p)),
+        Listing::Metadata => frame::record_of(wire::u64_at(s, p)),
     }
 }
 
@@ -150,11 +148,12 @@ fn tally(s: &[u8], list: Listing, base: usize, counts: &mut [u8])
     }
 }
 
-// Whether a record is of the list's type, in the window and not counted once.
-fn is_not_once(s: &[u8], list: Listing, base: usize, counts: &[u8], at: usize) -> bool
+// Whether the record of a type at a position is of the list's type, in the window and not counted once.
+fn is_not_once(s: &[u8], list: Listing, base: usize, counts: &[u8], kind: u32, at: usize) -> bool
+    requires { ⌜ kind ≡ typeAt (now s) at ⌝ }
     ensures { λ r. ⌜ r ≡ notOnceIn (now (s .entry)) list base (now (counts .entry)) at ⌝ }
 {
-    if wire::byte_off(s, at, 4) != listed_kind(list) {
+    if kind != listed_kind(list) {
         return false;
     }
     if at < base {
@@ -175,32 +174,22 @@ fn find_not_once(s: &[u8], list: Listing, base: usize, counts: &[u8]) -> Found
     ensures { λ r. ⌜ r ≡ firstRecord (now (s .entry)) (headerEnd (now (s .entry))) (notOnceIn (now (s .entry)) list base (now (counts .entry))) ⌝ }
 {
     let mut c = Cursor {
-        at: fields::header_end(s),
+        at: chain::header_end(s),
     };
     loop {
-        match c.step(s) {
-            Step::Record {
-                kind: _,
-                start,
-                length: _,
-                next,
-            } => {
-                if is_not_once(s, list, base, counts, start) {
-                    return Found::At(start);
-                }
-                c = next;
-            }
-            Step::Bad => {
-                let start = c.at;
-                if is_not_once(s, list, base, counts, start) {
-                    return Found::At(start);
-                }
-                return Found::Nothing;
-            }
-            Step::End => {
-                return Found::Nothing;
-            }
+        let Step::Record {
+            kind,
+            start,
+            length: _,
+            next,
+        } = c.step(s)
+        else {
+            return Found::Nothing;
+        };
+        if is_not_once(s, list, base, counts, kind, start) {
+            return Found::At(start);
         }
+        c = next;
     }
 }
 
@@ -222,7 +211,7 @@ fn listed_once(s: &[u8], list: Listing) -> bool
     requires { ⌜ listFits (now s) list ≡ true ⌝ }
     ensures { λ r. ⌜ r ≡ listedOnce (now (s .entry)) (listedKind list) (listCount (now (s .entry)) list) (listEntryIs (now (s .entry)) list) ⌝ }
 {
-    let mut base = fields::header_end(s);
+    let mut base = chain::header_end(s);
     while base < s.len() {
         if window_right(s, list, base) {
             base += 1048576;
@@ -239,7 +228,7 @@ pub fn list_right(s: &[u8], list: Listing) -> bool
     ensures { λ r. ⌜ r ≡ listRight (now (s .entry)) list ⌝ }
 {
     if list_fits(s, list) {
-        let records = references::record_count(s, listed_kind(list));
+        let records = chain::record_count(s, listed_kind(list));
         if list_count(s, list) as usize != records {
             return false;
         }
@@ -251,11 +240,12 @@ pub fn list_right(s: &[u8], list: Listing) -> bool
     false
 }
 
-// Whether the record at y is a metadata record other than the one at x and has its pair of name and ID.
-fn is_twin(s: &[u8], x: usize, y: usize) -> bool
+// Whether the record of a type at y is a metadata record other than the one at x and has its pair of name and ID.
+fn is_twin(s: &[u8], x: usize, kind: u32, y: usize) -> bool
+    requires { ⌜ kind ≡ typeAt (now s) y ⌝ }
     ensures { λ r. ⌜ r ≡ twinOf (now (s .entry)) x y ⌝ }
 {
-    if wire::byte_off(s, y, 4) != 1 {
+    if kind != 1 {
         return false;
     }
     if x == y {
@@ -269,32 +259,22 @@ fn find_twin(s: &[u8], x: usize) -> Found
     ensures { λ r. ⌜ r ≡ firstRecord (now (s .entry)) (headerEnd (now (s .entry))) (twinOf (now (s .entry)) x) ⌝ }
 {
     let mut c = Cursor {
-        at: fields::header_end(s),
+        at: chain::header_end(s),
     };
     loop {
-        match c.step(s) {
-            Step::Record {
-                kind: _,
-                start,
-                length: _,
-                next,
-            } => {
-                if is_twin(s, x, start) {
-                    return Found::At(start);
-                }
-                c = next;
-            }
-            Step::Bad => {
-                let start = c.at;
-                if is_twin(s, x, start) {
-                    return Found::At(start);
-                }
-                return Found::Nothing;
-            }
-            Step::End => {
-                return Found::Nothing;
-            }
+        let Step::Record {
+            kind,
+            start,
+            length: _,
+            next,
+        } = c.step(s)
+        else {
+            return Found::Nothing;
+        };
+        if is_twin(s, x, kind, start) {
+            return Found::At(start);
         }
+        c = next;
     }
 }
 
@@ -318,11 +298,11 @@ fn key_hash(s: &[u8], x: usize) -> u64
 }
 
 // The place of a metadata record of a part of the hashes; 131072 where it is of another part, or of another type.
-fn key_slot(s: &[u8], parts: u64, part: u64, x: usize) -> usize
-    requires { ⌜ 0 < parts ⌝ }
+fn key_slot(s: &[u8], parts: u64, part: u64, kind: u32, x: usize) -> usize
+    requires { ⌜ (0 < parts) × (kind ≡ typeAt (now s) x) ⌝ }
     ensures { λ r. ⌜ r ≡ keySlot (now (s .entry)) parts part x ⌝ }
 {
-    if wire::byte_off(s, x, 4) != 1 {
+    if kind != 1 {
         return 131072;
     }
     let h = key_hash(s, x);
@@ -333,12 +313,12 @@ fn key_slot(s: &[u8], parts: u64, part: u64, x: usize) -> usize
 }
 
 // A record takes its place. It is the first there, or no other has its pair.
-fn key_fine(s: &[u8], parts: u64, part: u64, seen: &mut [u8], x: usize) -> bool
-    requires { ⌜ 0 < parts ⌝ }
+fn key_fine(s: &[u8], parts: u64, part: u64, seen: &mut [u8], kind: u32, x: usize) -> bool
+    requires { ⌜ (0 < parts) × (kind ≡ typeAt (now s) x) ⌝ }
     ensures fine { λ r. ⌜ r ≡ keyFine (now (s .entry)) parts part (now (seen .entry)) x ⌝ }
     ensures seen { λ _. ⌜ now (seen .exit) ≡ keySeen (now (s .entry)) parts part (now (seen .entry)) x ⌝ }
 {
-    let j = key_slot(s, parts, part, x);
+    let j = key_slot(s, parts, part, kind, x);
     if seen.len() <= j {
         return true;
     }
@@ -359,29 +339,22 @@ fn all_fine(s: &[u8], parts: u64, part: u64, seen: &mut [u8]) -> bool
     ensures { λ r. ⌜ r ≡ allFine (now (s .entry)) parts part (now (seen .entry)) (records (now (s .entry))) ⌝ }
 {
     let mut c = Cursor {
-        at: fields::header_end(s),
+        at: chain::header_end(s),
     };
     loop {
-        match c.step(s) {
-            Step::Record {
-                kind: _,
-                start,
-                length: _,
-                next,
-            } => {
-                if key_fine(s, parts, part, seen, start) {
-                    c = next;
-                } else {
-                    return false;
-                }
-            }
-            Step::Bad => {
-                let start = c.at;
-                return key_fine(s, parts, part, seen, start);
-            }
-            Step::End => {
-                return true;
-            }
+        let Step::Record {
+            kind,
+            start,
+            length: _,
+            next,
+        } = c.step(s)
+        else {
+            return true;
+        };
+        if key_fine(s, parts, part, seen, kind, start) {
+            c = next;
+        } else {
+            return false;
         }
     }
 }
@@ -400,7 +373,7 @@ fn part_distinct(s: &[u8], parts: u64, part: u64) -> bool
 pub fn keys_distinct(s: &[u8]) -> bool
     ensures { λ r. ⌜ r ≡ keysDistinct (now (s .entry)) ⌝ }
 {
-    let parts = (references::record_count(s, 1) as u64) / 2048 + 1;
+    let parts = (chain::record_count(s, 1) as u64) / 2048 + 1;
     let mut part = 0;
     while part < parts {
         if part_distinct(s, parts, part) {

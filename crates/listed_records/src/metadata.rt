@@ -1,8 +1,8 @@
 // Stage 9: the metadata directory's fields and entries.
-use check_records::frame;
 use check_records::metadata_body;
 use directory::entries;
 use header::fields;
+use record::frame;
 ghost use mathlib.Core.Path.{_≡_};
 ghost use Prim.Native.Nat.{_≤_, _<_};
 ghost use lib.ListN.{length};
@@ -12,7 +12,7 @@ ghost use Rattle.listed_records.specs.Metadata.{metadataAt, metadataCoun
 pub fn metadata_at(s: &[u8]) -> usize
     ensures { λ r. ⌜ r ≡ metadataAt (now (s .entry)) ⌝ }
 {
-    entries::record_of(fields::metadata_reference(s))
+    frame::record_of(fields::metadata_reference(s))
 }
 
 // How many metadata records it lists.
@@ -96,5 +96,5 @@ pub fn metadata_fits(s: &[u8]) -> bool
     if s.len() <= at {
         return false;
     }
-    entries::padded_to(s, at, entries_end(s))
+    frame::padded_to(s, at, entries_end(s))
 }

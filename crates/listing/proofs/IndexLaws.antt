@@ -10,18 +10,18 @@ use Rattle.wire.proofs.TestLaws.{means, yes, no-true, iff}
 use Rattle.answer.specs.declared.Verdict.the-variants.{Accepted}
 use Rattle.geometry.specs.Tiles.{tileCount}
 use Rattle.record.specs.Record.{contentAt}
-use Rattle.check_records.specs.Chain.{records}
+use Rattle.record.specs.Chain.{records, recordsOf}
 use Rattle.check_records.specs.TileBody.{tileIndex}
-use Rattle.directory.specs.Lists.{some, countBelow, recordsOf}
+use Rattle.wire.specs.Lists.{some, countBelow}
 use Rattle.directory.specs.TileDirectory.{tileReference}
 use Rattle.directory.specs.Correspondence.{OneToOne}
-use Rattle.directory.proofs.CountLaws.{count-one, count-same, count-named}
-use Rattle.directory.proofs.OnlyLaws.{records-behind}
-use Rattle.directory.proofs.MemberLaws.{some-member, member-some, member-every, of-type, type-of}
+use Rattle.wire.proofs.ListLaws.{some-member, member-some, member-every}
+use Rattle.record.proofs.FindLaws.{records-behind, of-type, type-of}
+use Rattle.wire.proofs.CountLaws.{count-one, count-same, count-named}
 use Rattle.page_check.specs.Stages.{check}
 use Rattle.page_check.proofs.AcceptedLaws.{accepted-obeys}
 use Rattle.page_check.proofs.GivenLaws.{obeys-one}
-use Rattle.cells.specs.TileCells.{carries}
+use Rattle.cells.specs.Routes.{carries}
 use Rattle.listing.specs.Listing.{written, LineEach}
 
 module _ (s : List ℕ) (e : check s ≡ Accepted) (i : ℕ) where

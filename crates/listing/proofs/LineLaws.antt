@@ -10,11 +10,11 @@ use Rattle.wire.specs.Bytes.{put}
 use Rattle.wire.proofs.PutLaws.{length-put}
 use Rattle.answer.specs.declared.Verdict.the-variants.{Accepted}
 use Rattle.geometry.specs.Tiles.{tileCount}
-use Rattle.check_records.specs.Chain.{records}
-use Rattle.directory.specs.Lists.{some}
+use Rattle.wire.specs.Lists.{some}
+use Rattle.record.specs.Chain.{records}
 use Rattle.directory.specs.TileDirectory.{tileReference}
 use Rattle.page_check.specs.Stages.{check}
-use Rattle.cells.specs.TileCells.{carries}
+use Rattle.cells.specs.Routes.{carries}
 use Rattle.listing.specs.Text.{decimal, newline, elementsWord, line}
 use Rattle.listing.specs.Listing.{indexLines}
 use Rattle.listing.specs.Puts.{Puts}

@@ -10,10 +10,10 @@ use Rattle.answer.specs.declared.Verdict.the-variants.{Accepted, Refused}
 use Rattle.answer.specs.Refusals.{refusalNumber, refusalPlace}
 use Rattle.header.specs.Fields.{gridRows, gridColumns, tileRows, tileColumns, elementCount}
 use Rattle.geometry.specs.Tiles.{tileCount}
-use Rattle.check_records.specs.Chain.{records}
-use Rattle.directory.specs.Lists.{some, countBelow, recordsOf}
+use Rattle.wire.specs.Lists.{some, countBelow}
+use Rattle.record.specs.Chain.{records, recordsOf}
 use Rattle.page_check.specs.Stages.{check}
-use Rattle.cells.specs.TileCells.{carries}
+use Rattle.cells.specs.Routes.{carries}
 use Rattle.listing.specs.Text.{decimal, space, newline, gridWord, tileWord, elementsWord, writtenWord, ofWord, refusedWord, atWord, tooLong, line}
 
 -- `written` is the number of tile records in the chain

@@ -6,7 +6,7 @@ use lib.ListN.{length}
 use Rattle.answer.specs.declared.Refusal.the-variants.{Version}
 use Rattle.answer.specs.declared.Verdict.the-variants.{Refused}
 use Rattle.page_check.specs.Stages.{check}
-use Rattle.read_back.specs.Sample.{file}
+use Rattle.sample_page.specs.Page.{file}
 use Rattle.listing.specs.Listing.{listing}
 
 -- `grid 3 3`, `tile 2 2`, `elements 1`, `written 1 of 4`, `2`

@@ -2,10 +2,10 @@
 pub mod numbers;
 
 use answer::Verdict;
-use directory::references;
 use directory::tile_directory;
 use geometry::tiles;
 use header::fields;
+use record::chain;
 use wire::writing;
 ghost use mathlib.Core.Path.{_≡_};
 ghost use mathlib.Core.List.{[], _++_};
@@ -16,10 +16,10 @@ ghost use Rattle.wire.specs.Bytes.{put};
 ghost use Rattle.answer.specs.declared.Verdict.the-variants.{Accepted};
 ghost use Rattle.header.specs.Fields.{gridRows, gridColumns, tileRows, tileColumns, elementCount};
 ghost use Rattle.geometry.specs.Tiles.{tileCount};
-ghost use Rattle.check_records.specs.Chain.{records};
-ghost use Rattle.directory.specs.Lists.{some};
+ghost use Rattle.wire.specs.Lists.{some};
+ghost use Rattle.record.specs.Chain.{records};
 ghost use Rattle.page_check.specs.Stages.{check};
-ghost use Rattle.cells.specs.TileCells.{carries};
+ghost use Rattle.cells.specs.Routes.{carries};
 ghost use Rattle.listing.specs.Text.{decimal, space, newline, gridWord, tileWord, elementsWord, writtenWord, ofWord, line};
 ghost use Rattle.listing.specs.Listing.{written, indexLines, listed, listedBy, listing};
 ghost use Rattle.listing.specs.Puts.{Puts};
@@ -78,7 +78,7 @@ fn put_written(out: &mut [u8], at: usize, s: &[u8]) -> usize
     ensures text { λ r. ⌜ Puts (now (out .entry)) at (line writtenWord (written (now (s .entry))) ofWord (tileCount (now (s .entry)))) r (now (out .exit)) ⌝ }
     ensures few { λ r. ⌜ r ≤ at + 54 ⌝ }
 {
-    let count = references::record_count(s, 2) as u64;
+    let count = chain::record_count(s, 2) as u64;
     let all = tiles::tile_count(s);
     put_line(out, at, b"written ", count, b" of ", all)
 }

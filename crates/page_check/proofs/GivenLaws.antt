@@ -1,25 +1,23 @@
 -- What an accepted file's rules give the layers above. Assumes nothing.
-use Prim.Native.Nat.{ℕ, min, _≤_, _<_}
-use mathlib.Core.Path.{_≡_, sym, _∙_}
+use Prim.Native.Nat.{ℕ, _≤_}
+use mathlib.Core.Path.{_≡_}
 use mathlib.Core.List.{List, List·Memᴰ}
-use mathlib.Core.Bool.{Bool, true}
+use mathlib.Core.Bool.{true}
 use native.Mathlib.Omega.{arith}
 use lib.ListN.{length}
-use borrow.Author.Tests.{eq-eqb}
 use Rattle.wire.proofs.TestLaws.{means, below-each}
 use Rattle.header.specs.Fields.{elementCount}
 use Rattle.header.specs.Element.{entriesRead}
 use Rattle.record.specs.Record.{typeAt}
 use Rattle.check_header.specs.HeaderRecord.{positive, sidesRight, optionsRight, elementRight, elementsRight, headerRight}
 use Rattle.check_header.specs.Ceilings.{sidesWithin, withinCeilings}
-use Rattle.check_records.specs.Chain.{records}
+use Rattle.record.specs.Chain.{recordsOf}
 use Rattle.check_records.specs.TileBody.{tileRight}
 use Rattle.check_records.specs.MetadataBody.{metadataRight}
 use Rattle.check_records.specs.Faults.{bodyRight}
-use Rattle.directory.specs.Lists.{recordsOf}
-use Rattle.directory.specs.TileDirectory.{rectangleRight, tilesListed, tilesOnly, tileDirectoryRight}
+use Rattle.directory.specs.TileDirectory.{tileDirectoryRight}
 use Rattle.directory.specs.Correspondence.{OneToOne}
-use Rattle.directory.proofs.MemberLaws.{of-type}
+use Rattle.record.proofs.FindLaws.{of-type}
 use Rattle.directory.proofs.CorrespondLaws.{one-to-one}
 use Rattle.listed_records.specs.Stage.{directoriesRight}
 use Rattle.listed_records.specs.FileSpace.{fileSpaceRight}
@@ -27,7 +25,7 @@ use Rattle.listed_records.specs.Metadata.{metadataDirectoryRight}
 use Rattle.listed_records.specs.Rearranged.{FreeRearranged, MetadataRearranged}
 use Rattle.listed_records.proofs.RearrangedLaws.{free-rearranged, metadata-rearranged}
 use Rattle.answer.specs.declared.Verdict.the-variants.{Accepted}
-use Rattle.answer.proofs.VerdictLaws.{after-passed}
+use Rattle.answer.proofs.VerdictLaws.{behind-passed}
 use Rattle.page_check.specs.Stages.{checkToBodies}
 use Rattle.page_check.specs.Accepted.{ObeysBy, Obeys, InRange}
 use Rattle.page_check.proofs.AcceptedLaws.{headed-if}
@@ -66,7 +64,7 @@ obeys-range s xs o = range-of s (o .header) (o .ceilings)
 -- the same where stages 1 to 8 pass
 pub bodies-range : (s : List ℕ) → checkToBodies s ≡ Accepted → InRange s
 unfolding checkToBodies
-bodies-range s e = let h = headed-if s (after-passed _ _ e .0) in range-of s (h .header) (h .ceilings)
+bodies-range s e = let h = headed-if s (behind-passed _ _ e .0) in range-of s (h .header) (h .ceilings)
 
 -- bodies
 

@@ -1,6 +1,6 @@
 -- Stages 6 to 9 behind each other: which refusal the first fault gives. Assumes nothing.
 use Prim.Native.Nat.{ℕ}
-use mathlib.Core.Path.{_≡_, refl, sym, _∙_}
+use mathlib.Core.Path.{_≡_, refl}
 use mathlib.Core.List.{List}
 use mathlib.Core.Bool.{Bool, true, false}
 use lib.ListN.{length}
@@ -8,7 +8,7 @@ use Rattle.answer.specs.declared.Refusal.{Refusal}
 use Rattle.answer.specs.declared.Refusal.the-variants.{Chain, Checksum, Body, Directory}
 use Rattle.answer.specs.declared.Verdict.{Verdict}
 use Rattle.answer.specs.declared.Verdict.the-variants.{Accepted, Refused}
-use Rattle.answer.specs.Refusals.{gate, after}
+use Rattle.answer.specs.Refusals.{gate, unlessRefused}
 use Rattle.record.specs.declared.Found.{Found}
 use Rattle.record.specs.declared.Found.the-variants.{At, Nothing}
 use Rattle.check_header.specs.Stages.{checkHeader}
@@ -36,11 +36,11 @@ module _ (s : List ℕ) (v : Verdict) (f : Found) (p : f ≡ chainFault s) where
       stages-pass m = rw (← p, e, ← q, k, ← r, m)
 
 pub header-refused : (s : List ℕ) (v : Verdict) (x : Refusal) → v ≡ checkHeader s (length s) → v ≡ Refused x → Refused x ≡ checkToBodies s
-unfolding checkToBodies after
+unfolding checkToBodies unlessRefused
 header-refused s v x p e = rw (← p, e)
 
 pub header-passed : (s : List ℕ) (v w : Verdict) → v ≡ checkHeader s (length s) → v ≡ Accepted → w ≡ checkRecords s Accepted → w ≡ checkToBodies s
-unfolding checkToBodies after
+unfolding checkToBodies unlessRefused
 header-passed s v w p e q = rw (← p, e) q
 
 -- stage 9
@@ -55,42 +55,42 @@ directories-not s b p e = rw (← p, e)
 
 -- what comes behind stages 8 and 5
 
-records-then : (s : List ℕ) (v : Verdict) → checkRecords s v ≡ after (checkRecords s Accepted) v
-unfolding checkRecords after unless
+records-then : (s : List ℕ) (v : Verdict) → checkRecords s v ≡ unlessRefused Refused (checkRecords s Accepted) v
+unfolding checkRecords unlessRefused unless
 records-then s v = go (chainFault s) (checksumFault s) (bodyFault s)
   where
     go :
         (f g h : Found) →
-        unless f Chain (unless g Checksum (unless h Body v)) ≡ after (unless f Chain (unless g Checksum (unless h Body Accepted))) v
+        unless f Chain (unless g Checksum (unless h Body v)) ≡ unlessRefused Refused (unless f Chain (unless g Checksum (unless h Body Accepted))) v
     go (At x) g h = refl
     go Nothing (At x) h = refl
     go Nothing Nothing (At x) = refl
     go Nothing Nothing Nothing = refl
 
-pub bodies-then : (s : List ℕ) → check s ≡ after (checkToBodies s) (checkDirectories s)
-unfolding check checkToBodies checkFromRecords after
+pub bodies-then : (s : List ℕ) → check s ≡ unlessRefused Refused (checkToBodies s) (checkDirectories s)
+unfolding check checkToBodies checkFromRecords unlessRefused
 bodies-then s = go (checkHeader s (length s))
   where
-    go : (w : Verdict) → after w (checkRecords s (checkDirectories s)) ≡ after (after w (checkRecords s Accepted)) (checkDirectories s)
+    go : (w : Verdict) → unlessRefused Refused w (checkRecords s (checkDirectories s)) ≡ unlessRefused Refused (unlessRefused Refused w (checkRecords s Accepted)) (checkDirectories s)
     go Accepted = records-then s (checkDirectories s)
     go (Refused r) = refl
 
 module _ (s : List ℕ) (v : Verdict) (p : v ≡ checkRecords s Accepted) where
   pub records-refused : (x : Refusal) → v ≡ Refused x → Refused x ≡ checkFromRecords s
-  unfolding checkFromRecords after
+  unfolding checkFromRecords unlessRefused
   records-refused x e = rw (records-then s (checkDirectories s), ← p, e)
 
   pub records-passed : (w : Verdict) → v ≡ Accepted → w ≡ checkDirectories s → w ≡ checkFromRecords s
-  unfolding checkFromRecords after
+  unfolding checkFromRecords unlessRefused
   records-passed w e q = rw (records-then s (checkDirectories s), ← p, e) q
 
 module _ (s : List ℕ) (v : Verdict) (p : v ≡ checkToBodies s) where
   pub bodies-refused : (x : Refusal) → v ≡ Refused x → Refused x ≡ check s
-  unfolding after
+  unfolding unlessRefused
   bodies-refused x e = rw (bodies-then s, ← p, e)
 
   pub bodies-passed : (w : Verdict) → v ≡ Accepted → w ≡ checkDirectories s → w ≡ check s
-  unfolding after
+  unfolding unlessRefused
   bodies-passed w e q = rw (bodies-then s, ← p, e) q
 
 pub ruleset in-order = (

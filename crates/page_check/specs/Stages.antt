@@ -6,7 +6,7 @@ use Rattle.answer.specs.declared.Refusal.{Refusal}
 use Rattle.answer.specs.declared.Refusal.the-variants.{Chain, Checksum, Body, Directory}
 use Rattle.answer.specs.declared.Verdict.{Verdict}
 use Rattle.answer.specs.declared.Verdict.the-variants.{Accepted, Refused}
-use Rattle.answer.specs.Refusals.{gate, after}
+use Rattle.answer.specs.Refusals.{gate, unlessRefused}
 use Rattle.record.specs.declared.Found.{Found}
 use Rattle.record.specs.declared.Found.the-variants.{At, Nothing}
 use Rattle.check_header.specs.Stages.{checkHeader}
@@ -24,7 +24,7 @@ checkRecords s behind = unless (chainFault s) Chain (unless (checksumFault s) Ch
 
 -- stages 1 to 8
 unfoldable pub checkToBodies : List ℕ → Verdict
-checkToBodies s = after (checkHeader s (length s)) (checkRecords s Accepted)
+checkToBodies s = unlessRefused Refused (checkHeader s (length s)) (checkRecords s Accepted)
 
 -- stage 9
 unfoldable pub checkDirectories : List ℕ → Verdict
@@ -36,4 +36,4 @@ checkFromRecords s = checkRecords s (checkDirectories s)
 
 -- stages 1 to 9
 unfoldable pub check : List ℕ → Verdict
-check s = after (checkHeader s (length s)) (checkFromRecords s)
+check s = unlessRefused Refused (checkHeader s (length s)) (checkFromRecords s)

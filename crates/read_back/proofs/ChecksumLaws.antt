@@ -9,7 +9,8 @@ use Rattle.wire.specs.Bytes.{Bytes, part, bytesOf, largestInteger}
 use Rattle.wire.proofs.TestLaws.{means}
 use Rattle.wire.proofs.ByteLaws.{number-same, byte-same, part-length, bytes-part}
 use Rattle.wire.proofs.PlaceLaws.{Placed, placed-before}
-use Rattle.header.specs.Fields.{checksumEnabled, headerEnd}
+use Rattle.header.specs.Fields.{checksumEnabled}
+use Rattle.record.specs.Chain.{headerEnd}
 use Rattle.record.specs.Record.{lengthAt, typeAt, contentAt}
 use Rattle.check_header.specs.HeaderRecord.{frameRight, headerRight}
 use Rattle.check_records.specs.Checksum.{checksumRight}

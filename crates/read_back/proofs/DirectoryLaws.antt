@@ -10,13 +10,11 @@ use Rattle.wire.specs.Bytes.{byteAt, numberAt, bytesOf}
 use Rattle.wire.proofs.TestLaws.{yes}
 use Rattle.wire.proofs.PlaceLaws.{Placed, placed-byte, placed-value}
 use Rattle.header.specs.Fields.{gridRows, gridColumns, tileRows, tileColumns, tileDirectoryReference}
-use Rattle.record.specs.Record.{lengthAt, contentAt}
+use Rattle.record.specs.Record.{lengthAt, contentAt, recordLimit, padded}
 use Rattle.geometry.specs.Tiles.{tilesAlong, tilesAcross, tilesDown, tileCount}
 use Rattle.geometry.specs.Sizes.{leastLength, plainTileLength}
 use Rattle.geometry.proofs.TileLaws.{along-small, count-is}
-use Rattle.check_records.specs.Chain.{recordLimit}
-use Rattle.directory.specs.Lists.{recordsOf}
-use Rattle.directory.specs.References.{padded}
+use Rattle.record.specs.Chain.{recordsOf}
 use Rattle.directory.specs.TileDirectory.{tileDirectoryAt, directoryFormat, standardReferences, firstRow, firstColumn, listedRows, listedColumns, formRight, spanRight, rectangleRight, referenceCount, referenceSize, referenceAt, referencesEnd, tileReference, tilesListed, tilesOnly, tileDirectoryRight}
 use Rattle.directory.specs.Correspondence.{TileRecord}
 use Rattle.directory.proofs.MemberLaws.{one-of-type}

@@ -8,7 +8,7 @@ use lib.ListN.{length}
 use Rattle.wire.specs.Bytes.{byteAt, Same}
 use Rattle.wire.proofs.TestLaws.{yes}
 use Rattle.wire.proofs.ByteLaws.{same-trans, same-append}
-use Rattle.header.specs.Fields.{headerEnd}
+use Rattle.record.specs.Chain.{headerEnd}
 use Rattle.header.specs.Element.{entriesRead}
 use Rattle.header.proofs.SameLaws.{element-same}
 use Rattle.record.specs.Record.{contentAt}

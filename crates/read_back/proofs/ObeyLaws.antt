@@ -1,6 +1,6 @@
 -- A file that is laid down obeys each rule, so the check accepts it. Assumes nothing.
 use Prim.Native.Nat.{ℕ, _+_, _*_, _<_}
-use mathlib.Core.Path.{_≡_, sym, ap, _∙_}
+use mathlib.Core.Path.{_≡_, sym, ap, _∙_, refl}
 use mathlib.Core.List.{List}
 use mathlib.Core.Logic.{⊎-elim}
 use mathlib.Core.Bool.{true}
@@ -10,6 +10,7 @@ use Rattle.wire.proofs.ByteLaws.{bytes-append, bytes-part, bytes-of}
 use Rattle.answer.specs.declared.Verdict.the-variants.{Accepted}
 use Rattle.header.specs.Fields.{checksumEnabled, elementCount}
 use Rattle.record.specs.Chain.{startsOf}
+use Rattle.record.specs.Record.{lengthAt}
 use Rattle.geometry.specs.Sizes.{plainTileLength}
 use Rattle.check_records.specs.Checksum.{checksumRight}
 use Rattle.check_records.specs.Faults.{bodyRight}
@@ -43,7 +44,8 @@ module _ {f : List ℕ} {t : ℕ} {ix c : List ℕ} (l : Laying f t ix c) where
       (directory-short l)
 
   directory-body : bodyRight (laidFile f t ix c) (directoryStart f ix) ≡ true
-  directory-body = sym (body-other _ _ 5 (sym (directory-typed l)) (λ z. omega arith) (λ z. omega arith))
+  directory-body =
+      sym (body-other (laidFile f t ix c) 5 (directoryStart f ix) (lengthAt (laidFile f t ix c) (directoryStart f ix)) (record { type-is = sym (directory-typed l); length-is = refl }) (λ z. omega arith) (λ z. omega arith))
 
   pub laid-obeys : ObeysBy (laidFile f t ix c) (startsOf (length f) (laidRecords f ix c))
   laid-obeys =

@@ -17,24 +17,26 @@ use Rattle.answer.specs.declared.Content.the-variants.{Present, Absent}
 use Rattle.answer.specs.Values.{valueOf}
 use Rattle.header.specs.Fields.{gridRows, gridColumns, elementCount}
 use Rattle.header.specs.Element.{cellSize, element}
-use Rattle.geometry.specs.Tiles.{cellTile}
+use Rattle.geometry.specs.Tiles.{cellTile, tileCount}
 use Rattle.geometry.specs.Sizes.{elementBytes, tileBytes, plainTileLength}
+use Rattle.geometry.proofs.GridLaws.{tile-less}
 use Rattle.check_records.specs.TileBody.{elementContentAt}
-use Rattle.directory.specs.TileDirectory.{tileDirectoryAt, tileReference}
+use Rattle.directory.specs.TileDirectory.{tileReference}
 use Rattle.directory.specs.Correspondence.{OneToOne}
-use Rattle.page_check.proofs.GivenLaws.{obeys-range, obeys-one}
+use Rattle.page_check.proofs.GivenLaws.{obeys-one}
 use Rattle.cells.specs.Asked.{inGrid, inTiles}
 use Rattle.cells.specs.TileCells.{fillOf, offsetIn, placeIn, storedAt, cellIn, contentIn}
 use Rattle.cells.specs.Meaning.{meaning, contentMeaning}
-use Rattle.cells.specs.DirectoryRoute.{referredCell, directoryCell, referredContent, directoryContent}
 use Rattle.cells.specs.Demand3.{bytesOfCell}
 use Rattle.cells.proofs.CellLaws.{grid-means, tiles-mean}
 use Rattle.cells.proofs.ApartLaws.{offset-within}
-use Rattle.cells.proofs.RouteLaws.{tile-less, directory-means, content-means}
-use Rattle.cells.proofs.ReadLaws.{demand-3}
+use Rattle.cells.specs.Routes.{referredTo, contentBy, cellBy, meant}
+use Rattle.cells.proofs.DemandLaws.{demand-3}
+use Rattle.cells.proofs.RouteLaws.{directory-finds}
 use Rattle.lay_down.specs.Page.{laidFile}
 use Rattle.lay_down.specs.Answer.{laidOut}
 use Rattle.lay_down.proofs.PageLaws.{element-within}
+use Rattle.record.specs.declared.Found.the-variants.{At, Nothing}
 use Rattle.read_back.specs.ReadBack.{contentGiven, contentLaid, cellGiven, cellLaid, ListedAs, ReadBack}
 use Rattle.read_back.proofs.Setting.{Laying, laying-of, front-range, tiles-kept, tile-kept, size-kept, grid-kept, asked-kept, offset-kept, fill-kept}
 use Rattle.read_back.proofs.FrontLaws.{length-laid, byte-kept, front-kept, fields-laid}
@@ -53,6 +55,22 @@ module _ {f : List ℕ} {t : ℕ} {ix c : List ℕ} (l : Laying f t ix c) where
 
   one : OneToOne s
   one = obeys-one s _ (laid-obeys l)
+
+  -- the record that is meant for a tile: that of a listed one, none of another
+
+  listed-found : (k : ℕ) → k < length ix → meant s (getD ix k 0) ≡ At (start k)
+  unfolding referredTo
+  listed-found k h =
+      let d : start k + 8 - 8 ≡ start k = omega arith in
+      sym (directory-finds s one (getD ix k 0) (omega (arith, index-below l k h, tiles-kept (front-kept l))))
+      ∙ rw (given-reference l k h, ne-eqb (start k + 8) 0 (λ z. omega arith), d)
+
+  unlisted-none : (tile : ℕ) → tile < tileCount f → ((k : ℕ) → k < length ix → getD ix k 0 ≡ tile → ⊥) → meant s tile ≡ Nothing
+  unfolding referredTo
+  unlisted-none tile h none =
+      let z : tileReference s tile ≡ 0 =
+      ⊎-elim (λ x. x) (λ g. absurd (none (g .number) (g .among) (g .index))) (reference-found l tile h) in
+      sym (directory-finds s one tile (omega (arith, tiles-kept (front-kept l)))) ∙ rw z
 
   -- the bytes that were given for the elements of the listed tiles
 
@@ -86,41 +104,29 @@ module _ {f : List ℕ} {t : ℕ} {ix c : List ℕ} (l : Laying f t ix c) where
         rw (p, q) at (bytes-given 0 (elementBytes f e) (omega arith))
 
     content-read : contentMeaning s (getD ix k 0) e ≡ Present (contentLaid f k e) (elementBytes f e)
-    unfolding directoryContent referredContent inTiles contentIn
+    unfolding contentMeaning contentBy inTiles contentIn
     content-read =
         let i : inTiles s (getD ix k 0) e ≡ true =
         sym (yes _ (omega (arith, index-below l k h, tiles-kept (front-kept l)), (omega (arith, front-kept l .count), tt))) in
-        let d : start k + 8 - 8 ≡ start k = omega arith in
-        sym (content-means s one (getD ix k 0) e)
-        ∙ rw (i, given-reference l k h, ne-eqb (start k + 8) 0 (λ z. omega arith), d, tile-whole (tile-here l k h) e g, content-place, size-kept (front-kept l) e g)
+        rw (i, listed-found k h, tile-whole (tile-here l k h) e g, content-place, size-kept (front-kept l) e g)
 
   -- a tile that is not listed
   absent-read :
       (tile e : ℕ) → inTiles f tile e ≡ true → ((k : ℕ) → k < length ix → getD ix k 0 ≡ tile → ⊥) → contentMeaning s tile e ≡ Absent
-  unfolding directoryContent referredContent
-  absent-read tile e i none =
-      let z : tileReference s tile ≡ 0 =
-      ⊎-elim (λ x. x) (λ g. absurd (none (g .number) (g .among) (g .index))) (reference-found l tile (tiles-mean f tile e i .0)) in
-      sym (content-means s one tile e) ∙ rw (asked-kept (front-kept l) tile e, i, z)
+  unfolding contentMeaning contentBy
+  absent-read tile e i none = rw (asked-kept (front-kept l) tile e, i, unlisted-none tile (tiles-mean f tile e i .0) none)
 
-  -- a cell of the grid: what the record has to which its tile's reference leads
+  -- a cell of the grid: what the record has that is meant for its tile
   module _ (row column e : ℕ) (i : inGrid f row column e ≡ true) where
     asked : (row < gridRows f) × ((column < gridColumns f) × (e < elementCount f))
     asked = grid-means f row column e i
 
-    referred : meaning s row column e ≡ referredCell s (tileDirectoryAt s) row column e
-    unfolding directoryCell
-    referred =
-        let r = obeys-range s _ (laid-obeys l) in
-        sym (directory-means s one (r .tile-rows .0) (r .tile-columns .0) row column e) ∙ rw (grid-kept (front-kept l) row column e, i)
-
     fill-read : ((k : ℕ) → ListedAs f ix k row column → ⊥) → meaning s row column e ≡ fillOf f e
-    unfolding referredCell
+    unfolding meaning cellBy
     fill-read none =
         let n = tile-less f row column (front-range l .tile-rows .0) (front-range l .tile-columns .0) (asked .0) (asked .1 .0) in
-        let z : tileReference s (cellTile f row column) ≡ 0 =
-        ⊎-elim (λ x. x) (λ g. absurd (none (g .number) (record { among = g .among; tile = g .index }))) (reference-found l (cellTile f row column) n) in
-        referred ∙ rw (tile-kept (front-kept l) row column, z) (fill-kept (front-kept l) e (asked .1 .1))
+        let z = unlisted-none (cellTile f row column) n (λ k h g. none k (record { among = h; tile = g })) in
+        rw (grid-kept (front-kept l) row column e, i, tile-kept (front-kept l) row column, z) (fill-kept (front-kept l) e (asked .1 .1))
 
     cell-inside : offsetIn f row column e + bytesOfCell f e ≤ elementBytes f e
     cell-inside = offset-within f row column e (front-range l .tile-rows .0) (front-range l .tile-columns .0)
@@ -141,17 +147,14 @@ module _ {f : List ℕ} {t : ℕ} {ix c : List ℕ} (l : Laying f t ix c) where
       stored-read :
           meaning s row column e
           ≡ cell.Stored (valueOf (element f e .kind) (numberAt (cellSize (element f e .kind)) c (cellGiven f k row column e))) (cellLaid f k row column e)
-      unfolding referredCell cellIn storedAt numberAt
+      unfolding meaning cellBy cellIn storedAt numberAt
       stored-read =
           let g = asked .1 .1 in
-          let r : tileReference s (cellTile s row column) ≡ start k + 8 =
-          ap (tileReference s) (tile-kept (front-kept l) row column ∙ sym (q .tile)) ∙ given-reference l k (q .among) in
-          let d : start k + 8 - 8 ≡ start k = omega arith in
-          referred
-          ∙ rw (r, ne-eqb (start k + 8) 0 (λ z. omega arith), d, tile-whole (tile-here l k (q .among)) e g, place, front-kept l .elements e g, cell-bytes)
+          let r : meant s (cellTile s row column) ≡ At (start k) = ap (meant s) (tile-kept (front-kept l) row column ∙ sym (q .tile)) ∙ listed-found k (q .among) in
+          rw (grid-kept (front-kept l) row column e, i, r, tile-whole (tile-here l k (q .among)) e g, place, front-kept l .elements e g, cell-bytes)
 
 pub read-back : ReadBack
-unfolding laidOut meaning contentMeaning
+unfolding laidOut meaning cellBy contentMeaning contentBy
 read-back f t ix c out n b d e =
     let p = laying-of f t ix c (length out) n b d e in
     let l = p .0 in

@@ -14,13 +14,13 @@ use Rattle.wire.proofs.ItemLaws.{item-within}
 use Rattle.wire.proofs.PlaceLaws.{Placed, placed-last, placed-before, placed-inner}
 use Rattle.header.specs.Fields.{checksumEnabled}
 use Rattle.record.specs.Record.{lengthAt, typeAt, contentAt}
-use Rattle.record.specs.Chain.{Whole, joined, startsOf}
+use Rattle.record.specs.Chain.{Whole, joined, startsOf, records, recordsOf}
 use Rattle.record.proofs.ChainLaws.{whole-starts, starts-append}
 use Rattle.geometry.specs.Tiles.{tileCount}
 use Rattle.geometry.specs.Sizes.{tileBytes, plainTileLength}
-use Rattle.check_records.specs.Chain.{records}
-use Rattle.directory.specs.Lists.{select, recordsOf}
-use Rattle.directory.proofs.MemberLaws.{select-append, select-all, select-none, no-type}
+use Rattle.record.proofs.FindLaws.{no-type}
+use Rattle.wire.proofs.ListLaws.{select-append, select-all, select-none}
+use Rattle.wire.specs.Lists.{select}
 use Rattle.lay_down.specs.Pieces.{recordLength}
 use Rattle.lay_down.specs.Page.{tileRecord, tileRecords, directoryBody, directoryRecord, directoryStart, fileLength, laidFront, laidFile}
 use Rattle.lay_down.proofs.PieceLaws.{placed-kind, placed-stated}

@@ -9,8 +9,10 @@ use Rattle.wire.specs.Bytes.{Bytes}
 use Rattle.wire.proofs.TestLaws.{means}
 use Rattle.answer.specs.declared.Verdict.{Verdict}
 use Rattle.answer.specs.declared.Verdict.the-variants as verdict
-use Rattle.answer.specs.declared.Laid.the-variants.{Length}
-use Rattle.header.specs.Fields.{headerEnd, gridRows, gridColumns, tileRows, tileColumns, checksumEnabled, elementCount}
+use Rattle.answer.specs.declared.Laid.the-variants.{Length, Refused}
+use Rattle.answer.specs.Refusals.{unlessRefused}
+use Rattle.header.specs.Fields.{gridRows, gridColumns, tileRows, tileColumns, checksumEnabled, elementCount}
+use Rattle.record.specs.Chain.{headerEnd}
 use Rattle.header.specs.Element.{element}
 use Rattle.geometry.specs.Tiles.{tilesAcross, tilesDown, tileCount, cellTile, cellInside}
 use Rattle.geometry.specs.Sizes.{tileBytes, elementBytes}
@@ -20,7 +22,7 @@ use Rattle.page_check.specs.Accepted.{InRange}
 use Rattle.page_check.proofs.GivenLaws.{range-of}
 use Rattle.cells.specs.Asked.{inGrid, inTiles}
 use Rattle.cells.specs.TileCells.{fillOf, offsetIn}
-use Rattle.lay_down.specs.Answer.{ascending, lengthUnless, laid}
+use Rattle.lay_down.specs.Answer.{ascending, laid}
 use Rattle.lay_down.specs.Page.{fileLength}
 use Rattle.lay_down.proofs.FrontLaws.{FrontRules, rules-of, Front, front-of}
 use Rattle.lay_down.proofs.JudgeLaws.{passed-of}
@@ -34,8 +36,8 @@ pub record Laying (f : List ℕ) (t : ℕ) (ix c : List ℕ) : Type 0 where
   pub front-bytes : Bytes f
   pub cell-bytes : Bytes c
 
-lengths-are : (v : Verdict) (n m : ℕ) → lengthUnless v n ≡ Length m → (v ≡ verdict.Accepted) × (n ≡ m)
-unfolding lengthUnless
+lengths-are : (v : Verdict) (n m : ℕ) → unlessRefused Refused v (Length n) ≡ Length m → (v ≡ verdict.Accepted) × (n ≡ m)
+unfolding unlessRefused
 lengths-are verdict.Accepted n m e = (refl, cc)
 lengths-are (verdict.Refused r) n m e = let z : _≡_ {A = ℕ} 0 1 = cc in absurd (omega arith)
 

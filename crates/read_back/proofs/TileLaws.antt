@@ -15,11 +15,11 @@ use Rattle.wire.proofs.ItemLaws.{advance-none}
 use Rattle.wire.proofs.PlaceLaws.{Placed, placed-inner, placed-at, placed-first, placed-next, part-placed, placed-inside, placed-part, placed-value}
 use Rattle.header.specs.Fields.{tileRows, tileColumns, checksumEnabled, elementCount}
 use Rattle.header.specs.Element.{cellSize, element}
-use Rattle.record.specs.Record.{lengthAt, typeAt}
+use Rattle.record.specs.Record.{lengthAt, typeAt, recordLimit}
 use Rattle.geometry.specs.Tiles.{tileCount}
 use Rattle.geometry.specs.Sizes.{uncompressed, storedSize, leastLength, elementBytes, judgeElement, tileBytes, plainTileLength}
 use Rattle.geometry.proofs.SizeLaws.{size-range, judge-whole}
-use Rattle.check_records.specs.Chain.{recordLimit, endRight}
+use Rattle.check_records.specs.Frame.{endRight}
 use Rattle.check_records.specs.TileBody.{tileIndex, sectionEnd, sectionAt, sectionLength, elementContentAt, sectionRight, tileEnd, indexRight, tileRight}
 use Rattle.check_records.specs.Faults.{bodyRight}
 use Rattle.check_records.proofs.RecordLaws.{section-whole, body-tile}
@@ -157,4 +157,4 @@ module _ {f s cs : List ℕ} {i x : ℕ} (p : TileHere f s cs i x) where
   tile-right = sym (yes _ (index-right, (end-right, (rw (p .kept .count) (below-all (elementCount f) _ each-right), tt))))
 
   pub tile-body : bodyRight s x ≡ true
-  tile-body = sym (body-tile s x 2 true (sym tile-typed) refl (sym tile-right))
+  tile-body = sym (body-tile s 2 x (lengthAt s x) (record { type-is = sym tile-typed; length-is = refl }) true refl (sym tile-right))

@@ -3,7 +3,7 @@ use Prim.Native.Nat.{ℕ, zero, suc, _+_, _%_, _-_, _≤_, _<_}
 use mathlib.Core.Path.{_≡_, refl, sym, ap, _∙_}
 use mathlib.Core.List.{List, [], _∷_, _++_, append-assoc, append-nil, List·Memᴰ, List·Memᴰ·not-nil, List·Memᴰ·cases-cons}
 use mathlib.Core.Logic.{_⊎_, inl, inr, ⊎-elim}
-use mathlib.Core.Bool.{Bool, true, false, not}
+use mathlib.Core.Bool.{Bool, true, false}
 use native.Mathlib.Omega.{arith}
 use lib.ListN.{length, length-append}
 use lib.Dec.{leb}
@@ -11,13 +11,13 @@ use borrow.Author.Tests.{leb-true, leb-false, le-leb, lt-leb}
 use Rattle.wire.specs.Bytes.{largestInteger}
 use Rattle.wire.proofs.ByteLaws.{number-behind, number-before, byte-behind, byte-before}
 use Rattle.wire.proofs.TestLaws.{means, yes}
+use Rattle.wire.proofs.ListLaws.{Behind, behind-more}
 use Rattle.record.specs.declared.Cursor.{Cursor}
 use Rattle.record.specs.declared.Step.{Step}
 use Rattle.record.specs.declared.Step.the-variants.{Record, Bad, End}
-use Rattle.record.specs.declared.Found.{Found}
 use Rattle.record.specs.declared.Found.the-variants.{At, Nothing}
 use Rattle.record.specs.Record.{lengthAt, typeAt, recordOk, stepAt}
-use Rattle.record.specs.Chain.{startsGo, starts, find, firstRecord, Whole, joined, startsOf, WellFormed}
+use Rattle.record.specs.Chain.{startsGo, starts, endOf, find, firstRecord, Stand, Whole, joined, startsOf, WellFormed}
 
 -- a record
 
@@ -121,141 +121,129 @@ less s at k st n nx r p q = let h = stepped p q in omega arith
 
 -- the list: enough fuel is as good as more, so that it unfolds without its fuel
 
-go-end : (k : ℕ) (s : List ℕ) (at : ℕ) → length s ≤ at → startsGo k s at ≡ []
-unfolding startsGo
-go-end zero s at h = refl
-go-end (suc k) s at h = rw (startsGo, le-leb (length s) at h)
+-- where a record stands, it does not lie past the file
+pub past-bad : (s : List ℕ) (at : ℕ) → length s ≤ at → recordOk s at ≡ false
+past-bad s at h = go (recordOk s at) refl
+  where
+    go : (b : Bool) → recordOk s at ≡ b → b ≡ false
+    go true e = let o = ok-means s at e in absurd (omega arith)
+    go false e = refl
 
-go-bad : (k : ℕ) (s : List ℕ) (at : ℕ) → at < length s → recordOk s at ≡ false → startsGo (suc k) s at ≡ at ∷ []
+go-none : (k : ℕ) (s : List ℕ) (at : ℕ) → recordOk s at ≡ false → startsGo k s at ≡ []
 unfolding startsGo
-go-bad k s at h e = rw (startsGo, lt-leb (length s) at h, e)
+go-none zero s at e = refl
+go-none (suc k) s at e = rw (startsGo, e)
 
-go-record :
-    (k : ℕ) (s : List ℕ) (at : ℕ) → at < length s → recordOk s at ≡ true → startsGo (suc k) s at ≡ at ∷ startsGo k s (at + lengthAt s at)
+go-record : (k : ℕ) (s : List ℕ) (at : ℕ) → recordOk s at ≡ true → startsGo (suc k) s at ≡ at ∷ startsGo k s (at + lengthAt s at)
 unfolding startsGo
-go-record k s at h e = rw (startsGo, lt-leb (length s) at h, e)
+go-record k s at e = rw (startsGo, e)
 
 go-enough : (j k : ℕ) (s : List ℕ) (at : ℕ) → length s ≤ at + j → length s ≤ at + k → startsGo j s at ≡ startsGo k s at
-go-enough zero k s at p q = go-end zero s at (omega arith) ∙ sym (go-end k s at (omega arith))
-go-enough (suc j) zero s at p q = go-end (suc j) s at (omega arith) ∙ sym (go-end zero s at (omega arith))
-go-enough (suc j) (suc k) s at p q = go (leb (length s) at) refl (recordOk s at) refl (go-enough j k s (at + lengthAt s at))
+go-enough zero k s at p q = let e = past-bad s at (omega arith) in go-none zero s at e ∙ sym (go-none k s at e)
+go-enough (suc j) zero s at p q = let e = past-bad s at (omega arith) in go-none (suc j) s at e ∙ sym (go-none zero s at e)
+go-enough (suc j) (suc k) s at p q = go (recordOk s at) refl (go-enough j k s (at + lengthAt s at))
   where
     go :
-        (a : Bool) → leb (length s) at ≡ a → (b : Bool) → recordOk s at ≡ b →
+        (b : Bool) → recordOk s at ≡ b →
         (length s ≤ at + lengthAt s at + j → length s ≤ at + lengthAt s at + k → startsGo j s (at + lengthAt s at) ≡ startsGo k s (at + lengthAt s at)) →
         startsGo (suc j) s at ≡ startsGo (suc k) s at
-    go true ea b eb r = let l = leb-true _ _ ea in go-end (suc j) s at l ∙ sym (go-end (suc k) s at l)
-    go false ea true eb r =
-        let l = leb-false _ _ ea in
-        let o = ok-means s at eb in
-        go-record j s at l eb ∙ ap (λ (x : List ℕ). at ∷ x) (r (omega arith) (omega arith)) ∙ sym (go-record k s at l eb)
-    go false ea false eb r = let l = leb-false _ _ ea in go-bad j s at l eb ∙ sym (go-bad k s at l eb)
+    go true e r =
+        let o = ok-means s at e in
+        go-record j s at e ∙ ap (λ (x : List ℕ). at ∷ x) (r (omega arith) (omega arith)) ∙ sym (go-record k s at e)
+    go false e r = go-none (suc j) s at e ∙ sym (go-none (suc k) s at e)
 
-starts-more : (s : List ℕ) (at : ℕ) → starts s at ≡ startsGo (suc (length s)) s at
+pub starts-none : (s : List ℕ) (at : ℕ) → recordOk s at ≡ false → starts s at ≡ []
 unfolding starts
-starts-more s at = go-enough (length s) (suc (length s)) s at (omega arith) (omega arith)
+starts-none s at e = go-none (length s) s at e
 
-pub starts-end : (s : List ℕ) (at : ℕ) → length s ≤ at → starts s at ≡ []
+pub starts-record : (s : List ℕ) (at : ℕ) → recordOk s at ≡ true → starts s at ≡ at ∷ starts s (at + lengthAt s at)
 unfolding starts
-starts-end s at h = go-end (length s) s at h
+starts-record s at e =
+    go-enough (length s) (suc (length s)) s at (omega arith) (omega arith) ∙ go-record (length s) s at e
 
-pub starts-bad : (s : List ℕ) (at : ℕ) → at < length s → recordOk s at ≡ false → starts s at ≡ at ∷ []
-starts-bad s at h e = starts-more s at ∙ go-bad (length s) s at h e
+-- what holds of the chain from a position on, by whether a record stands there; `k` bounds what is left of the file
+chain-induction :
+    (s : List ℕ) (P : ℕ → Type 0) → ((at : ℕ) → recordOk s at ≡ false → P at) →
+    ((at : ℕ) → recordOk s at ≡ true → P (at + lengthAt s at) → P at) → (k at : ℕ) → length s ≤ at + k → P at
+chain-induction s P f g zero at h = f at (past-bad s at (omega arith))
+chain-induction s P f g (suc k) at h = go (recordOk s at) refl (chain-induction s P f g k (at + lengthAt s at))
+  where
+    go : (b : Bool) → recordOk s at ≡ b → (length s ≤ at + lengthAt s at + k → P (at + lengthAt s at)) → P at
+    go true e r = let o = ok-means s at e in g at e (r (omega arith))
+    go false e r = f at e
 
-pub starts-record :
-    (s : List ℕ) (at : ℕ) → at < length s → recordOk s at ≡ true → starts s at ≡ at ∷ starts s (at + lengthAt s at)
-unfolding starts
-starts-record s at h e = starts-more s at ∙ go-record (length s) s at h e
-
--- lists that increase: each number behind the one before it, the first at `at` or behind it
-
-abbrev pub Behind : ℕ → List ℕ → Type 0
-Behind at [] = Unit {0}
-Behind at (x ∷ xs) = (at ≤ x) × Behind (x + 1) xs
-
-pub behind-more : (a b : ℕ) (l : List ℕ) → a ≤ b → Behind b l → Behind a l
-behind-more a b [] h i = tt
-behind-more a b (x ∷ xs) h i = (omega (arith, i .0), i .1)
+pub by-chain :
+    (s : List ℕ) (P : ℕ → Type 0) → ((at : ℕ) → recordOk s at ≡ false → P at) →
+    ((at : ℕ) → recordOk s at ≡ true → P (at + lengthAt s at) → P at) → (at : ℕ) → P at
+by-chain s P f g at = chain-induction s P f g (length s) at (omega arith)
 
 -- the starts of the records do
-
-behind-go : (k : ℕ) (s : List ℕ) (at : ℕ) → length s ≤ at + k → Behind at (starts s at)
-behind-go zero s at h = rw (starts-end s at (omega arith)) tt
-behind-go (suc k) s at h = go (leb (length s) at) refl (recordOk s at) refl (behind-go k s (at + lengthAt s at))
-  where
-    go : (a : Bool) → leb (length s) at ≡ a → (b : Bool) → recordOk s at ≡ b → (length s ≤ at + lengthAt s at + k → Behind (at + lengthAt s at) (starts s (at + lengthAt s at))) → Behind at (starts s at)
-    go true p b q r = rw (starts-end s at (leb-true _ _ p)) tt
-    go false p true q r =
-        let o = ok-means s at q in
-        rw (starts-record s at (leb-false _ _ p) q)
-        (omega arith, behind-more (at + 1) (at + lengthAt s at) (starts s (at + lengthAt s at)) (omega (arith, o .long)) (r (omega (arith, o .long))))
-    go false p false q r = rw (starts-bad s at (leb-false _ _ p) q) (omega arith, tt)
-
 pub starts-behind : (s : List ℕ) (at : ℕ) → Behind at (starts s at)
-starts-behind s at = behind-go (length s) s at (omega arith)
+starts-behind s =
+    by-chain s (λ at. Behind at (starts s at)) (λ at e. rw (starts-none s at e) tt)
+    (λ at e r.
+    let o = ok-means s at e in
+    rw (starts-record s at e) (omega arith, behind-more (at + 1) (at + lengthAt s at) (starts s (at + lengthAt s at)) (omega (arith, o .long)) r))
+
+-- and each is a record
+pub starts-ok : (s : List ℕ) (x at : ℕ) → List·Memᴰ x (starts s at) → recordOk s x ≡ true
+starts-ok s x =
+    by-chain s (λ at. List·Memᴰ x (starts s at) → recordOk s x ≡ true) (λ at e m. absurd (List·Memᴰ·not-nil (rw (starts-none s at e) at m)))
+    (λ at e r m. ⊎-elim (λ h. rw h e) r (List·Memᴰ·cases-cons (rw (starts-record s at e) at m)))
+
+-- where they end: they stand up to there, nothing good stands there, and it is no further than the file goes
+
+pub end-none : (s : List ℕ) (at : ℕ) → recordOk s at ≡ false → endOf s at (starts s at) ≡ at
+unfolding endOf
+end-none s at e = rw (starts-none s at e)
+
+pub end-record : (s : List ℕ) (at : ℕ) → recordOk s at ≡ true → endOf s at (starts s at) ≡ endOf s (at + lengthAt s at) (starts s (at + lengthAt s at))
+unfolding endOf
+end-record s at e = rw (starts-record s at e)
+
+pub record Ends (s : List ℕ) (at : ℕ) : Type 0 where
+  pub stand : Stand s at (starts s at) (endOf s at (starts s at))
+  pub bad : recordOk s (endOf s at (starts s at)) ≡ false
+  pub inside : at ≤ length s → endOf s at (starts s at) ≤ length s
+
+pub chain-ends : (s : List ℕ) (at : ℕ) → Ends s at
+unfolding endOf
+chain-ends s =
+    by-chain s (Ends s) (λ at e. let n = starts-none s at e in record { stand = rw n refl; bad = rw n e; inside = λ h. rw n h })
+    (λ at e r.
+    let n = starts-record s at e in
+    let o = ok-means s at e in
+    record { stand = rw n (refl, (e, r .stand)); bad = rw n (r .bad); inside = λ h. rw n (r .inside (o .inside)) })
+
+-- records that stand up to where nothing good stands are the list
+pub stand-starts : (s : List ℕ) (at : ℕ) (xs : List ℕ) (end : ℕ) → Stand s at xs end → recordOk s end ≡ false → starts s at ≡ xs
+stand-starts s at [] end w e = starts-none s at (rw (w) e)
+stand-starts s at (x ∷ xs) end w e =
+    ap (starts s) (sym (w .0)) ∙ starts-record s x (w .1 .0)
+    ∙ ap (λ (l : List ℕ). x ∷ l) (stand-starts s (x + lengthAt s x) xs end (w .1 .1) e)
+
+pub stand-end : (s : List ℕ) (at : ℕ) (xs : List ℕ) (end : ℕ) → Stand s at xs end → endOf s at xs ≡ end
+unfolding endOf
+stand-end s at [] end w = w
+stand-end s at (x ∷ xs) end w = stand-end s (x + lengthAt s x) xs end (w .1 .1)
+
+pub whole-starts : (s : List ℕ) (at : ℕ) (xs : List ℕ) → Whole s at xs → starts s at ≡ xs
+whole-starts s at xs w = stand-starts s at xs (length s) w (past-bad s (length s) (omega arith))
 
 -- the first record of which p holds
 
 module _ (p : ℕ → Bool) (s : List ℕ) (at : ℕ) where
-  pub first-end : length s ≤ at → Nothing ≡ firstRecord s at p
+  pub first-none : recordOk s at ≡ false → Nothing ≡ firstRecord s at p
   unfolding firstRecord find
-  first-end h = rw (starts-end s at h)
+  first-none e = rw (starts-none s at e)
 
-  pub first-here : at < length s → p at ≡ true → At at ≡ firstRecord s at p
+  pub first-here : recordOk s at ≡ true → p at ≡ true → At at ≡ firstRecord s at p
   unfolding firstRecord find
-  first-here h e = go (recordOk s at) refl
-    where
-      go : (b : Bool) → recordOk s at ≡ b → At at ≡ find p (starts s at)
-      go true f = rw (starts-record s at h f, e)
-      go false f = rw (starts-bad s at h f, e)
+  first-here f e = rw (starts-record s at f, e)
 
-  pub first-next : at < length s → recordOk s at ≡ true → p at ≡ false → firstRecord s at p ≡ firstRecord s (at + lengthAt s at) p
+  pub first-next : recordOk s at ≡ true → p at ≡ false → firstRecord s at p ≡ firstRecord s (at + lengthAt s at) p
   unfolding firstRecord find
-  first-next h f e = rw (starts-record s at h f, e)
-
-  pub first-stop : at < length s → recordOk s at ≡ false → p at ≡ false → Nothing ≡ firstRecord s at p
-  unfolding firstRecord find
-  first-stop h f e = rw (starts-bad s at h f, e)
-
--- a chain with no bad record is whole, and a whole chain is the list and has no bad record
-
-none : {C : Type 0} {x : ℕ} {f : Found} → At x ≡ f → f ≡ Nothing → C
-none p q = other (cc)
-
-whole-go : (k : ℕ) (s : List ℕ) (at : ℕ) → at ≤ length s → firstRecord s at (λ x. not (recordOk s x)) ≡ Nothing → length s ≤ at + k → Whole s at (starts s at)
-whole-go zero s at h e f = rw (starts-end s at (omega arith)) (omega arith)
-whole-go (suc k) s at h e f = go (leb (length s) at) refl (recordOk s at) refl (whole-go k s (at + lengthAt s at))
-  where
-    go :
-        (a : Bool) → leb (length s) at ≡ a → (b : Bool) → recordOk s at ≡ b →
-        (at + lengthAt s at ≤ length s → firstRecord s (at + lengthAt s at) (λ x. not (recordOk s x)) ≡ Nothing → length s ≤ at + lengthAt s at + k →
-        Whole s (at + lengthAt s at) (starts s (at + lengthAt s at))) →
-        Whole s at (starts s at)
-    go true ea b eb r = let l = leb-true _ _ ea in rw (starts-end s at l) (omega arith)
-    go false ea true eb r =
-        let l = leb-false _ _ ea in
-        let o = ok-means s at eb in
-        rw (starts-record s at l eb)
-        (refl, (eb, r (omega arith) (sym (first-next (λ x. not (recordOk s x)) s at l eb (ap not eb)) ∙ e) (omega arith)))
-    go false ea false eb r = none (first-here (λ x. not (recordOk s x)) s at (leb-false _ _ ea) (ap not eb)) e
-
-pub whole-if : (s : List ℕ) (at : ℕ) → at ≤ length s → firstRecord s at (λ x. not (recordOk s x)) ≡ Nothing → Whole s at (starts s at)
-whole-if s at h e = whole-go (length s) s at h e (omega arith)
-
-pub whole-starts : (s : List ℕ) (at : ℕ) (xs : List ℕ) → Whole s at xs → starts s at ≡ xs
-whole-starts s at [] w = starts-end s at (omega arith)
-whole-starts s at (x ∷ xs) w =
-    let o = ok-means s x (w .1 .0) in
-    ap (starts s) (sym (w .0)) ∙ starts-record s x (omega arith) (w .1 .0)
-    ∙ ap (λ (l : List ℕ). x ∷ l) (whole-starts s (x + lengthAt s x) xs (w .1 .1))
-
-pub whole-none : (s : List ℕ) (at : ℕ) (xs : List ℕ) → Whole s at xs → firstRecord s at (λ x. not (recordOk s x)) ≡ Nothing
-whole-none s at [] w = sym (first-end (λ x. not (recordOk s x)) s at (omega arith))
-whole-none s at (x ∷ xs) w =
-    let o = ok-means s x (w .1 .0) in
-    ap (λ (y : ℕ). firstRecord s y (λ x. not (recordOk s x))) (sym (w .0))
-    ∙ first-next (λ x. not (recordOk s x)) s x (omega arith) (w .1 .0) (ap not (w .1 .0))
-    ∙ whole-none s (x + lengthAt s x) xs (w .1 .1)
+  first-next f e = rw (starts-record s at f, e)
 
 -- the extents of a whole chain: within the file, increasing and disjoint
 

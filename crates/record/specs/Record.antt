@@ -1,5 +1,6 @@
 -- Document 01, stage 6; G 3.3 and Table 1: what a record is, and what a cursor finds.
-use Prim.Native.Nat.{ℕ, _+_, _%_}
+use Prim.Native.Nat.{ℕ, _+_, _-_, _%_, min}
+use mathlib.Core.Path.{_≡_}
 use mathlib.Core.List.{List, [], _∷_}
 use mathlib.Core.Bool.{Bool}
 use lib.ListN.{length}
@@ -29,8 +30,22 @@ recordOk s at =
     ((16 ≤? lengthAt s at) ∷ (lengthAt s at ≤? largestInteger) ∷ (lengthAt s at % 8 ≡? 0)
     ∷ (at + lengthAt s at ≤? length s) ∷ (typeAt s at ≤? 5) ∷ [])
 
+-- where the checksum of the record at `at` starts, its last four bytes, if it ends inside the file; otherwise four before the
+-- file's end, which only bounds the reading
+unfoldable pub recordLimit : List ℕ → ℕ → ℕ
+recordLimit s at = min (at + lengthAt s at) (length s) - 4
+
+-- entries that end at `end` fit their record with 0 to 7 padding bytes before the checksum (document 01, stage 9)
+unfoldable pub padded : List ℕ → ℕ → ℕ → Bool
+padded s at end = passes ((end ≤? recordLimit s at) ∷ (recordLimit s at ≤? end + 7) ∷ [])
+
 -- what a cursor at `at` finds: the file's end; a record, its type and extent and the cursor behind it; or a bad record
 unfoldable pub stepAt : List ℕ → ℕ → Step
 stepAt s at =
     pick (leb (length s) at) End
     (pick (recordOk s at) (Record (typeAt s at) at (lengthAt s at) (record { at = at + lengthAt s at })) Bad)
+
+-- a type and a length are those of the record at `at`, as a cursor's step hands them on
+pub record Told (s : List ℕ) (kind at long : ℕ) : Type 0 where
+  pub type-is : kind ≡ typeAt s at
+  pub length-is : long ≡ lengthAt s at

@@ -1,4 +1,7 @@
 // Records and the cursor over their chain.
+pub mod chain;
+pub mod frame;
+
 ghost use mathlib.Core.Path.{_≡_};
 ghost use Rattle.record.specs.Record.{recordOk, stepAt};
 

@@ -1,6 +1,6 @@
 -- What an opened page holds and answers: as the bytes alone do, whatever numbers it holds. Assumes nothing.
-use Prim.Native.Nat.{ℕ, _-_}
-use mathlib.Core.Path.{_≡_, refl, sym, _∙_}
+use Prim.Native.Nat.{ℕ, _-_, _<_}
+use mathlib.Core.Path.{_≡_, refl, sym, ap, _∙_}
 use mathlib.Core.List.{List}
 use mathlib.Core.Bool.{Bool, true, false}
 use lib.Dec.{eqb}
@@ -13,25 +13,31 @@ use Rattle.answer.specs.declared.Cell.{Cell}
 use Rattle.answer.specs.declared.Cell.the-variants as cell
 use Rattle.answer.specs.declared.Content.{Content}
 use Rattle.answer.specs.declared.Content.the-variants as content
-use Rattle.header.specs.Fields.{headerEnd, tileDirectoryReference}
+use Rattle.answer.proofs.VerdictLaws.{refusal-handed, answer-behind, same-behind}
+use Rattle.header.specs.Fields.{tileDirectoryReference}
+use Rattle.record.specs.Chain.{headerEnd}
+use Rattle.geometry.specs.Tiles.{tileCount}
 use Rattle.directory.specs.TileDirectory.{tileDirectoryAt}
 use Rattle.page_check.specs.Stages.{check}
-use Rattle.cells.specs.DirectoryRoute.{lookedFrom, lookedUpContent}
-use Rattle.cells.specs.Walk.{walkedCell}
+use Rattle.cells.specs.declared.Route.{Route}
+use Rattle.cells.specs.declared.Route.the-variants.{Directory, Walk}
+use Rattle.cells.specs.Routes.{meant, foundBy}
+use Rattle.cells.specs.Meaning.{meaning, contentMeaning}
 use Rattle.cells.specs.Reads.{readByDirectory, readByWalk, readMeaning, readContent}
-use Rattle.cells.proofs.ReadLaws.{walk-refused, walk-answers, walk-read, directory-refused, looked-means, directory-answers, directory-read, content-refused, content-answers, content-read}
-use Rattle.store.specs.Opened.{unlessZero, trusted, pageByWalk, pageByDirectory, pageContent, pageRead, plainRead}
+use Rattle.cells.specs.inner.Lookups.{lookedUp, lookedUpContent}
+use Rattle.cells.proofs.ReadLaws.{check-lawful, accepted-finds, walked-finds, way-means, content-way-means, looked-means, content-looked-means, walk-read, directory-read}
+use Rattle.store.specs.Opened.{heldEnd, heldDirectory, trusted, walkFrom, throughDirectory, pageContent, pageRead, plainRead}
 
 -- what is held
 
-module _ (s : List ℕ) (n : ℕ) (v : Verdict) (p : v ≡ check s) where
-  pub zero-refused : (x : Refusal) → v ≡ Refused x → 0 ≡ unlessZero (check s) n
-  unfolding unlessZero
-  zero-refused x f = rw (← p, f)
+module _ (s : List ℕ) (v : Verdict) (p : v ≡ check s) where
+  pub held-refused : (x : Refusal) → v ≡ Refused x → (0 ≡ heldEnd s) × (0 ≡ heldDirectory s)
+  unfolding heldEnd heldDirectory
+  held-refused x f = (refusal-handed (λ r. 0) v (check s) p _ x f, refusal-handed (λ r. 0) v (check s) p _ x f)
 
-  pub own-accepted : v ≡ Accepted → n ≡ unlessZero (check s) n
-  unfolding unlessZero
-  own-accepted f = rw (← p, f)
+  pub held-accepted : (n d : ℕ) → v ≡ Accepted → n ≡ headerEnd s → d ≡ tileDirectoryReference s → (n ≡ heldEnd s) × (d ≡ heldDirectory s)
+  unfolding heldEnd heldDirectory
+  held-accepted n d f g h = (answer-behind (λ r. 0) v (check s) p _ n f (λ a. g), answer-behind (λ r. 0) v (check s) p _ d f (λ a. h))
 
 -- a held number, compared, is the bytes' own
 
@@ -43,75 +49,69 @@ trusted-own held own = go (eqb held own) refl
     go true f = eqb-true held own f
     go false f = refl
 
-directory-trusted : (s : List ℕ) (directory : ℕ) → trusted directory (tileDirectoryReference s) - 8 ≡ tileDirectoryAt s
-unfolding tileDirectoryAt
-directory-trusted s directory = rw (trusted-own directory (tileDirectoryReference s))
+-- the routes, from their parts
+
+pub walk-is : (s : List ℕ) (end n t : ℕ) → n ≡ headerEnd s → t ≡ trusted end n → Walk t ≡ walkFrom s end
+unfolding walkFrom
+walk-is s end n t p q = ap Walk (q ∙ rw p)
+
+pub through-is : (s : List ℕ) (directory n t d : ℕ) → n ≡ tileDirectoryReference s → t ≡ trusted directory n → d ≡ t - 8 → Directory d ≡ throughDirectory s directory
+unfolding throughDirectory
+through-is s directory n t d p q r = ap Directory (r ∙ rw (q, p))
+
+-- whatever is held, on an accepted file each finds what is meant
+
+module _ (s : List ℕ) (a : check s ≡ Accepted) (i : ℕ) (h : i < tileCount s) where
+  pub walk-held : (end : ℕ) → foundBy s (walkFrom s end) i ≡ meant s i
+  unfolding foundBy walkFrom
+  walk-held end = rw (trusted-own end (headerEnd s)) (walked-finds s i h)
+
+  pub directory-held : (directory : ℕ) → foundBy s (throughDirectory s directory) i ≡ meant s i
+  unfolding foundBy throughDirectory tileDirectoryAt
+  directory-held directory = rw (trusted-own directory (tileDirectoryReference s)) (accepted-finds s a i h)
+
+  pub either-held : (end directory : ℕ) (walk : Bool) → foundBy s (pick walk (walkFrom s end) (throughDirectory s directory)) i ≡ meant s i
+  either-held end directory true = walk-held end
+  either-held end directory false = directory-held directory
 
 -- so a page's reads are those of its bytes
 
-module _ (s : List ℕ) (row column e : ℕ) where
-  walk-page : (end : ℕ) → pageByWalk s end row column e ≡ readByWalk s row column e
-  unfolding pageByWalk readByWalk
-  walk-page end = rw (trusted-own end (headerEnd s))
+module _ (s : List ℕ) (row column e end directory : ℕ) (walk : Bool) where
+  page-means : pageRead s end directory row column e walk ≡ readMeaning s row column e
+  unfolding pageRead readMeaning
+  page-means =
+      same-behind cell.Refused (check s) _ _
+      (λ a. way-means s _ (check-lawful s a) (λ i h. either-held s a i h end directory walk) row column e)
 
-  directory-page : (directory : ℕ) → pageByDirectory s directory row column e ≡ readByDirectory s row column e
-  unfolding pageByDirectory readByDirectory
-  directory-page directory = rw (directory-trusted s directory)
+  plain-means : plainRead s row column e walk ≡ readMeaning s row column e
+  unfolding plainRead
+  plain-means = go walk
+    where
+      go : (b : Bool) → pick b (readByWalk s row column e) (readByDirectory s row column e) ≡ readMeaning s row column e
+      go true = walk-read s row column e
+      go false = directory-read s row column e
 
-content-page : (s : List ℕ) (directory tile e : ℕ) → pageContent s directory tile e ≡ readContent s tile e
-unfolding pageContent
-content-page s directory tile e = rw (directory-trusted s directory) (content-read s tile e)
+  pub all-three : (x : Cell) → x ≡ readMeaning s row column e → (x ≡ pageRead s end directory row column e walk) × ((x ≡ plainRead s row column e walk) × (x ≡ readMeaning s row column e))
+  all-three x g = (g ∙ sym page-means, (g ∙ sym plain-means, g))
 
--- the reads, by what the functions below them answer
+  pub page-answer :
+      (w : Route) (x : Cell) → w ≡ pick walk (walkFrom s end) (throughDirectory s directory) → x ≡ lookedUp s (foundBy s w) row column e → check s ≡ Accepted →
+      x ≡ meaning s row column e
+  page-answer w x p q a = q ∙ rw p (looked-means s _ (check-lawful s a) (λ i h. either-held s a i h end directory walk) row column e)
 
-module _ (s : List ℕ) (v : Verdict) (p : v ≡ check s) where
-  module _ (row column e end : ℕ) where
-    walk-both : (x : Cell) → x ≡ readByWalk s row column e → (x ≡ pageByWalk s end row column e) × (x ≡ readByWalk s row column e)
-    walk-both x g = (g ∙ sym (walk-page s row column e end), g)
+pub plain-both : (s : List ℕ) (row column e : ℕ) (walk : Bool) (x : Cell) → x ≡ readMeaning s row column e → (x ≡ plainRead s row column e walk) × (x ≡ readMeaning s row column e)
+plain-both s row column e walk x g = all-three s row column e 0 0 walk x g .1
 
-    pub walk-from-refused : (x : Refusal) → v ≡ Refused x → (cell.Refused x ≡ pageByWalk s end row column e) × (cell.Refused x ≡ readByWalk s row column e)
-    walk-from-refused x f = walk-both _ (walk-refused s v p row column e x f .0)
+module _ (s : List ℕ) (directory tile e : ℕ) where
+  content-page : pageContent s directory tile e ≡ readContent s tile e
+  unfolding pageContent readContent
+  content-page =
+      same-behind content.Refused (check s) _ _
+      (λ a. content-way-means s _ (check-lawful s a) (λ i h. directory-held s a i h directory) tile e)
 
-    pub walk-from-answers :
-        (at : ℕ) (x : Cell) → v ≡ Accepted → at ≡ trusted end (headerEnd s) → x ≡ walkedCell s at row column e →
-        (x ≡ pageByWalk s end row column e) × (x ≡ readByWalk s row column e)
-    walk-from-answers at x f q g = walk-both x (walk-answers s v p row column e at x f (q ∙ trusted-own end (headerEnd s)) g .0)
+  pub both-contents : (x : Content) → x ≡ readContent s tile e → (x ≡ pageContent s directory tile e) × (x ≡ readContent s tile e)
+  both-contents x g = (g ∙ sym content-page, g)
 
-  module _ (row column e directory : ℕ) where
-    directory-both : (x : Cell) → x ≡ readByDirectory s row column e → (x ≡ pageByDirectory s directory row column e) × (x ≡ readByDirectory s row column e)
-    directory-both x g = (g ∙ sym (directory-page s row column e directory), g)
-
-    pub look-from-refused : (x : Refusal) → v ≡ Refused x → (cell.Refused x ≡ pageByDirectory s directory row column e) × (cell.Refused x ≡ readByDirectory s row column e)
-    look-from-refused x f = directory-both _ (directory-refused s v p row column e x f .0)
-
-    pub look-from-answers :
-        (at : ℕ) (x : Cell) → v ≡ Accepted → at ≡ trusted directory (tileDirectoryReference s) - 8 → x ≡ lookedFrom s at row column e →
-        (x ≡ pageByDirectory s directory row column e) × (x ≡ readByDirectory s row column e)
-    look-from-answers at x f q g =
-        directory-both x (directory-answers s v p row column e x f (looked-means s at row column e x g (q ∙ directory-trusted s directory) .1) .0)
-
-  module _ (tile e directory : ℕ) where
-    content-both : (x : Content) → x ≡ readContent s tile e → (x ≡ pageContent s directory tile e) × (x ≡ readContent s tile e)
-    content-both x g = (g ∙ sym (content-page s directory tile e), g)
-
-    pub content-from-refused : (x : Refusal) → v ≡ Refused x → (content.Refused x ≡ pageContent s directory tile e) × (content.Refused x ≡ readContent s tile e)
-    content-from-refused x f = content-both _ (content-refused s v p tile e x f)
-
-    pub content-from-answers :
-        (at : ℕ) (x : Content) → v ≡ Accepted → at ≡ trusted directory (tileDirectoryReference s) - 8 → x ≡ lookedUpContent s at tile e →
-        (x ≡ pageContent s directory tile e) × (x ≡ readContent s tile e)
-    content-from-answers at x f q g = content-both x (content-answers s v p tile e at x f (q ∙ directory-trusted s directory) g)
-
--- by either route
-
-module _ (s : List ℕ) (row column e end directory : ℕ) (b : Bool) (x : Cell) where
-  abbrev Both : Type 0
-  Both = (x ≡ pageRead s end directory row column e b) × ((x ≡ plainRead s row column e b) × (x ≡ readMeaning s row column e))
-
-  pub read-walk : b ≡ true → (x ≡ pageByWalk s end row column e) × (x ≡ readByWalk s row column e) → Both
-  unfolding pageRead plainRead
-  read-walk f g = (rw f (g .0), (rw f (g .1), g .1 ∙ walk-read s row column e))
-
-  pub read-directory : b ≡ false → (x ≡ pageByDirectory s directory row column e) × (x ≡ readByDirectory s row column e) → Both
-  unfolding pageRead plainRead
-  read-directory f g = (rw f (g .0), (rw f (g .1), g .1 ∙ directory-read s row column e))
+  pub page-content-answer :
+      (w : Route) (x : Content) → w ≡ throughDirectory s directory → x ≡ lookedUpContent s (foundBy s w) tile e → check s ≡ Accepted → x ≡ contentMeaning s tile e
+  page-content-answer w x p q a = q ∙ rw p (content-looked-means s _ (check-lawful s a) (λ i h. directory-held s a i h directory) tile e)

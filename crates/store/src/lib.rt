@@ -17,14 +17,15 @@ pub struct Page<'a> {
     pub directory: u64,
 }
 
-// Opens any bytes. It holds 0 and 0 where the check refuses them.
+// Opens any bytes, by one check. It holds 0 and 0 where that refuses them.
 pub fn open<'a>(file: &'a [u8]) -> Page<'a>
     ensures { λ r. ⌜ (r .file ≡ file .entry) × ((r .«header_end» ≡ heldEnd (now (file .entry))) × (r .directory ≡ heldDirectory (now (file .entry)))) ⌝ }
 {
+    let held = reads::held_by(file);
     Page {
         file,
-        header_end: reads::held_end(file),
-        directory: reads::held_directory(file),
+        header_end: held.header_end,
+        directory: held.directory,
     }
 }
 
@@ -45,19 +46,22 @@ pub fn content_part<'a>(p: Page<'a>, tile: u64, e: u64) -> &'a [u8]
     reads::content_from(p.file, p.directory, tile, e)
 }
 
-// A cell of bytes that are opened for it. Its caller holds no page, so no proof about a caller goes through one.
+// A cell of bytes that no page holds, so that no proof about a caller goes through one.
 pub fn cell_of(file: &[u8], row: u64, column: u64, e: u64, walk: bool) -> Cell
     ensures route { λ r. ⌜ r ≡ plainRead (now (file .entry)) row column e walk ⌝ }
     ensures meaning { λ r. ⌜ r ≡ readMeaning (now (file .entry)) row column e ⌝ }
 {
-    read(open(file), row, column, e, walk)
+    if walk {
+        return cells::reads::read_by_walk(file, row, column, e);
+    }
+    cells::reads::read_by_directory(file, row, column, e)
 }
 
-// An element's content, of bytes that are opened for it, as that part of them.
+// An element's content, of bytes that no page holds, as that part of them.
 pub fn content_of(file: &[u8], tile: u64, e: u64) -> &[u8]
     ensures holds { λ r. ⌜ now r ≡ part (now (file .entry)) (contentPlace (readContent (now (file .entry)) tile e)) (contentLength (readContent (now (file .entry)) tile e)) ⌝ }
     ensures block { λ r. ⌜ r .ptr .0 ≡ file .entry .ptr .0 ⌝ }
     ensures offset { λ r. ⌜ r .ptr .1 ≡ file .entry .ptr .1 + partAt (now (file .entry)) (contentPlace (readContent (now (file .entry)) tile e)) (contentLength (readContent (now (file .entry)) tile e)) ⌝ }
 {
-    content_part(open(file), tile, e)
+    cells::reads::content_part(file, tile, e)
 }

@@ -1,40 +1,40 @@
-// Reads on bytes and a held position, which may be any number: it is used only where it is the bytes' own.
+// Reads on bytes and held positions, which may be any numbers: one is used only where it is the bytes' own.
 use answer::Cell;
 use answer::Content;
 use answer::Verdict;
-use cells::reads;
-use directory::entries;
+use cells::Route;
+use cells::lookups;
 use header::fields;
+use record::chain;
+use record::frame;
 ghost use mathlib.Core.Path.{_≡_};
 ghost use Prim.Native.Nat.{_+_, _-_};
+ghost use Rattle.wire.specs.Pick.{pick};
 ghost use Rattle.wire.specs.Bytes.{part, partAt};
 ghost use Rattle.answer.specs.Answers.{contentPlace, contentLength};
-ghost use Rattle.header.specs.Fields.{headerEnd, tileDirectoryReference};
-ghost use Rattle.page_check.specs.Stages.{check};
-ghost use Rattle.cells.specs.Reads.{readByWalk, readByDirectory, readMeaning, readContent};
-ghost use Rattle.store.specs.Opened.{unlessZero, heldEnd, heldDirectory, trusted, pageByWalk, pageByDirectory, pageContent, pageRead, plainRead};
-
-// A number, 0 where the check refuses the bytes.
-fn unless_refused(file: &[u8], n: u64) -> u64
-    ensures { λ r. ⌜ r ≡ unlessZero (check (now (file .entry))) n ⌝ }
-{
-    match page_check::check(file) {
-        Verdict::Refused(_) => 0,
-        Verdict::Accepted => n,
-    }
-}
+ghost use Rattle.cells.specs.Reads.{readMeaning, readContent};
+ghost use Rattle.store.specs.Opened.{heldEnd, heldDirectory, trusted, walkFrom, throughDirectory, pageContent, pageRead, plainRead};
 
 // What a page holds of its bytes: where the header ends, and the tile directory's reference.
-pub fn held_end(file: &[u8]) -> usize
-    ensures { λ r. ⌜ r ≡ heldEnd (now (file .entry)) ⌝ }
-{
-    unless_refused(file, fields::header_end(file) as u64) as usize
+pub struct Positions {
+    pub header_end: usize,
+    pub directory: u64,
 }
 
-pub fn held_directory(file: &[u8]) -> u64
-    ensures { λ r. ⌜ r ≡ heldDirectory (now (file .entry)) ⌝ }
+// Both, by one check; 0 and 0 where it refuses the bytes.
+pub fn held_by(file: &[u8]) -> Positions
+    ensures { λ r. ⌜ (r .«header_end» ≡ heldEnd (now (file .entry))) × (r .directory ≡ heldDirectory (now (file .entry))) ⌝ }
 {
-    unless_refused(file, fields::tile_directory_reference(file))
+    match page_check::check(file) {
+        Verdict::Refused(_) => Positions {
+            header_end: 0,
+            directory: 0,
+        },
+        Verdict::Accepted => Positions {
+            header_end: chain::header_end(file),
+            directory: fields::tile_directory_reference(file),
+        },
+    }
 }
 
 // A held number where it is the bytes' own, else the bytes' own.
@@ -47,49 +47,31 @@ fn trust(held: u64, own: u64) -> u64
     own
 }
 
-// Where the walk starts.
-fn walk_start(file: &[u8], end: usize) -> usize
-    ensures { λ r. ⌜ r ≡ trusted end (headerEnd (now (file .entry))) ⌝ }
+// The walk from a held header's end.
+fn walk_from(file: &[u8], end: usize) -> Route
+    ensures { λ r. ⌜ r ≡ walkFrom (now (file .entry)) end ⌝ }
 {
-    trust(end as u64, fields::header_end(file) as u64) as usize
+    Route::Walk(trust(end as u64, chain::header_end(file) as u64) as usize)
 }
 
-// Where the tile directory's record starts.
-fn directory_start(file: &[u8], directory: u64) -> usize
-    ensures { λ r. ⌜ r ≡ trusted directory (tileDirectoryReference (now (file .entry))) - 8 ⌝ }
+// The route through a held tile directory.
+fn through_directory(file: &[u8], directory: u64) -> Route
+    ensures { λ r. ⌜ r ≡ throughDirectory (now (file .entry)) directory ⌝ }
 {
-    entries::record_of(trust(directory, fields::tile_directory_reference(file)))
+    Route::Directory(frame::record_of(trust(directory, fields::tile_directory_reference(file))))
 }
 
-// A cell by the walk from a held header's end.
-pub fn walk_from(file: &[u8], end: usize, row: u64, column: u64, e: u64) -> Cell
-    ensures held { λ r. ⌜ r ≡ pageByWalk (now (file .entry)) end row column e ⌝ }
-    ensures plain { λ r. ⌜ r ≡ readByWalk (now (file .entry)) row column e ⌝ }
+// By which of the two a page's read goes.
+fn route_of(file: &[u8], end: usize, directory: u64, walk: bool) -> Route
+    ensures { λ r. ⌜ r ≡ pick walk (walkFrom (now (file .entry)) end) (throughDirectory (now (file .entry)) directory) ⌝ }
 {
-    match page_check::check(file) {
-        Verdict::Refused(r) => Cell::Refused(r),
-        Verdict::Accepted => reads::walk_unchecked(file, walk_start(file, end), row, column, e),
+    if walk {
+        return walk_from(file, end);
     }
+    through_directory(file, directory)
 }
 
-// A cell through a held tile directory.
-pub fn look_from(file: &[u8], directory: u64, row: u64, column: u64, e: u64) -> Cell
-    ensures held { λ r. ⌜ r ≡ pageByDirectory (now (file .entry)) directory row column e ⌝ }
-    ensures plain { λ r. ⌜ r ≡ readByDirectory (now (file .entry)) row column e ⌝ }
-{
-    match page_check::check(file) {
-        Verdict::Refused(r) => Cell::Refused(r),
-        Verdict::Accepted => reads::look_up_unchecked(
-            file,
-            directory_start(file, directory),
-            row,
-            column,
-            e,
-        ),
-    }
-}
-
-// By either route. It is the check's refusal or the cell's meaning.
+// A cell by either route. It is the check's refusal or the cell's meaning.
 pub fn read_from(
     file: &[u8],
     end: usize,
@@ -103,10 +85,12 @@ pub fn read_from(
     ensures plain { λ r. ⌜ r ≡ plainRead (now (file .entry)) row column e walk ⌝ }
     ensures meaning { λ r. ⌜ r ≡ readMeaning (now (file .entry)) row column e ⌝ }
 {
-    if walk {
-        return walk_from(file, end, row, column, e);
+    match page_check::check(file) {
+        Verdict::Refused(r) => Cell::Refused(r),
+        Verdict::Accepted => {
+            lookups::look_up(file, route_of(file, end, directory, walk), row, column, e)
+        }
     }
-    look_from(file, directory, row, column, e)
 }
 
 // Where an element's content stands, through a held tile directory: present, absent, or refused and why.
@@ -117,7 +101,7 @@ pub fn content_at(file: &[u8], directory: u64, tile: u64, e: u64) -> Content
     match page_check::check(file) {
         Verdict::Refused(r) => Content::Refused(r),
         Verdict::Accepted => {
-            reads::content_unchecked(file, directory_start(file, directory), tile, e)
+            lookups::look_up_content(file, through_directory(file, directory), tile, e)
         }
     }
 }

@@ -231,6 +231,25 @@ bytes-part {s} at n w = go (leb (at + n) (length s))
     go true = bytes-take n (bytes-drop at w)
     go false = bytes-none
 
+-- the number of w bytes has that many
+
+bytes-less : (s : List ℕ) → Bytes s → number s < 256 ^ length s
+unfolding number
+bytes-less [] h = omega arith
+bytes-less (b ∷ bs) h =
+    let e : 256 ^ suc (length bs) ≡ 256 ^ length bs * 256 = pow-suc 256 (length bs) in
+    omega (arith, bytes-less bs (bytes-tail b bs h), h .small 0)
+
+pub number-small : (w : ℕ) (s : List ℕ) → Bytes s → (at : ℕ) → numberAt w s at < 256 ^ w
+unfolding numberAt number
+number-small w s h at =
+    by-cases (decLe (at + w) (length s)) (λ l. rw (part-length s at w l) at (bytes-less (part s at w) (bytes-part at w h)))
+    (λ l. let e = part-out s at w (omega arith) in rw e (power w))
+  where
+    power : (k : ℕ) → 0 < 256 ^ k
+    power zero = omega arith
+    power (suc k) = let e : 256 ^ suc k ≡ 256 ^ k * 256 = pow-suc 256 k in omega (arith, power k)
+
 pub bytes-of : (w v : ℕ) → Bytes (bytesOf w v)
 unfolding bytesOf
 bytes-of zero v = bytes-none

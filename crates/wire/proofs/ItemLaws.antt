@@ -2,6 +2,8 @@
 use Prim.Native.Nat.{ℕ, zero, suc, _+_, _*_, _-_, _≤_, _<_}
 use mathlib.Core.Path.{_≡_, refl, sym, ap, _∙_}
 use mathlib.Core.Bool.{Bool, true, false}
+use mathlib.Core.Logic.{_⊎_, inl, inr, by-cases}
+use native.Mathlib.Decide.{decLe}
 use native.Mathlib.Omega.{arith}
 use native.Mathlib.Numerals.{add-one}
 use native.Mathlib.Nat.{mul-le-mul-right}
@@ -110,3 +112,9 @@ module _ (next : ℕ → ℕ) (limit left at : ℕ) where
 -- of n items of one size, each ends among them
 pub item-within : (n k z : ℕ) → k < n → k * z + z ≤ n * z
 item-within n k z h = let m : (k + 1) * z ≤ n * z = mul-le-mul-right z (omega arith) in omega arith
+
+-- two items of one size are one, or share nothing
+pub items-apart : (j k z : ℕ) → (j ≡ k) ⊎ ((j * z + z ≤ k * z) ⊎ (k * z + z ≤ j * z))
+items-apart j k z =
+    by-cases (decLe (j + 1) k) (λ h. inr (inl (item-within k j z (omega arith))))
+    (λ h. by-cases (decLe (k + 1) j) (λ i. inr (inr (item-within j k z (omega arith)))) (λ i. inl (omega arith)))

@@ -3,3 +3,5 @@ pub mod ByteLaws
 pub mod ItemLaws
 pub mod PutLaws
 pub mod PlaceLaws
+pub mod ListLaws
+pub mod CountLaws

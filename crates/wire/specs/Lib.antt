@@ -2,3 +2,4 @@ pub mod Pick
 pub mod Tests
 pub mod Bytes
 pub mod Items
+pub mod Lists

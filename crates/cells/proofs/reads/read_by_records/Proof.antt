@@ -1,9 +1,8 @@
 -- `cells::reads::read_by_records` meets its contract. Assumes nothing.
-use Rattle.cells.proofs.ReadLaws.{records-refused, records-answer}
 use borrow.Author.Needs.{needs}
+use Rattle.cells.proofs.ReadLaws.{bodies-lawful, walk-answer, bodies-refused, bodies-answer, both-records}
 use Rattle.cells.proofs.reads.read_by_records.Statement.{statement}
 use Rattle.cells.proofs.reads.read_by_records.Tie as tie
-use Rattle.cells.proofs.reads.read_by_records.Reads as reads
 
 pub read-by-records-spec : {M : Type 1} → statement M
 read-by-records-spec =
@@ -14,5 +13,5 @@ read-by-records-spec =
     (λ c. search needs)
     (λ c κs. search needs)
     (λ c κs. search needs)
-    (λ c. records-refused _ _ (c .before .before .before .check-to-bodies .ensures) _ _ _ _ (c .before .r .given .1))
-    (λ c. records-answer _ _ (c .before .before .before .before .check-to-bodies .ensures) _ _ _ _ _ (c .before .before .enum-told .given .1) (c .before .header-end .ensures) (c .walk-unchecked .ensures)))
+    (λ c. both-records _ _ _ _ _ (bodies-refused _ _ (c .before .before .before .check-to-bodies .ensures) _ _ _ _ (c .before .r .given .1)))
+    (λ c. both-records _ _ _ _ _ (bodies-answer _ _ (c .before .before .before .before .check-to-bodies .ensures) _ _ _ _ (c .before .before .enum-told .given .1) (λ a. walk-answer _ _ _ _ _ _ (c .look-up .ensures) (c .before .header-end .ensures) (bodies-lawful _ a)))))

@@ -1,9 +1,8 @@
 -- `cells::reads::read_by_walk` meets its contract. Assumes nothing.
-use Rattle.cells.proofs.ReadLaws.{walk-refused, walk-answers}
 use borrow.Author.Needs.{needs}
+use Rattle.cells.proofs.ReadLaws.{check-lawful, walk-answer, mean-refused, mean-answer, both-walk}
 use Rattle.cells.proofs.reads.read_by_walk.Statement.{statement}
 use Rattle.cells.proofs.reads.read_by_walk.Tie as tie
-use Rattle.cells.proofs.reads.read_by_walk.Reads as reads
 
 pub read-by-walk-spec : {M : Type 1} → statement M
 read-by-walk-spec =
@@ -14,5 +13,5 @@ read-by-walk-spec =
     (λ c. search needs)
     (λ c κs. search needs)
     (λ c κs. search needs)
-    (λ c. walk-refused _ _ (c .before .before .before .check .ensures) _ _ _ _ (c .before .r .given .1))
-    (λ c. walk-answers _ _ (c .before .before .before .before .check .ensures) _ _ _ _ _ (c .before .before .enum-told .given .1) (c .before .header-end .ensures) (c .walk-unchecked .ensures)))
+    (λ c. both-walk _ _ _ _ _ (mean-refused _ _ (c .before .before .before .check .ensures) _ _ _ _ (c .before .r .given .1)))
+    (λ c. both-walk _ _ _ _ _ (mean-answer _ _ (c .before .before .before .before .check .ensures) _ _ _ _ (c .before .before .enum-told .given .1) (λ a. walk-answer _ _ _ _ _ _ (c .look-up .ensures) (c .before .header-end .ensures) (check-lawful _ a)))))

@@ -1,7 +1,7 @@
 -- `cells::tile_cells::content_in` meets its contract. Assumes nothing.
-use mathlib.Core.Path.{refl}
-use Rattle.cells.proofs.CellLaws.{reach-means, content-packed, content-whole, bytes-small}
 use borrow.Author.Needs.{needs}
+use mathlib.Core.Path.{refl}
+use Rattle.cells.proofs.CellLaws.{content-packed, content-whole, bytes-small}
 use Rattle.cells.proofs.tile_cells.content_in.Statement.{statement}
 use Rattle.cells.proofs.tile_cells.content_in.Tie as tie
 
@@ -9,9 +9,9 @@ pub content-in-spec : {M : Type 1} → statement M
 content-in-spec =
     tie.close
     (tie.spec
-    (λ c κs. reach-means _ _ (c .before .pre) .0)
+    (λ c κs. search needs)
     (λ c. search (needs, content-packed))
-    (λ c κs. reach-means _ _ (c .before .before .before .pre) .0)
+    (λ c κs. search needs)
     (λ c. search needs)
     (λ c κs. search needs)
-    (λ c. content-whole _ _ _ _ (c .before .before .before .is-packed .ensures) _ _ _ (c .before .before .if1 .left) (c .before .section .ensures .0) (bytes-small _ _ _ (reach-means _ _ (c .before .before .before .before .before .pre) .1) (c .element-bytes .ensures)) refl))
+    (λ c. content-whole _ _ _ _ (c .before .before .before .is-packed .ensures) _ _ _ (c .before .before .if1 .left) (c .before .section .ensures .0) (bytes-small _ _ _ (c .before .before .before .before .before .pre .1) (c .element-bytes .ensures)) refl))

@@ -1,6 +1,6 @@
 -- `check_records::checksum::checksum_of` meets its contract. Assumes nothing.
-use Rattle.check_records.proofs.RecordLaws.{checksum-on, checksum-off}
 use borrow.Author.Needs.{needs}
+use Rattle.check_records.proofs.RecordLaws.{checksum-on, checksum-off}
 use Rattle.check_records.proofs.checksum.checksum_of.Statement.{statement}
 use Rattle.check_records.proofs.checksum.checksum_of.Tie as tie
 
@@ -11,5 +11,5 @@ checksum-of-spec =
     (λ c κs. search needs)
     (λ c κs. search needs)
     (λ c κs. search needs)
-    (λ c. search (needs, checksum-on))
-    (λ c. search (needs, checksum-off)))
+    (λ c. search (needs, checksum-on, checksum-off))
+    (λ c. search (needs, checksum-on, checksum-off)))

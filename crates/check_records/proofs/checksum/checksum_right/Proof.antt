@@ -1,8 +1,8 @@
 -- `check_records::checksum::checksum_right` meets its contract. Assumes nothing.
-use native.Mathlib.Omega.{arith}
-use Rattle.wire.proofs.TestLaws.{no, yes}
-use Rattle.check_records.specs.Checksum.{checksumRight}
 use borrow.Author.Needs.{needs}
+use native.Mathlib.Omega.{arith}
+use Rattle.wire.proofs.TestLaws.{yes, no}
+use Rattle.check_records.specs.Checksum.{checksumRight}
 use Rattle.check_records.proofs.checksum.checksum_right.Statement.{statement}
 use Rattle.check_records.proofs.checksum.checksum_right.Tie as tie
 

@@ -1,6 +1,6 @@
 -- `check_records::faults::body_right` meets its contract. Assumes nothing.
-use Rattle.check_records.proofs.RecordLaws.{body-tile, body-metadata, body-other}
 use borrow.Author.Needs.{needs}
+use Rattle.check_records.proofs.RecordLaws.{body-tile, body-metadata, body-other}
 use Rattle.check_records.proofs.faults.body_right.Statement.{statement}
 use Rattle.check_records.proofs.faults.body_right.Tie as tie
 
@@ -9,8 +9,7 @@ body-right-spec =
     tie.close
     (tie.spec
     (λ c κs. search needs)
+    (λ c. search (needs, body-tile, body-metadata, body-other))
     (λ c κs. search needs)
-    (λ c. search (needs, body-tile))
-    (λ c κs. search needs)
-    (λ c. search (needs, body-metadata))
-    (λ c. search (needs, body-other)))
+    (λ c. search (needs, body-tile, body-metadata, body-other))
+    (λ c. search (needs, body-tile, body-metadata, body-other)))

@@ -1,6 +1,7 @@
 -- `check_records::faults::chain_fault` meets its contract. Assumes nothing.
-use Rattle.check_records.proofs.RecordLaws.{chain-is}
 use borrow.Author.Needs.{needs}
+use native.Mathlib.Omega.{arith}
+use Rattle.check_records.proofs.RecordLaws.{chain-fault, chain-fine}
 use Rattle.check_records.proofs.faults.chain_fault.Statement.{statement}
 use Rattle.check_records.proofs.faults.chain_fault.Tie as tie
 
@@ -9,5 +10,5 @@ chain-fault-spec =
     tie.close
     (tie.spec
     (λ c κs. search needs)
-    (λ c κs. search needs)
-    (λ c. search (needs, chain-is)))
+    (λ c. chain-fault _ _ (c .before .records-end .ensures) (omega arith))
+    (λ c. chain-fine _ _ (c .before .records-end .ensures) (omega arith)))

@@ -1,6 +1,6 @@
 -- `check_records::faults::checksum_fault` meets its contract. Assumes nothing.
-use Rattle.check_records.proofs.RecordLaws.{checksum-header, checksum-is}
 use borrow.Author.Needs.{needs}
+use Rattle.check_records.proofs.RecordLaws.{header-wrong, header-right}
 use Rattle.check_records.proofs.faults.checksum_fault.Statement.{statement}
 use Rattle.check_records.proofs.faults.checksum_fault.Tie as tie
 
@@ -9,7 +9,9 @@ checksum-fault-spec =
     tie.close
     (tie.spec
     (λ c κs. search needs)
-    (λ c. search (needs, checksum-header))
+    (λ c κs. search needs)
+    (λ c. search needs)
     (λ c κs. search needs)
     (λ c κs. search needs)
-    (λ c. search (needs, checksum-is)))
+    (λ c. search (needs, header-wrong, header-right))
+    (λ c. search (needs, header-wrong, header-right)))

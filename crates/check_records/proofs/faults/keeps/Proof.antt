@@ -1,6 +1,6 @@
 -- `check_records::faults::keeps` meets its contract. Assumes nothing.
-use Rattle.check_records.proofs.RecordLaws.{keeps-chain, keeps-checksum, keeps-body}
 use borrow.Author.Needs.{needs}
+use Rattle.check_records.proofs.RecordLaws.{keeps-checksum, keeps-body}
 use Rattle.check_records.proofs.faults.keeps.Statement.{statement}
 use Rattle.check_records.proofs.faults.keeps.Tie as tie
 
@@ -12,8 +12,5 @@ keeps-spec =
     (λ c κs. search needs)
     (λ c. search needs)
     (λ c κs. search needs)
-    (λ c. search needs)
-    (λ c κs. search needs)
-    (λ c. search (needs, keeps-chain))
-    (λ c. search (needs, keeps-checksum))
-    (λ c. search (needs, keeps-body)))
+    (λ c. search (needs, keeps-checksum, keeps-body))
+    (λ c. search (needs, keeps-checksum, keeps-body)))

@@ -3,7 +3,7 @@ use borrow.Author.Needs.{needs}
 use Prim.Native.Nat.{_-_}
 use lib.ListN.{length}
 use Rattle.record.proofs.SeekLaws.{Seeking, seek}
-use Rattle.header.specs.Fields.{headerEnd}
+use Rattle.record.specs.Chain.{headerEnd}
 use Rattle.directory.specs.Search.{wants}
 use Rattle.directory.proofs.references.find_record.Statement.{statement}
 use Rattle.directory.proofs.references.find_record.Tie as tie
@@ -24,13 +24,8 @@ find-record-spec =
     (λ c. search (needs, seek))
     (λ c κs. search (needs, seek))
     (λ c. search (needs, seek))
-    (λ c κs. search (needs, seek))
-    (λ c. search (needs, seek))
-    (λ c. search (needs, seek))
-    (λ c. search (needs, seek))
     (λ c. search (needs, seek))
     (λ c κs. search (needs, seek))
-    (λ c. search (needs, seek))
     (λ c. search (needs, seek))
     (λ c. search (needs, seek))
     (λ c. search (needs, seek)))

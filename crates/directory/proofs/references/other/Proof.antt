@@ -11,7 +11,6 @@ unfolding wants
 other-spec =
     tie.close
     (tie.spec
-    (λ c κs. search needs)
     (λ c. no _ (λ h. omega arith))
     (λ c. search needs)
     (λ c. no _ (λ h. omega arith))

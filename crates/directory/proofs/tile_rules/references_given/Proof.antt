@@ -3,7 +3,7 @@ use borrow.Author.Needs.{needs}
 use native.Mathlib.Omega.{arith}
 use Prim.Native.Nat.{_-_}
 use Rattle.directory.specs.TileDirectory.{gives}
-use Rattle.directory.proofs.CountLaws.{Counted, counting, counted-few, counted-all}
+use Rattle.wire.proofs.CountLaws.{Counted, counting, counted-few, counted-all}
 use mathlib.Core.Path.{sym}
 use Rattle.directory.proofs.tile_rules.references_given.Statement.{statement}
 use Rattle.directory.proofs.tile_rules.references_given.Tie as tie

@@ -3,7 +3,7 @@ use borrow.Author.Needs.{needs}
 use Prim.Native.Nat.{_-_}
 use lib.ListN.{length}
 use Rattle.record.proofs.SeekLaws.{Seeking, seek}
-use Rattle.header.specs.Fields.{headerEnd}
+use Rattle.record.specs.Chain.{headerEnd}
 use Rattle.listed_records.specs.Windows.{notOnceIn}
 use Rattle.listed_records.proofs.lists.find_not_once.Statement.{statement}
 use Rattle.listed_records.proofs.lists.find_not_once.Tie as tie
@@ -24,13 +24,8 @@ find-not-once-spec =
     (λ c. search (needs, seek))
     (λ c κs. search (needs, seek))
     (λ c. search (needs, seek))
-    (λ c κs. search (needs, seek))
-    (λ c. search (needs, seek))
-    (λ c. search (needs, seek))
-    (λ c. search (needs, seek))
     (λ c. search (needs, seek))
     (λ c κs. search (needs, seek))
-    (λ c. search (needs, seek))
     (λ c. search (needs, seek))
     (λ c. search (needs, seek))
     (λ c. search (needs, seek)))

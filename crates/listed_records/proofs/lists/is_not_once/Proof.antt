@@ -9,7 +9,6 @@ is-not-once-spec =
     tie.close
     (tie.spec
     (λ c κs. search needs)
-    (λ c κs. search needs)
     (λ c. search (needs, not-once-type))
     (λ c. search (needs, not-once-before))
     (λ c. search needs)

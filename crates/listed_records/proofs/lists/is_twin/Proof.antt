@@ -8,7 +8,6 @@ pub is-twin-spec : {M : Type 1} → statement M
 is-twin-spec =
     tie.close
     (tie.spec
-    (λ c κs. search needs)
     (λ c. search (needs, twin-type))
     (λ c. search (needs, twin-self))
     (λ c κs. search needs)

@@ -8,7 +8,6 @@ pub key-slot-spec : {M : Type 1} → statement M
 key-slot-spec =
     tie.close
     (tie.spec
-    (λ c κs. search needs)
     (λ c. search (needs, place-type))
     (λ c κs. search needs)
     (λ c. search needs)

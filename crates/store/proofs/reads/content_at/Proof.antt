@@ -1,6 +1,7 @@
 -- `store::reads::content_at` meets its contract. Assumes nothing.
-use Rattle.store.proofs.OpenedLaws.{content-from-refused, content-from-answers}
 use borrow.Author.Needs.{needs}
+use Rattle.store.proofs.OpenedLaws.{both-contents, page-content-answer}
+use Rattle.cells.proofs.ReadLaws.{content-refused, content-mean}
 use Rattle.store.proofs.reads.content_at.Statement.{statement}
 use Rattle.store.proofs.reads.content_at.Tie as tie
 
@@ -13,5 +14,5 @@ content-at-spec =
     (λ c. search needs)
     (λ c κs. search needs)
     (λ c κs. search needs)
-    (λ c. content-from-refused _ _ (c .before .before .before .check .ensures) _ _ _ _ (c .before .r .given .1))
-    (λ c. content-from-answers _ _ (c .before .before .before .before .check .ensures) _ _ _ _ _ (c .before .before .enum-told .given .1) (c .before .directory-start .ensures) (c .content-unchecked .ensures)))
+    (λ c. both-contents _ _ _ _ _ (content-refused _ _ (c .before .before .before .check .ensures) _ _ _ (c .before .r .given .1)))
+    (λ c. both-contents _ _ _ _ _ (content-mean _ _ (c .before .before .before .before .check .ensures) _ _ _ (c .before .before .enum-told .given .1) (page-content-answer _ _ _ _ _ _ (c .before .through-directory .ensures) (c .look-up-content .ensures)))))

@@ -1,6 +1,7 @@
 -- `store::reads::read_from` meets its contract. Assumes nothing.
-use Rattle.store.proofs.OpenedLaws.{read-walk, read-directory}
 use borrow.Author.Needs.{needs}
+use Rattle.store.proofs.OpenedLaws.{all-three, page-answer}
+use Rattle.cells.proofs.ReadLaws.{mean-refused, mean-answer}
 use Rattle.store.proofs.reads.read_from.Statement.{statement}
 use Rattle.store.proofs.reads.read_from.Tie as tie
 
@@ -9,6 +10,9 @@ read-from-spec =
     tie.close
     (tie.spec
     (λ c κs. search needs)
-    (λ c. read-walk _ _ _ _ _ _ _ _ (c .before .if1 .taken) (c .walk-from .ensures))
+    (λ c. search needs)
+    (λ c. search needs)
     (λ c κs. search needs)
-    (λ c. read-directory _ _ _ _ _ _ _ _ (c .before .if1 .left) (c .look-from .ensures)))
+    (λ c κs. search needs)
+    (λ c. all-three _ _ _ _ _ _ _ _ (mean-refused _ _ (c .before .before .before .check .ensures) _ _ _ _ (c .before .r .given .1)))
+    (λ c. all-three _ _ _ _ _ _ _ _ (mean-answer _ _ (c .before .before .before .before .check .ensures) _ _ _ _ (c .before .before .enum-told .given .1) (page-answer _ _ _ _ (c .before .before .before .before .before .before .args .end) (c .before .before .before .before .before .before .args .directory) (c .before .before .before .before .before .before .args .walk) _ _ (c .before .route-of .ensures) (c .look-up .ensures)))))

@@ -1,12 +1,13 @@
 -- `store::reads::trust` meets its contract. Assumes nothing.
-use Rattle.store.proofs.OpenedLaws.{trusted-own}
-use mathlib.Core.Path.{sym, _∙_}
+use borrow.Author.Tests.{eq-eqb, ne-eqb}
+use Rattle.store.specs.Opened.{trusted}
 use Rattle.store.proofs.reads.trust.Statement.{statement}
 use Rattle.store.proofs.reads.trust.Tie as tie
 
 pub trust-spec : {M : Type 1} → statement M
+unfolding trusted
 trust-spec =
     tie.close
     (tie.spec
-    (λ c. c .if1 .taken ∙ sym (trusted-own _ _))
-    (λ c. sym (trusted-own _ _)))
+    (λ c. rw (eq-eqb _ _ (c .if1 .taken)))
+    (λ c. rw (ne-eqb _ _ (c .if1 .left))))

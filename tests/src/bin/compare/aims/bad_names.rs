@@ -29,10 +29,10 @@ fn good(random: &mut Prng) -> Vec<u8> {
     vec![b'b'; random.between(1, 32)]
 }
 
-/// A name with that byte anywhere.
+/// A name with that byte anywhere, often as its first.
 fn with(byte: u8, random: &mut Prng) -> Vec<u8> {
     let mut name = good(random);
-    let at = random.below(name.len());
-    name[at] = byte;
+    let any = random.below(name.len());
+    name[random.pick(&[0, any])] = byte;
     name
 }

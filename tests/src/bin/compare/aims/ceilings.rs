@@ -123,13 +123,15 @@ fn record_ends_behind_16(built: &mut Built, random: &mut Prng) -> Option<At> {
     Some(At::Zero)
 }
 
-/// Just above or far above, with sides that are kept.
+/// The least that is above, just above or far above, with sides that are kept.
 fn many_tile_bytes(built: &mut Built, random: &mut Prng) -> Option<At> {
     let types = built.named("element type");
     let cell: u64 = types.iter().map(|field| if built.value(field) == 3 { 2 } else { 4 }).sum();
     let cells = 1_048_576_u64.checked_div(cell)? + 1;
-    let rows = random.between(cells.div_ceil(4096) as usize, 4096) as u64;
-    let columns = cells.div_ceil(rows);
-    let (rows, columns) = random.pick(&[(rows, columns), (rows, 4096), (4096, 4096)]);
+    let fewest = cells.div_ceil(4096);
+    let least = (fewest..=4096).min_by_key(|rows| rows * cells.div_ceil(*rows))?;
+    let any = random.between(fewest as usize, 4096) as u64;
+    let rows = random.pick(&[least, any]);
+    let (rows, columns) = random.pick(&[(rows, cells.div_ceil(rows)), (rows, 4096), (4096, 4096)]);
     sides(built, [1, 1], [rows as u32, columns as u32])
 }

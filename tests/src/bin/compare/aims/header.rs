@@ -89,7 +89,8 @@ fn length_too_short(built: &mut Built, random: &mut Prng) -> Option<At> {
 }
 
 fn type_not_6(built: &mut Built, random: &mut Prng) -> Option<At> {
-    built.bytes[20] ^= random.between(1, 255) as u8;
+    let any = built.bytes[20] ^ random.between(1, 255) as u8;
+    built.bytes[20] = random.pick(&[5, any, 7]);
     Some(At::Zero)
 }
 
@@ -159,6 +160,7 @@ fn element_aims() -> Vec<Aim> {
         Aim::bytes(3, "a negative count of elements", |built, random| {
             negative(built, "element count", random)
         }),
+        Aim::bytes(3, "a negative count of elements, 16 good ones", negative_count_of_16),
         Aim::bytes(3, "each of a type of G's Table 2", element_type),
         Aim::bytes(3, "an element's strings fit", element_string_too_long),
         Aim::bytes(3, "an element's name fits", |built, random| {
@@ -170,6 +172,14 @@ fn element_aims() -> Vec<Aim> {
 fn no_element(page: &mut Page, _: &mut Prng) -> Option<At> {
     page.elements.clear();
     Some(At::Zero)
+}
+
+/// The first 16 entries fit, so no other rule refuses it.
+fn negative_count_of_16(built: &mut Built, random: &mut Prng) -> Option<At> {
+    if built.value(&built.only("element count")) != 16 {
+        return None;
+    }
+    negative(built, "element count", random)
 }
 
 fn element_type(built: &mut Built, random: &mut Prng) -> Option<At> {

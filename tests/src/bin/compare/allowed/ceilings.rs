@@ -108,6 +108,9 @@ fn most_tile_bytes(run: &mut Run) {
     let mut page = page_of_16(INTEGER);
     [page.tile_rows, page.tile_columns] = [4096, 4];
     run.accept("tile bytes of 1,048,576", &bytes_of(&page));
+    let mut page = Page::of_sides([4096, 128], [4096, 128]);
+    page.elements = vec![Element::new(SHORT, b"z")];
+    run.accept("tile bytes of 1,048,576", &bytes_of(&page));
 }
 
 /// 16 Short elements of 217 by 151 cells: 1,048,544 bytes, with length fields and padding more than

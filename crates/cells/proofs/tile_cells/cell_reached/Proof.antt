@@ -1,0 +1,17 @@
+-- `cells::tile_cells::cell_reached` meets its contract. Assumes nothing.
+use borrow.Author.Needs.{needs}
+use Rattle.cells.proofs.CellLaws.{cell-absent, cell-found, cell-lost}
+use Rattle.cells.proofs.tile_cells.cell_reached.Statement.{statement}
+use Rattle.cells.proofs.tile_cells.cell_reached.Tie as tie
+
+pub cell-reached-spec : {M : Type 1} → statement M
+cell-reached-spec =
+    tie.close
+    (tie.spec
+    (λ c. search needs)
+    (λ c κs. search needs)
+    (λ c. search needs)
+    (λ c κs. search needs)
+    (λ c. search (needs, cell-absent, cell-found, cell-lost))
+    (λ c. search (needs, cell-absent, cell-found, cell-lost))
+    (λ c. search (needs, cell-absent, cell-found, cell-lost)))

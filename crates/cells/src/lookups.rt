@@ -1,0 +1,54 @@
+// For callers that have made the check: the same as a read, without it. They answer 10 first, then 9 where unchecked bytes lead
+// nowhere; on an accepted file it is the cell's meaning.
+use crate::Route;
+use crate::asked;
+use crate::routes;
+use crate::tile_cells;
+use answer::Cell;
+use answer::Content;
+use answer::Refusal;
+use check_header::ceilings;
+use check_header::header_record;
+use geometry::tiles;
+ghost use mathlib.Core.Path.{_≡_};
+ghost use Rattle.cells.specs.inner.Lookups.{sidesLawful, lookedUp, lookedUpContent};
+ghost use Rattle.cells.specs.Routes.{foundBy};
+
+// The sides keep stages 3 and 4.
+pub fn sides_lawful(s: &[u8]) -> bool
+    ensures { λ r. ⌜ r ≡ sidesLawful (now (s .entry)) ⌝ }
+{
+    if header_record::sides_right(s) {
+        return ceilings::sides_within(s);
+    }
+    false
+}
+
+// A cell by a route.
+pub fn look_up(s: &[u8], route: Route, row: u64, column: u64, e: u64) -> Cell
+    ensures { λ r. ⌜ r ≡ lookedUp (now (s .entry)) (foundBy (now (s .entry)) route) row column e ⌝ }
+{
+    if asked::in_grid(s, row, column, e) {
+        if sides_lawful(s) {
+            let tile = tiles::cell_tile(s, row as u32, column as u32) as u32;
+            let found = routes::found_by(s, route, tile);
+            return tile_cells::cell_reached(s, found, row as u32, column as u32, e as u32);
+        }
+        return Cell::Refused(Refusal::Directory);
+    }
+    Cell::Refused(Refusal::OutsideGrid)
+}
+
+// An element's content in a tile, by a route.
+pub fn look_up_content(s: &[u8], route: Route, tile: u64, e: u64) -> Content
+    ensures { λ r. ⌜ r ≡ lookedUpContent (now (s .entry)) (foundBy (now (s .entry)) route) tile e ⌝ }
+{
+    if asked::in_tiles(s, tile, e) {
+        if sides_lawful(s) {
+            let found = routes::found_by(s, route, tile as u32);
+            return tile_cells::content_reached(s, found, e as u32);
+        }
+        return Content::Refused(Refusal::Directory);
+    }
+    Content::Refused(Refusal::OutsideGrid)
+}

@@ -1,0 +1,67 @@
+-- Rows and columns of a grid, its tiles, and the cells of a tile. Assumes nothing.
+use Prim.Native.Nat.{ℕ, _+_, _*_, _/_, _%_, _-_, _≤_, _<_}
+use mathlib.Core.Path.{_≡_, sym, ap, _∙_}
+use mathlib.Core.List.{List}
+use native.Mathlib.Omega.{arith}
+use native.Mathlib.Nat.{mul-add-div-right, mul-add-mod-self-right, div-eq-of-lt, mod-eq-of-lt, div-add-mod', mod-lt, mul-le-mul-right, div-lt-iff-lt-mul}
+use Rattle.header.specs.Fields.{gridRows, gridColumns, tileRows, tileColumns}
+use Rattle.geometry.specs.Tiles.{tilesAlong, tileOf, insideOf, tileIn, cellTile, tilesIn, tileCount}
+use Rattle.geometry.proofs.TileLaws.{along-is, along-small}
+
+-- a number in rows of w
+
+module _ (w a b : ℕ) (h : b < w) where
+  pub row-of : (a * w + b) / w ≡ a
+  row-of = let e = div-eq-of-lt h in mul-add-div-right (omega arith) a b ∙ omega arith
+
+  pub column-of : (a * w + b) % w ≡ b
+  column-of = mul-add-mod-self-right a w b ∙ mod-eq-of-lt h
+
+  pub grid-less : (n : ℕ) → a < n → a * w + b < n * w
+  grid-less n l = let m : (a + 1) * w ≤ n * w = mul-le-mul-right w (omega arith) in omega arith
+
+-- a row and a column fix the number
+pub same-index : (w i j : ℕ) → i / w ≡ j / w → i % w ≡ j % w → i ≡ j
+same-index w i j e f = sym (div-add-mod' i w) ∙ rw (e, f) (div-add-mod' j w)
+
+-- cells and tiles
+
+-- a place inside the grid stands in one of the tiles along its side
+pub along-less : (side tile i : ℕ) → 0 < tile → i < side → i / tile < tilesAlong side tile
+unfolding tilesAlong
+along-less side tile i p h =
+    let e = div-add-mod' (side + (tile - 1)) tile in
+    let m = mod-lt (side + (tile - 1)) p in
+    div-lt-iff-lt-mul p .1 (omega arith)
+
+-- a cell's number inside its tile is below the tile's cells
+pub inside-less : (h w r c : ℕ) → 0 < h → 0 < w → insideOf h w r c < h * w
+unfolding insideOf
+inside-less h w r c p q = grid-less w (r % h) (c % w) (mod-lt c q) h (mod-lt r p)
+
+-- the tile and the number inside it fix the cell
+pub one-cell :
+    (columns h w r c r2 c2 : ℕ) → 0 < w → c < columns → c2 < columns → tileIn columns h w r c ≡ tileIn columns h w r2 c2 →
+    insideOf h w r c ≡ insideOf h w r2 c2 → (r ≡ r2) × (c ≡ c2)
+unfolding tileIn tileOf insideOf
+one-cell columns h w r c r2 c2 p k l e f =
+    let n = tilesAlong columns w in
+    let a = along-less columns w c p k in
+    let b = along-less columns w c2 p l in
+    let rq : r / h ≡ r2 / h = sym (row-of n _ _ a) ∙ ap (λ (x : ℕ). x / n) e ∙ row-of n _ _ b in
+    let cq : c / w ≡ c2 / w = sym (column-of n _ _ a) ∙ ap (λ (x : ℕ). x % n) e ∙ column-of n _ _ b in
+    let i = mod-lt c p in
+    let j = mod-lt c2 p in
+    let rr : r % h ≡ r2 % h = sym (row-of w _ _ i) ∙ ap (λ (x : ℕ). x / w) f ∙ row-of w _ _ j in
+    let cr : c % w ≡ c2 % w = sym (column-of w _ _ i) ∙ ap (λ (x : ℕ). x % w) f ∙ column-of w _ _ j in
+    (same-index h r r2 rq rr, same-index w c c2 cq cr)
+
+-- the tile of a cell of the grid is one of its tiles
+pub tile-less : (s : List ℕ) (row column : ℕ) → 0 < tileRows s → 0 < tileColumns s → row < gridRows s → column < gridColumns s → cellTile s row column < tileCount s
+unfolding cellTile tileIn tileOf tileCount tilesIn
+tile-less s row column h w r c =
+    grid-less (tilesAlong (gridColumns s) (tileColumns s)) (row / tileRows s) (column / tileColumns s) (along-less (gridColumns s) (tileColumns s) column w c)
+    (tilesAlong (gridRows s) (tileRows s)) (along-less (gridRows s) (tileRows s) row h r)
+
+pub along-most : (side tile : ℕ) → 0 < tile → tilesAlong side tile ≤ side
+along-most side tile h = rw (← along-is side tile) (along-small side tile (λ z. omega arith))

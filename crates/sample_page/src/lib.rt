@@ -1,0 +1,1 @@
+// A page byte by byte, for samples. It has no functions.
