@@ -6,7 +6,7 @@ use native.Mathlib.Omega.{arith}
 use Rattle.answer.specs.declared.Refusal.{Refusal}
 use Rattle.answer.specs.declared.Verdict.{Verdict}
 use Rattle.answer.specs.declared.Verdict.the-variants.{Accepted, Refused}
-use Rattle.answer.specs.Refusals.{verdictNumber, gate, unlessRefused}
+use Rattle.answer.specs.Refusals.{gate, unlessRefused}
 
 -- a refusal is no acceptance
 pub refused-not : {C : Type 0} {r : Refusal} → Refused r ≡ Accepted → C

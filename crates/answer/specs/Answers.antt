@@ -51,12 +51,3 @@ contentLength (content.Refused r) = 0
 abbrev pub laidNumber : Laid → ℕ
 laidNumber (laid.Length n) = 0
 laidNumber (laid.Refused r) = refusalNumber r
-
--- the file's length, 0 of a refusal
-abbrev pub laidLength : Laid → ℕ
-laidLength (laid.Length n) = n
-laidLength (laid.Refused r) = 0
-
-abbrev pub laidPlace : Laid → ℕ
-laidPlace (laid.Length n) = 0
-laidPlace (laid.Refused r) = refusalPlace r

@@ -6,7 +6,7 @@ ghost use mir.Syntax.{w16, w32};
 ghost use mir.Val.{toZ, ofZ};
 ghost use Rattle.answer.specs.Refusals.{refusalNumber, refusalPlace, verdictNumber, verdictPlace};
 ghost use Rattle.answer.specs.Values.{valueOf, valueType, valueBits};
-ghost use Rattle.answer.specs.Answers.{cellKind, cellType, cellBits, cellPlace, contentKind, contentPlace, contentLength, laidNumber, laidLength, laidPlace};
+ghost use Rattle.answer.specs.Answers.{cellKind, cellType, cellBits, cellPlace, contentKind, contentPlace, contentLength, laidNumber};
 
 // The thirteen refusals, in their order, with a place where document 01 gives one that varies.
 pub enum Refusal {
@@ -188,7 +188,7 @@ pub fn value_of(kind: u32, bits: u32) -> Value
 }
 
 // A value's type code.
-pub fn value_type(v: Value) -> u32
+fn value_type(v: Value) -> u32
     ensures { λ r. ⌜ r ≡ valueType v ⌝ }
 {
     match v {
@@ -293,23 +293,5 @@ pub fn laid_number(x: Laid) -> u32
     match x {
         Laid::Length(_) => 0,
         Laid::Refused(r) => refusal_number(r),
-    }
-}
-
-pub fn laid_length(x: Laid) -> usize
-    ensures { λ r. ⌜ r ≡ laidLength x ⌝ }
-{
-    match x {
-        Laid::Length(n) => n,
-        Laid::Refused(_) => 0,
-    }
-}
-
-pub fn laid_place(x: Laid) -> usize
-    ensures { λ r. ⌜ r ≡ laidPlace x ⌝ }
-{
-    match x {
-        Laid::Length(_) => 0,
-        Laid::Refused(r) => refusal_place(r),
     }
 }

@@ -1,7 +1,7 @@
 // What benches/ measures and the C interface does not offer: the look-up that does not repeat the check, and the checksum by itself.
 ghost use mathlib.Core.Path.{_≡_};
 ghost use Rattle.answer.specs.Answers.{cellBits};
-ghost use Rattle.directory.specs.TileDirectory.{tileDirectoryAt};
+ghost use Rattle.bodies.specs.TileDirectory.{tileDirectoryAt};
 ghost use Rattle.cells.specs.Routes.{referredTo};
 ghost use Rattle.cells.specs.inner.Lookups.{lookedUp};
 ghost use Rattle.crc32c.specs.Crc.{crcOf};

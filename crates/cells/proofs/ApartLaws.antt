@@ -20,9 +20,10 @@ use Rattle.record.proofs.ChainLaws.{whole-apart}
 use Rattle.geometry.specs.Tiles.{cellTile, cellInside}
 use Rattle.geometry.specs.Sizes.{uncompressed, cellOffset, elementBytes}
 use Rattle.geometry.proofs.GridLaws.{inside-less, one-cell}
-use Rattle.check_records.specs.TileBody.{tileIndex, sectionAt, sectionLength, elementContentAt, tileRight}
-use Rattle.check_records.proofs.RecordLaws.{section-least}
-use Rattle.check_records.proofs.SectionLaws.{section-holds, section-mono, section-next, limit-inside, sections-end}
+use Rattle.check_records.specs.TileBody.{tileRight}
+use Rattle.bodies.specs.TileRecord.{tileIndex, sectionAt, sectionLength, elementContentAt}
+use Rattle.bodies.proofs.SectionLaws.{section-least, section-holds, section-mono, section-next, limit-inside}
+use Rattle.check_records.proofs.SectionLaws.{sections-end}
 use Rattle.record.proofs.FindLaws.{of-type}
 use Rattle.record.specs.declared.Found.{Found}
 use Rattle.record.specs.declared.Found.the-variants.{At, Nothing}
@@ -119,7 +120,7 @@ unfolding placeIn
 cell-extent s o row column e place c =
     let r = obeys-range s (records s) o in
     let t = content-extent s (c .start) e (obeys-tile s o (c .among)) (c .element-in) in
-    let w = offset-within s row column e (omega (arith, r .tile-rows .0)) (omega (arith, r .tile-columns .0)) in
+    let w = offset-within s row column e (omega (arith, r .sides .tile-rows .0)) (omega (arith, r .sides .tile-columns .0)) in
     let l = whole-least s (c .start) e (c .whole) in
     let h : place ≡ elementContentAt s (c .start) e + offsetIn s row column e = c .here in
     record {
@@ -149,7 +150,7 @@ module _ (s : List ℕ) (o : Obeys s) (row column e place : ℕ) (c : StoredAs s
       let u : bytesOfCell s e2 ≡ z = rw q in
       ⊎-elim
       (λ i.
-      let x = one-cell (gridColumns s) (tileRows s) (tileColumns s) row column row2 column2 (omega (arith, r .tile-columns .0)) (c .column-in) (d .column-in) k i in
+      let x = one-cell (gridColumns s) (tileRows s) (tileColumns s) row column row2 column2 (omega (arith, r .sides .tile-columns .0)) (c .column-in) (d .column-in) k i in
       inl (x .0, (x .1, q)))
       (λ i. inr (⊎-elim (λ j. inl (omega arith)) (λ j. inr (omega arith)) i))
       (items-apart (cellInside s row column) (cellInside s row2 column2) z)

@@ -23,12 +23,15 @@ use Rattle.header.specs.declared.Element.{Element}
 use Rattle.header.specs.Fields.{gridRows, gridColumns, tileRows, tileColumns, elementCount}
 use Rattle.header.specs.Element.{cellSize, element}
 use Rattle.geometry.specs.Tiles.{tileCount, insideOf, cellInside, tilesIn, cellTile, tilesAlong}
-use Rattle.geometry.specs.Sizes.{cap, judge, judgeElement, cellOffset, uncompressed, elementBytes}
-use Rattle.geometry.specs.declared.Judged.the-variants.{Uncompressed, Compressed, Fault}
+use Rattle.geometry.specs.Sizes.{cap, packingOf, elementPacking, cellOffset, uncompressed, elementBytes}
+use Rattle.geometry.specs.declared.Packing.the-variants.{Uncompressed, Compressed, Fault}
 use Rattle.geometry.proofs.SizeLaws.{size-range}
 use Rattle.check_header.specs.HeaderRecord.{positive, sidesRight}
 use Rattle.check_header.specs.Ceilings.{sidesWithin}
-use Rattle.check_records.specs.TileBody.{sectionAt, sectionStart, sectionLength, sectionJudged, notFault, sectionRight, elementContentAt}
+use Rattle.check_header.specs.Passed.{Sides}
+use Rattle.check_header.proofs.PassedLaws.{sides-of}
+use Rattle.check_records.specs.TileBody.{sectionPacking, notFault, sectionRight}
+use Rattle.bodies.specs.TileRecord.{sectionAt, sectionStart, sectionLength, elementContentAt}
 use Rattle.geometry.proofs.GridLaws.{grid-less, tile-less, along-most}
 use Rattle.record.specs.declared.Found.{Found}
 use Rattle.record.specs.declared.Found.the-variants.{Nothing, At}
@@ -86,33 +89,18 @@ pub sides-not : (s : List ℕ) (a : Bool) → a ≡ sidesRight s → a ≡ false
 unfolding sidesLawful
 sides-not s a p e = no _ (λ y. not-both (y .0) (sym p ∙ e))
 
-pub record Sides (s : List ℕ) : Type 0 where
-  pub rows : gridRows s ≤ 65536
-  pub columns : gridColumns s ≤ 65536
-  pub tile-rows : (1 ≤ tileRows s) × (tileRows s ≤ 4096)
-  pub tile-columns : (1 ≤ tileColumns s) × (tileColumns s ≤ 4096)
-
 pub sides-mean : (s : List ℕ) → sidesLawful s ≡ true → Sides s
-unfolding sidesLawful sidesRight positive sidesWithin
-sides-mean s e =
-    let y = means _ e in
-    let a = means _ (y .0) in
-    let b = means _ (y .1 .0) in
-    record {
-      rows = b .0;
-      columns = b .1 .0;
-      tile-rows = (means _ (a .1 .1 .0) .0, b .1 .1 .0);
-      tile-columns = (means _ (a .1 .1 .1 .0) .0, b .1 .1 .1 .0);
-    }
+unfolding sidesLawful
+sides-mean s e = let y = means _ e in sides-of s (y .0) (y .1 .0)
 
 -- numbers of tiles, numbers inside a tile and bytes of an element are small
 
 pub count-small : (s : List ℕ) → Sides s → tileCount s ≤ 4294967296
 unfolding tileCount tilesIn
 count-small s d =
-    let a : tilesAlong (gridRows s) (tileRows s) ≤ 65536 = omega (arith, along-most (gridRows s) (tileRows s) (omega (arith, d .tile-rows .0)), d .rows) in
+    let a : tilesAlong (gridRows s) (tileRows s) ≤ 65536 = omega (arith, along-most (gridRows s) (tileRows s) (omega (arith, d .tile-rows .0)), d .rows .1) in
     let b : tilesAlong (gridColumns s) (tileColumns s) ≤ 65536 =
-    omega (arith, along-most (gridColumns s) (tileColumns s) (omega (arith, d .tile-columns .0)), d .columns) in
+    omega (arith, along-most (gridColumns s) (tileColumns s) (omega (arith, d .tile-columns .0)), d .columns .1) in
     let m : tilesAlong (gridRows s) (tileRows s) * tilesAlong (gridColumns s) (tileColumns s) ≤ 65536 * 65536 = mul-le-mul a b in
     omega arith
 
@@ -154,12 +142,6 @@ bytes-small s e n l p =
     mul-le-mul (product-small (tileRows s) (tileColumns s) (a .tile-rows .1) (a .tile-columns .1)) (size-range (element s e .kind) .1) in
     omega arith
 
--- a section
-
-pub section-told : (s : List ℕ) (x e r : ℕ) → x < length s → r ≡ sectionStart s x e → r ≡ sectionAt s x e
-unfolding sectionStart
-section-told s x e r h p = rw (lt-leb (length s) x h) at p
-
 module _ (s : List ℕ) (x e p l u : ℕ) (a : p ≡ sectionAt s x e) (b : l ≡ u32At s p) (c : u ≡ min (elementBytes s e) cap) where
   length-is : l ≡ sectionLength s x e
   unfolding sectionLength
@@ -174,9 +156,9 @@ module _ (s : List ℕ) (x e p l u : ℕ) (a : p ≡ sectionAt s x e) (b : l ≡
   packed-no h k = no _ (λ y. omega (arith, y .0, length-is))
 
 -- where stage 8 passes a section, compressed is what its length is judged to be
-pub packed-judged : (s : List ℕ) (x e : ℕ) → sectionRight s x e ≡ true → (packed s x e ≡ true → sectionJudged s x e ≡ Compressed) × (packed s x e ≡ false → sectionJudged s x e ≡ Uncompressed)
-unfolding sectionRight sectionJudged judgeElement judge packed
-packed-judged s x e r = go (eqb (sectionLength s x e) 0) refl (eqb (sectionLength s x e) (elementBytes s e)) refl (leb (sectionLength s x e) (elementBytes s e)) refl r
+pub packed-told : (s : List ℕ) (x e : ℕ) → sectionRight s x e ≡ true → (packed s x e ≡ true → sectionPacking s x e ≡ Compressed) × (packed s x e ≡ false → sectionPacking s x e ≡ Uncompressed)
+unfolding sectionRight sectionPacking elementPacking packingOf packed
+packed-told s x e r = go (eqb (sectionLength s x e) 0) refl (eqb (sectionLength s x e) (elementBytes s e)) refl (leb (sectionLength s x e) (elementBytes s e)) refl r
   where
     go :
         (a : Bool) → eqb (sectionLength s x e) 0 ≡ a → (b : Bool) → eqb (sectionLength s x e) (elementBytes s e) ≡ b → (c : Bool) →

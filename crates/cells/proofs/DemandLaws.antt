@@ -24,7 +24,7 @@ use Rattle.record.proofs.ChainLaws.{whole-extent}
 use Rattle.record.proofs.FindLaws.{of-type}
 use Rattle.geometry.specs.Tiles.{cellTile}
 use Rattle.geometry.specs.Sizes.{elementBytes}
-use Rattle.check_records.specs.TileBody.{elementContentAt}
+use Rattle.bodies.specs.TileRecord.{elementContentAt}
 use Rattle.page_check.specs.Accepted.{Obeys}
 use Rattle.page_check.proofs.AcceptedLaws.{accepted-obeys}
 use Rattle.page_check.proofs.GivenLaws.{obeys-tile}

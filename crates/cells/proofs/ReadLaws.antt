@@ -30,8 +30,9 @@ use Rattle.geometry.specs.Tiles.{cellTile, tileCount}
 use Rattle.geometry.proofs.GridLaws.{tile-less}
 use Rattle.check_header.specs.HeaderRecord.{headerRight}
 use Rattle.check_header.specs.Ceilings.{withinCeilings}
-use Rattle.check_records.specs.TileBody.{tileIndex}
-use Rattle.directory.specs.TileDirectory.{referenceFrom, tileDirectoryAt}
+use Rattle.check_header.specs.Passed.{Headed}
+use Rattle.bodies.specs.TileDirectory.{referenceFrom, tileDirectoryAt}
+use Rattle.bodies.specs.TileRecord.{tileIndex}
 use Rattle.page_check.specs.Stages.{checkToBodies, check}
 use Rattle.page_check.proofs.AcceptedLaws.{accepted-obeys, headed-if}
 use Rattle.page_check.proofs.StageLaws.{bodies-then}
@@ -167,16 +168,16 @@ module _ (s : List ℕ) (way : ℕ → Found) (lawful : sidesLawful s ≡ true) 
 
 -- lawful sides, from the check
 
-lawful-of : (s : List ℕ) → headerRight s (length s) ≡ true → withinCeilings s (length s) ≡ true → sidesLawful s ≡ true
+lawful-of : (s : List ℕ) → Headed s (length s) → sidesLawful s ≡ true
 unfolding headerRight withinCeilings sidesLawful
-lawful-of s h c = sym (yes _ (means _ h .1 .0, (means _ c .1 .0, tt)))
+lawful-of s h = sym (yes _ (means _ (h .header) .1 .0, (means _ (h .ceilings) .1 .0, tt)))
 
 pub bodies-lawful : (s : List ℕ) → checkToBodies s ≡ Accepted → sidesLawful s ≡ true
 unfolding checkToBodies
-bodies-lawful s e = let h = headed-if s (behind-passed _ _ e .0) in lawful-of s (h .header) (h .ceilings)
+bodies-lawful s e = lawful-of s (headed-if s (behind-passed _ _ e .0) .0)
 
 pub check-lawful : (s : List ℕ) → check s ≡ Accepted → sidesLawful s ≡ true
-check-lawful s e = let o = accepted-obeys s e in lawful-of s (o .header) (o .ceilings)
+check-lawful s e = lawful-of s (accepted-obeys s e .headed)
 
 pub passed-bodies : (s : List ℕ) → check s ≡ Accepted → checkToBodies s ≡ Accepted
 passed-bodies s a = behind-passed _ _ (sym (bodies-then s) ∙ a) .0

@@ -19,9 +19,9 @@ use Rattle.record.proofs.ChainLaws.{ok-means, starts-ok}
 use Rattle.record.proofs.FindLaws.{found-not, of-type, type-of}
 use Rattle.geometry.specs.Tiles.{cellTile, tileCount}
 use Rattle.geometry.proofs.GridLaws.{tile-less}
-use Rattle.check_records.specs.TileBody.{tileIndex}
-use Rattle.directory.specs.TileDirectory.{tileDirectoryAt, tileReference}
-use Rattle.directory.specs.Correspondence.{TileRecord, OneToOne}
+use Rattle.bodies.specs.TileDirectory.{tileDirectoryAt, tileReference}
+use Rattle.bodies.specs.TileRecord.{tileIndex}
+use Rattle.check_directory.specs.Correspondence.{TileRecord, OneToOne}
 use Rattle.cells.specs.Asked.{inGrid, inTiles}
 use Rattle.cells.specs.Routes.{carries, recordsWith, firstOf, meant, referredTo, walkedTo, cellBy, contentBy}
 use Rattle.cells.proofs.CellLaws.{grid-means, tiles-mean}

@@ -7,7 +7,7 @@ use Rattle.answer.specs.declared.Content.{Content}
 use Rattle.answer.specs.declared.Content.the-variants as content
 use Rattle.answer.specs.Refusals.{unlessRefused}
 use Rattle.record.specs.Chain.{headerEnd}
-use Rattle.directory.specs.TileDirectory.{tileDirectoryAt}
+use Rattle.bodies.specs.TileDirectory.{tileDirectoryAt}
 use Rattle.page_check.specs.Stages.{check, checkToBodies}
 use Rattle.cells.specs.Routes.{referredTo, walkedTo, cellBy}
 use Rattle.cells.specs.Meaning.{meaning, contentMeaning}

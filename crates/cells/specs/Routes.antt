@@ -17,8 +17,8 @@ use Rattle.record.specs.declared.Found.the-variants.{At, Nothing}
 use Rattle.record.specs.Record.{typeAt}
 use Rattle.record.specs.Chain.{records, firstRecord}
 use Rattle.geometry.specs.Tiles.{cellTile}
-use Rattle.check_records.specs.TileBody.{tileIndex}
-use Rattle.directory.specs.TileDirectory.{referenceFrom}
+use Rattle.bodies.specs.TileDirectory.{referenceFrom}
+use Rattle.bodies.specs.TileRecord.{tileIndex}
 use Rattle.cells.specs.declared.Route.{Route}
 use Rattle.cells.specs.declared.Route.the-variants.{Directory, Walk}
 use Rattle.cells.specs.Asked.{inGrid, inTiles}

@@ -16,7 +16,7 @@ use Rattle.record.specs.declared.Found.{Found}
 use Rattle.record.specs.declared.Found.the-variants.{At, Nothing}
 use Rattle.geometry.specs.Tiles.{cellInside}
 use Rattle.geometry.specs.Sizes.{cellOffset, elementBytes}
-use Rattle.check_records.specs.TileBody.{sectionLength, elementContentAt}
+use Rattle.bodies.specs.TileRecord.{sectionLength, elementContentAt}
 
 -- a cell of an absent tile: the element's fill, as it stands
 unfoldable pub fillOf : List ℕ → ℕ → Cell

@@ -15,7 +15,7 @@ ghost use Rattle.cells.specs.inner.Lookups.{sidesLawful, lookedUp, looke
 ghost use Rattle.cells.specs.Routes.{foundBy};
 
 // The sides keep stages 3 and 4.
-pub fn sides_lawful(s: &[u8]) -> bool
+fn sides_lawful(s: &[u8]) -> bool
     ensures { λ r. ⌜ r ≡ sidesLawful (now (s .entry)) ⌝ }
 {
     if header_record::sides_right(s) {

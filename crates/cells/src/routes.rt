@@ -1,6 +1,6 @@
 // The routes to the record of a tile.
 use crate::Route;
-use directory::tile_directory;
+use bodies::tile_directory;
 use record::Cursor;
 use record::Found;
 use record::Step;
@@ -9,7 +9,7 @@ ghost use mathlib.Core.Path.{_≡_};
 ghost use Rattle.cells.specs.Routes.{referredTo, walkedTo, foundBy};
 
 // The record that the directory at a position gives for a tile, 8 before its reference; nothing where that is zero.
-pub fn referred_to(s: &[u8], at: usize, tile: u32) -> Found
+fn referred_to(s: &[u8], at: usize, tile: u32) -> Found
     ensures { λ r. ⌜ r ≡ referredTo (now (s .entry)) at tile ⌝ }
 {
     let reference = tile_directory::reference_from(s, at, tile);
@@ -20,7 +20,7 @@ pub fn referred_to(s: &[u8], at: usize, tile: u32) -> Found
 }
 
 // The first tile record with an index from a position on, where the header ends: the walk stops there.
-pub fn walked_to(s: &[u8], at: usize, tile: u32) -> Found
+fn walked_to(s: &[u8], at: usize, tile: u32) -> Found
     ensures { λ r. ⌜ r ≡ walkedTo (now (s .entry)) at tile ⌝ }
 {
     let mut c = Cursor { at };

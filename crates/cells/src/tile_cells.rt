@@ -2,7 +2,7 @@
 use answer::Cell;
 use answer::Content;
 use answer::Refusal;
-use check_records::tile_body;
+use bodies::tile_record;
 use geometry::sizes;
 use geometry::tiles;
 use header::entries;
@@ -13,7 +13,7 @@ ghost use Prim.Native.Nat.{_+_, _≤_, _<_};
 ghost use lib.ListN.{length};
 ghost use Rattle.wire.specs.Bytes.{numberAt};
 ghost use Rattle.header.specs.Element.{cellSize};
-ghost use Rattle.check_records.specs.TileBody.{sectionAt};
+ghost use Rattle.bodies.specs.TileRecord.{sectionAt};
 ghost use Rattle.cells.specs.TileCells.{packed, offsetIn, placeIn, storedAt, cellIn, fillOf, contentIn};
 ghost use Rattle.cells.specs.inner.Lookups.{sidesLawful, cellReached, contentReached};
 
@@ -23,7 +23,7 @@ fn section(s: &[u8], x: usize, e: u32) -> usize
     ensures is { λ r. ⌜ r ≡ sectionAt (now (s .entry)) x e ⌝ }
     ensures near { λ r. ⌜ r ≤ length (now (s .entry)) + 4294967312 ⌝ }
 {
-    tile_body::section_start(s, x, e)
+    tile_record::section_start(s, x, e)
 }
 
 // Whether its length L is below U.

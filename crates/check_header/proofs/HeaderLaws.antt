@@ -29,7 +29,7 @@ marked s n x r h p q =
 
 module _
     (s : List ℕ) (e d : ℕ) (x y : Element) (r : Bool) (p : x ≡ element s d) (q : y ≡ element s e)
-    (t : r ≡ sameBytes (part s (x .name) (x .size)) (part s (y .name) (y .size)))
+    (t : r ≡ sameBytes (part s (x .name) (x .«name_length»)) (part s (y .name) (y .«name_length»)))
   where
     same : r ≡ sameBytes (elementName s d) (elementName s e)
     unfolding elementName
@@ -50,7 +50,7 @@ module _ (s : List ℕ) (e : ℕ) (x : Element) (p : x ≡ element s e) where
   unfolding elementRight
   kind-not h = let k : 3 < element s e .kind = rw p at h in no _ (λ z. omega (arith, z .0))
 
-  module _ (r : Bool) (q : r ≡ identifier 32 (part s (x .name) (x .size))) where
+  module _ (r : Bool) (q : r ≡ identifier 32 (part s (x .name) (x .«name_length»))) where
     named : r ≡ identifier 32 (elementName s e)
     unfolding elementName
     named = q ∙ rw p

@@ -26,7 +26,7 @@ pub fn length_right(s: &[u8], length: usize) -> bool
 }
 
 // The header's length is lawful, all of it is among the bytes, and its type is 6.
-pub fn frame_right(s: &[u8], length: usize) -> bool
+fn frame_right(s: &[u8], length: usize) -> bool
     ensures { λ r. ⌜ r ≡ frameRight (now (s .entry)) length ⌝ }
 {
     if length_right(s, length) {
@@ -67,7 +67,7 @@ pub fn sides_right(s: &[u8]) -> bool
     false
 }
 
-pub fn options_right(s: &[u8]) -> bool
+fn options_right(s: &[u8]) -> bool
     ensures { λ r. ⌜ r ≡ optionsRight (now (s .entry)) ⌝ }
 {
     if 1 < fields::checksum_enabled(s) {
@@ -88,7 +88,7 @@ fn names_differ(s: &[u8], e: usize, d: usize) -> bool
 {
     let x = entries::element(s, d);
     let y = entries::element(s, e);
-    if names::same_name(s, x.name, x.size, s, y.name, y.size) {
+    if names::same_name(s, x.name, x.name_length, s, y.name, y.name_length) {
         return false;
     }
     true
@@ -117,7 +117,7 @@ fn element_right(s: &[u8], e: usize) -> bool
     if 3 < x.kind {
         return false;
     }
-    if names::identifier_at(s, x.name, x.size, 32) {
+    if names::identifier_at(s, x.name, x.name_length, 32) {
         return name_new(s, e);
     }
     false
@@ -138,7 +138,7 @@ fn each_right(s: &[u8], n: usize) -> bool
     true
 }
 
-pub fn elements_right(s: &[u8]) -> bool
+fn elements_right(s: &[u8]) -> bool
     ensures { λ r. ⌜ r ≡ elementsRight (now (s .entry)) ⌝ }
 {
     if is_positive(fields::element_count(s)) {
@@ -152,7 +152,7 @@ pub fn elements_right(s: &[u8]) -> bool
 }
 
 // What follows the entries, where there are at most 16.
-pub fn tail_right(s: &[u8]) -> bool
+fn tail_right(s: &[u8]) -> bool
     ensures { λ r. ⌜ r ≡ tailRight (now (s .entry)) ⌝ }
 {
     if 16 < fields::element_count(s) {

@@ -9,11 +9,9 @@ use lib.Dec.{leb, eqb}
 use borrow.Author.Tests.{eq-eqb, ne-eqb, le-leb, lt-leb, leb-true, leb-false}
 use Rattle.wire.specs.Pick.{pick}
 use Rattle.wire.specs.Tests.{allBelow}
-use Rattle.wire.specs.Bytes.{Bytes, byteAt, numberAt, u16At, u32At, part, bytesOf, partAt}
-use Rattle.wire.specs.Items.{advance}
+use Rattle.wire.specs.Bytes.{Bytes, numberAt, u16At, u32At, part, bytesOf}
 use Rattle.wire.proofs.TestLaws.{means, yes, no, not-both}
-use Rattle.wire.proofs.ByteLaws.{byte-out, number-out, part-out, part-whole}
-use Rattle.wire.proofs.ItemLaws.{advance-grows}
+use Rattle.wire.proofs.ByteLaws.{part-out, part-whole}
 use Rattle.wire.proofs.PlaceLaws.{Placed, placed-first, placed-next, placed-part, placed-value}
 use Rattle.crc32c.specs.Crc.{crcOf, crcPart}
 use Rattle.crc32c.proofs.Range.{crc-small}
@@ -26,15 +24,19 @@ use Rattle.record.specs.Record.{lengthAt, typeAt, recordLimit, Told}
 use Rattle.record.specs.Chain.{headerEnd, records, recordsEnd, find, findNot, Whole}
 use Rattle.record.proofs.ChainLaws.{chain-ends, stand-starts, stand-end, whole-starts}
 use Rattle.record.proofs.FindLaws.{found-not}
-use Rattle.geometry.specs.declared.Judged.{Judged}
-use Rattle.geometry.specs.declared.Judged.the-variants.{Uncompressed, Compressed, Fault}
-use Rattle.geometry.specs.Sizes.{judgeElement, storedSize}
+use Rattle.geometry.specs.declared.Packing.{Packing}
+use Rattle.geometry.specs.declared.Packing.the-variants.{Uncompressed, Compressed, Fault}
+use Rattle.geometry.specs.Sizes.{elementPacking}
 use Rattle.check_records.specs.declared.Rule.{Rule}
 use Rattle.check_records.specs.declared.Rule.the-variants.{Checksum, Body}
 use Rattle.check_records.specs.Frame.{endRight}
 use Rattle.check_records.specs.Checksum.{summedBytes, checksumOf, checksumAt, checksumRight}
-use Rattle.check_records.specs.TileBody.{sectionEnd, sectionAt, sectionStart, sectionLength, sectionJudged, sectionRight, tileEnd, tileRight}
-use Rattle.check_records.specs.MetadataBody.{metadataName, recordIdAt, recordId, dataType, contentLengthAt, metadataLength, metadataEnd, metadataRight}
+use Rattle.check_records.specs.TileBody.{sectionPacking, sectionRight, tileRight}
+use Rattle.bodies.specs.TileRecord.{sectionStart, sectionLength, tileEnd, sectionAt}
+use Rattle.check_records.specs.MetadataBody.{metadataRight}
+use Rattle.bodies.specs.MetadataRecord.{metadataName, recordIdAt, contentLengthAt, metadataLength, metadataEnd, recordIdStart}
+use Rattle.bodies.proofs.SectionLaws.{section-told, section-least}
+use Rattle.bodies.proofs.MetadataLaws.{id-told}
 use Rattle.check_records.specs.Faults.{bodyRight, rightOf, firstWrong, chainFault, BrokenAt, ChainFaultExactly, checksumFault}
 
 -- checksums
@@ -90,61 +92,29 @@ checksum-placed {s} {x} u v p e w n k =
 
 -- sections
 
-pub section-is : (s : List ℕ) (p l n : ℕ) → l ≡ u32At s p → n ≡ storedSize l → p + n ≡ sectionEnd s p
-unfolding sectionEnd
-section-is s p l n e f = rw (f, e)
-
-stored-grows : (l : ℕ) → 4 ≤ storedSize l
-unfolding storedSize
-stored-grows l = omega arith
-
-pub stored-most : (l n : ℕ) → n ≡ storedSize l → l < 4294967296 → (4 ≤ n) × (n ≤ 4294967300)
-unfolding storedSize
-stored-most l n e h = (omega arith, omega arith)
-
-pub section-grows : (s : List ℕ) (p : ℕ) → p + 4 ≤ sectionEnd s p
-unfolding sectionEnd
-section-grows s p = omega (arith, stored-grows (u32At s p))
-
-pub start-past : (s : List ℕ) (at e : ℕ) → length s ≤ at → 0 ≡ sectionStart s at e
-unfolding sectionStart
-start-past s at e h = rw (le-leb (length s) at h)
-
-pub start-is : (s : List ℕ) (at e r : ℕ) → at < length s → r ≡ sectionAt s at e → r ≡ sectionStart s at e
-unfolding sectionStart
-start-is s at e r h q = rw (lt-leb (length s) at h) q
-
-pub sections-begin : (s : List ℕ) (at e l : ℕ) → l ≡ recordLimit s at → advance (sectionEnd s) l e (at + 12) ≡ sectionAt s at e
-unfolding sectionAt
-sections-begin s at e l p = rw p
-
-module _ (s : List ℕ) (at e p l : ℕ) (j : Judged) (a : p ≡ sectionAt s at e) (b : l ≡ u32At s p) (c : j ≡ judgeElement s e l) where
-  judged-is : j ≡ sectionJudged s at e
-  unfolding sectionJudged sectionLength
-  judged-is = c ∙ rw (b, a)
+module _ (s : List ℕ) (at e p l : ℕ) (j : Packing) (a : p ≡ sectionAt s at e) (b : l ≡ u32At s p) (c : j ≡ elementPacking s e l) where
+  packing-is : j ≡ sectionPacking s at e
+  unfolding sectionPacking sectionLength
+  packing-is = c ∙ rw (b, a)
 
   pub section-whole : j ≡ Uncompressed → true ≡ sectionRight s at e
   unfolding sectionRight
-  section-whole f = rw (← judged-is, f)
+  section-whole f = rw (← packing-is, f)
 
   pub section-packed : j ≡ Compressed → true ≡ sectionRight s at e
   unfolding sectionRight
-  section-packed f = rw (← judged-is, f)
+  section-packed f = rw (← packing-is, f)
 
   pub section-fault : j ≡ Fault → false ≡ sectionRight s at e
   unfolding sectionRight
-  section-fault f = rw (← judged-is, f)
+  section-fault f = rw (← packing-is, f)
 
 pub tile-end-is :
-    (s : List ℕ) (at n p : ℕ) (r : Bool) → n ≡ elementCount s → p ≡ sectionAt s at n → r ≡ endRight s at p → r ≡ endRight s at (tileEnd s at)
+    (s : List ℕ) (at n p : ℕ) (r : Bool) → at < length s → n ≡ elementCount s → p ≡ sectionStart s at n → r ≡ endRight s at p → r ≡ endRight s at (tileEnd s at)
 unfolding tileEnd
-tile-end-is s at n p r a b c = c ∙ rw (b, a)
+tile-end-is s at n p r h a b c = c ∙ rw (section-told s at n p h b, a)
 
 -- a record that starts past the file has no right body
-
-pub section-least : (s : List ℕ) (at e : ℕ) → at + 12 ≤ sectionAt s at e
-unfolding sectionAt
-section-least s at e = advance-grows (sectionEnd s) (recordLimit s at) (λ p. omega (arith, section-grows s p)) e (at + 12)
 
 pub tile-past : (s : List ℕ) (at : ℕ) → length s ≤ at → false ≡ tileRight s at
 unfolding tileRight endRight recordLimit tileEnd
@@ -158,49 +128,15 @@ metadata-past s at h =
 
 -- metadata
 
-id-behind : (s : List ℕ) (at : ℕ) → at + 10 ≤ recordIdAt s at
-unfolding recordIdAt stringEnd stringSize
-id-behind s at = omega arith
-
-pub id-past : (s : List ℕ) (at : ℕ) → length s ≤ at → 0 ≡ recordId s at
-unfolding recordId
-id-past s at h = number-out 4 s (recordIdAt s at) (omega (arith, id-behind s at))
-
-pub type-past : (s : List ℕ) (at : ℕ) → length s ≤ at → 0 ≡ dataType s at
-unfolding dataType
-type-past s at h = byte-out s (recordIdAt s at + 4) (omega (arith, id-behind s at))
-
-pub name-past : (s : List ℕ) (at : ℕ) → length s ≤ at → [] ≡ metadataName s at
-unfolding metadataName
-name-past s at h = sym (part-out s (at + 10) (u16At s (at + 8)) (omega arith))
-
-pub record-id-is : (s : List ℕ) (at p r : ℕ) → p ≡ recordIdAt s at → r ≡ numberAt 4 s p → r ≡ recordId s at
-unfolding recordId
-record-id-is s at p r a e = e ∙ rw a
-
-pub named-is : (s : List ℕ) (at n : ℕ) (l : List ℕ) → n ≡ numberAt 2 s (at + 8) → l ≡ part s (at + 10) n → l ≡ metadataName s at
-unfolding metadataName
-named-is s at n l a e = e ∙ rw a
-
-pub name-offset : (s : List ℕ) (at n o p : ℕ) → n ≡ numberAt 2 s (at + 8) → o ≡ p + partAt s (at + 10) n → o ≡ p + partAt s (at + 10) (u16At s (at + 8))
-name-offset s at n o p a e = e ∙ rw a
-
-pub id-is : (s : List ℕ) (at n : ℕ) → n ≡ stringSize s (at + 8) → at + 8 + n ≡ recordIdAt s at
-unfolding recordIdAt stringEnd
-id-is s at n e = rw e
-
-pub data-type-is : (s : List ℕ) (at p r : ℕ) → p ≡ recordIdAt s at → r ≡ byteAt s (p + 4) → r ≡ dataType s at
-unfolding dataType
-data-type-is s at p r a e = e ∙ rw a
-
-pub metadata-length-is : (s : List ℕ) (at p r : ℕ) → p ≡ recordIdAt s at → r ≡ numberAt 4 s (p + 5) → r ≡ metadataLength s at
+pub metadata-length-is : (s : List ℕ) (at p r : ℕ) → at < length s → p ≡ recordIdStart s at → r ≡ numberAt 4 s (p + 5) → r ≡ metadataLength s at
 unfolding metadataLength contentLengthAt
-metadata-length-is s at p r a e = e ∙ rw a
+metadata-length-is s at p r h a e = e ∙ rw (id-told s at p h a)
 
 pub metadata-end-is :
-    (s : List ℕ) (at p l n : ℕ) → p ≡ recordIdAt s at → l ≡ metadataLength s at → n ≡ stringSize s (p + 9 + l) → p + 9 + l + n ≡ metadataEnd s at
+    (s : List ℕ) (at p l n : ℕ) → at < length s → p ≡ recordIdStart s at → l ≡ metadataLength s at → n ≡ stringSize s (p + 9 + l) → p + 9 + l + n ≡ metadataEnd s at
 unfolding metadataEnd contentLengthAt stringEnd
-metadata-end-is s at p l n a b e =
+metadata-end-is s at p l n h a b e =
+    let i = id-told s at p h a in
     let k : p + 9 + l ≡ recordIdAt s at + 5 + 4 + metadataLength s at = omega arith in
     rw (e, ← k)
 

@@ -1,61 +1,21 @@
 // Stage 8: the body of a metadata record.
 use crate::ends;
+use bodies::metadata_record;
 use header::entries;
 use header::names;
 ghost use mathlib.Core.Path.{_≡_};
-ghost use Prim.Native.Nat.{_+_, _≤_, _<_};
+ghost use Prim.Native.Nat.{_+_, _<_};
 ghost use lib.ListN.{length};
-ghost use Rattle.wire.specs.Bytes.{u16At, partAt};
 ghost use Rattle.header.specs.Names.{identifier};
-ghost use Rattle.check_records.specs.MetadataBody.{metadataName, recordIdAt, recordId, dataType, metadataLength, metadataEnd, metadataRight};
-
-// Where the record ID stands.
-fn record_id_at(s: &[u8], at: usize) -> usize
-    requires { ⌜ at < length (now s) ⌝ }
-    ensures is { λ r. ⌜ r ≡ recordIdAt (now (s .entry)) at ⌝ }
-    ensures near { λ r. ⌜ r ≤ at + 65545 ⌝ }
-{
-    at + 8 + entries::string_size(s, at + 8)
-}
-
-// The record ID; 0 where it does not lie in the file.
-pub fn record_id(s: &[u8], at: usize) -> u32
-    ensures { λ r. ⌜ r ≡ recordId (now (s .entry)) at ⌝ }
-{
-    if s.len() <= at {
-        return 0;
-    }
-    wire::u32_at(s, record_id_at(s, at))
-}
-
-// The data type.
-pub fn data_type(s: &[u8], at: usize) -> u32
-    ensures { λ r. ⌜ r ≡ dataType (now (s .entry)) at ⌝ }
-{
-    if s.len() <= at {
-        return 0;
-    }
-    wire::byte_off(s, record_id_at(s, at), 4)
-}
-
-// The bytes of the name, as that part of the file itself; the empty part where they do not lie whole in it.
-pub fn metadata_name(s: &[u8], at: usize) -> &[u8]
-    ensures holds { λ r. ⌜ now r ≡ metadataName (now (s .entry)) at ⌝ }
-    ensures block { λ r. ⌜ r .ptr .0 ≡ s .entry .ptr .0 ⌝ }
-    ensures offset { λ r. ⌜ r .ptr .1 ≡ s .entry .ptr .1 + partAt (now (s .entry)) (at + 10) (u16At (now (s .entry)) (at + 8)) ⌝ }
-{
-    if s.len() <= at {
-        return &s[..0];
-    }
-    wire::part_of(s, at + 10, wire::u16_off(s, at, 8) as usize)
-}
+ghost use Rattle.check_records.specs.MetadataBody.{metadataRight};
+ghost use Rattle.bodies.specs.MetadataRecord.{metadataName, metadataLength, metadataEnd};
 
 // The content's length.
 fn metadata_length(s: &[u8], at: usize) -> u32
     requires { ⌜ at < length (now s) ⌝ }
     ensures { λ r. ⌜ r ≡ metadataLength (now (s .entry)) at ⌝ }
 {
-    wire::u32_off(s, record_id_at(s, at), 5)
+    wire::u32_off(s, metadata_record::record_id_start(s, at), 5)
 }
 
 // Where the last field ends.
@@ -63,14 +23,14 @@ fn metadata_end(s: &[u8], at: usize) -> usize
     requires { ⌜ at < length (now s) ⌝ }
     ensures { λ r. ⌜ r ≡ metadataEnd (now (s .entry)) at ⌝ }
 {
-    let description = record_id_at(s, at) + 9 + metadata_length(s, at) as usize;
+    let description = metadata_record::record_id_start(s, at) + 9 + metadata_length(s, at) as usize;
     description + entries::string_size(s, description)
 }
 
 fn name_right(s: &[u8], at: usize) -> bool
     ensures { λ r. ⌜ r ≡ identifier 32 (metadataName (now (s .entry)) at) ⌝ }
 {
-    names::is_identifier(metadata_name(s, at), 32)
+    names::is_identifier(metadata_record::metadata_name(s, at), 32)
 }
 
 pub fn metadata_right(s: &[u8], at: usize) -> bool
@@ -84,7 +44,7 @@ pub fn metadata_right(s: &[u8], at: usize) -> bool
     }
     if ends::end_right(s, at, metadata_end(s, at)) {
         if name_right(s, at) {
-            if 9 < data_type(s, at) {
+            if 9 < metadata_record::data_type(s, at) {
                 return false;
             }
             return true;

@@ -3,9 +3,9 @@ use mathlib.Core.Path.{refl}
 use Rattle.wire.specs.Tests.{sumBelow}
 use Rattle.header.specs.Element.{cellSize}
 use Rattle.geometry.specs.Tiles.{tilesAlong, tileOf, insideOf, tilesIn, tileIn}
-use Rattle.geometry.specs.Sizes.{uncompressed, judge, cellOffset, storedSize, leastLength, tileLength}
+use Rattle.geometry.specs.Sizes.{uncompressed, packingOf, cellOffset, storedSize, leastLength, tileLength}
 use Rattle.geometry.specs.Samples.{SamplesHold}
 
 pub samples-hold : SamplesHold
-unfolding sumBelow cellSize tilesAlong tileOf insideOf tilesIn tileIn uncompressed judge cellOffset storedSize leastLength tileLength
+unfolding sumBelow cellSize tilesAlong tileOf insideOf tilesIn tileIn uncompressed packingOf cellOffset storedSize leastLength tileLength
 samples-hold = refl

@@ -15,9 +15,9 @@ use Rattle.wire.proofs.TestLaws.{sum-none, sum-more}
 use Rattle.header.specs.declared.Element.{Element}
 use Rattle.header.specs.Fields.{tileRows, tileColumns}
 use Rattle.header.specs.Element.{cellSize, element, entriesRead}
-use Rattle.geometry.specs.declared.Judged.{Judged}
-use Rattle.geometry.specs.declared.Judged.the-variants.{Uncompressed, Compressed, Fault}
-use Rattle.geometry.specs.Sizes.{uncompressed, judge, storedSize, leastLength, tileLength, elementBytes, judgeElement, tileBytes, plainTileLength, cap}
+use Rattle.geometry.specs.declared.Packing.{Packing}
+use Rattle.geometry.specs.declared.Packing.the-variants.{Uncompressed, Compressed, Fault}
+use Rattle.geometry.specs.Sizes.{uncompressed, packingOf, storedSize, leastLength, tileLength, elementBytes, elementPacking, tileBytes, plainTileLength, cap}
 
 -- a cell has 2 or 4 bytes
 pub size-range : (k : ℕ) → (2 ≤ cellSize k) × (cellSize k ≤ 4)
@@ -54,37 +54,37 @@ module _ (h w k c z : ℕ) (p : c ≡ h * w) (q : z ≡ cellSize k) where
 
 -- judgements, by the tests in their order
 
-pub judge-zero : (l u : ℕ) → l ≡ 0 → Fault ≡ judge l u
-unfolding judge
-judge-zero l u e = rw e
+pub packing-zero : (l u : ℕ) → l ≡ 0 → Fault ≡ packingOf l u
+unfolding packingOf
+packing-zero l u e = rw e
 
-pub judge-whole : (l u : ℕ) → (l ≡ 0 → ⊥) → l ≡ u → Uncompressed ≡ judge l u
-unfolding judge
-judge-whole l u n e = rw (ne-eqb l 0 n, eq-eqb l u e)
+pub packing-whole : (l u : ℕ) → (l ≡ 0 → ⊥) → l ≡ u → Uncompressed ≡ packingOf l u
+unfolding packingOf
+packing-whole l u n e = rw (ne-eqb l 0 n, eq-eqb l u e)
 
-pub judge-less : (l u : ℕ) → (l ≡ 0 → ⊥) → (l ≡ u → ⊥) → l ≤ u → Compressed ≡ judge l u
-unfolding judge
-judge-less l u n m h = rw (ne-eqb l 0 n, ne-eqb l u m, le-leb l u h)
+pub packing-less : (l u : ℕ) → (l ≡ 0 → ⊥) → (l ≡ u → ⊥) → l ≤ u → Compressed ≡ packingOf l u
+unfolding packingOf
+packing-less l u n m h = rw (ne-eqb l 0 n, ne-eqb l u m, le-leb l u h)
 
-pub judge-more : (l u : ℕ) → (l ≡ 0 → ⊥) → (l ≡ u → ⊥) → u < l → Fault ≡ judge l u
-unfolding judge
-judge-more l u n m h = rw (ne-eqb l 0 n, ne-eqb l u m, lt-leb l u h)
+pub packing-more : (l u : ℕ) → (l ≡ 0 → ⊥) → (l ≡ u → ⊥) → u < l → Fault ≡ packingOf l u
+unfolding packingOf
+packing-more l u n m h = rw (ne-eqb l 0 n, ne-eqb l u m, lt-leb l u h)
 
 -- a four-byte length can't tell U from the lesser of U and the bound
-pub judge-capped : (l u : ℕ) → l < cap → judge l (min u cap) ≡ judge l u
-judge-capped l u h =
+pub packing-capped : (l u : ℕ) → l < cap → packingOf l (min u cap) ≡ packingOf l u
+packing-capped l u h =
     by-cases (decLe u cap) (λ k. let e : min u cap ≡ u = omega arith in rw e)
     (λ n.
     let e : min u cap ≡ cap = omega arith in
     rw e
     (by-cases (decLe 1 l)
-    (λ p. sym (judge-less l cap (λ e. omega arith) (λ e. omega arith) (omega arith)) ∙ judge-less l u (λ e. omega arith) (λ e. omega arith) (omega arith))
-    (λ m. let z : l ≡ 0 = omega arith in sym (judge-zero l cap z) ∙ judge-zero l u z)))
+    (λ p. sym (packing-less l cap (λ e. omega arith) (λ e. omega arith) (omega arith)) ∙ packing-less l u (λ e. omega arith) (λ e. omega arith) (omega arith))
+    (λ m. let z : l ≡ 0 = omega arith in sym (packing-zero l cap z) ∙ packing-zero l u z)))
 
-pub judge-element-is :
-    (s : List ℕ) (e l u : ℕ) (r : Judged) → u ≡ min (elementBytes s e) cap → r ≡ judge l u → l < cap → r ≡ judgeElement s e l
-unfolding judgeElement
-judge-element-is s e l u r p q h = q ∙ ap (judge l) p ∙ judge-capped l (elementBytes s e) h
+pub element-packing-is :
+    (s : List ℕ) (e l u : ℕ) (r : Packing) → u ≡ min (elementBytes s e) cap → r ≡ packingOf l u → l < cap → r ≡ elementPacking s e l
+unfolding elementPacking
+element-packing-is s e l u r p q h = q ∙ ap (packingOf l) p ∙ packing-capped l (elementBytes s e) h
 
 pub element-is :
     (s : List ℕ) (e h w u : ℕ) (x : Element) → x ≡ element s e → h ≡ tileRows s → w ≡ tileColumns s →

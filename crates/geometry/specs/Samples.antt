@@ -2,15 +2,15 @@
 use Prim.Native.Nat.{ℕ}
 use mathlib.Core.Path.{_≡_}
 use mathlib.Core.List.{List, [], _∷_, map}
-use Rattle.geometry.specs.declared.Judged.{Judged}
-use Rattle.geometry.specs.declared.Judged.the-variants.{Uncompressed, Compressed, Fault}
+use Rattle.geometry.specs.declared.Packing.{Packing}
+use Rattle.geometry.specs.declared.Packing.the-variants.{Uncompressed, Compressed, Fault}
 use Rattle.geometry.specs.Tiles.{tilesIn, tileIn, insideOf}
-use Rattle.geometry.specs.Sizes.{uncompressed, judge, cellOffset, tileLength}
+use Rattle.geometry.specs.Sizes.{uncompressed, packingOf, cellOffset, tileLength}
 
 -- a number, or what a length is
 pub data Sum : Type 0 where
   gives : ℕ → Sum
-  is : Judged → Sum
+  is : Packing → Sum
 
 -- the cell (r, c) of a grid 5 by 7 with tiles 2 by 3: its tile and its number inside
 abbrev pub tile57 : ℕ → ℕ → Sum
@@ -41,11 +41,11 @@ samples =
     ∷ row (shortRecord 1 2 2) (gives 32)
     ∷ row (shortRecord 1 1 1) (gives 24)
     ∷ row (shortRecord 2 3 3) (gives 64)
-    ∷ row (is (judge 18 18)) (is Uncompressed)
-    ∷ row (is (judge 17 18)) (is Compressed)
-    ∷ row (is (judge 1 18)) (is Compressed)
-    ∷ row (is (judge 0 18)) (is Fault)
-    ∷ row (is (judge 19 18)) (is Fault)
+    ∷ row (is (packingOf 18 18)) (is Uncompressed)
+    ∷ row (is (packingOf 17 18)) (is Compressed)
+    ∷ row (is (packingOf 1 18)) (is Compressed)
+    ∷ row (is (packingOf 0 18)) (is Fault)
+    ∷ row (is (packingOf 19 18)) (is Fault)
     ∷ []
 
 -- every sum gives what it has to

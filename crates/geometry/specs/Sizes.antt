@@ -6,8 +6,8 @@ use Rattle.wire.specs.Pick.{pick, roundUp}
 use Rattle.wire.specs.Tests.{sumBelow}
 use Rattle.header.specs.Fields.{tileRows, tileColumns}
 use Rattle.header.specs.Element.{cellSize, entriesRead, element}
-use Rattle.geometry.specs.declared.Judged.{Judged}
-use Rattle.geometry.specs.declared.Judged.the-variants.{Uncompressed, Compressed, Fault}
+use Rattle.geometry.specs.declared.Packing.{Packing}
+use Rattle.geometry.specs.declared.Packing.the-variants.{Uncompressed, Compressed, Fault}
 
 -- U, the uncompressed size of an element in a tile: tile rows times tile columns times 4, or times 2 for Short
 unfoldable pub uncompressed : ℕ → ℕ → ℕ → ℕ
@@ -15,8 +15,8 @@ uncompressed h w kind = h * w * cellSize kind
 
 -- a length L against U: from 1 to U; equal to U means uncompressed, less means compressed; 0, or more than U, is a fault.
 -- A negative L is, as a number of its bits, more than any U that the ceilings allow
-unfoldable pub judge : ℕ → ℕ → Judged
-judge l u = pick (eqb l 0) Fault (pick (eqb l u) Uncompressed (pick (leb l u) Compressed Fault))
+unfoldable pub packingOf : ℕ → ℕ → Packing
+packingOf l u = pick (eqb l 0) Fault (pick (eqb l u) Uncompressed (pick (leb l u) Compressed Fault))
 
 -- document 01, 'Finding a cell': where a cell starts in its element's uncompressed content, by its number inside the tile
 unfoldable pub cellOffset : ℕ → ℕ → ℕ
@@ -44,8 +44,8 @@ unfoldable pub elementBytes : List ℕ → ℕ → ℕ
 elementBytes s e = uncompressed (tileRows s) (tileColumns s) (element s e .kind)
 
 -- a length L against U of a file's element
-unfoldable pub judgeElement : List ℕ → ℕ → ℕ → Judged
-judgeElement s e l = judge l (elementBytes s e)
+unfoldable pub elementPacking : List ℕ → ℕ → ℕ → Packing
+elementPacking s e l = packingOf l (elementBytes s e)
 
 -- document 01, 'House ceilings': the uncompressed bytes of one tile, all elements together; at most the first 16 are read
 unfoldable pub tileBytes : List ℕ → ℕ

@@ -3,7 +3,7 @@ pub mod sizes;
 pub mod tiles;
 
 // What a length L is, compared with the uncompressed size U.
-pub enum Judged {
+pub enum Packing {
     Uncompressed,
     Compressed,
     Fault,

@@ -1,13 +1,13 @@
 // U, L, the bytes of a tile and the least record length.
-use crate::Judged;
+use crate::Packing;
 use header::entries;
 use header::fields;
 ghost use mathlib.Core.Path.{_≡_};
 ghost use Prim.Native.Nat.{_+_, _≤_, min};
-ghost use Rattle.geometry.specs.Sizes.{uncompressed, judge, cellOffset, storedSize, leastLength, elementBytes, judgeElement, tileBytes, cap};
+ghost use Rattle.geometry.specs.Sizes.{uncompressed, packingOf, cellOffset, storedSize, leastLength, elementBytes, elementPacking, tileBytes, cap};
 
 // U, or 4294967296 where U is more: no four-byte length tells the difference.
-pub fn uncompressed(h: u32, w: u32, kind: u32) -> u64
+fn uncompressed(h: u32, w: u32, kind: u32) -> u64
     ensures { λ r. ⌜ r ≡ min (uncompressed h w kind) cap ⌝ }
 {
     let cells = h as u64 * (w as u64);
@@ -23,20 +23,20 @@ pub fn uncompressed(h: u32, w: u32, kind: u32) -> u64
 }
 
 // A length L against U.
-pub fn judge(l: u32, u: u64) -> Judged
-    ensures { λ r. ⌜ r ≡ judge l u ⌝ }
+fn packing_of(l: u32, u: u64) -> Packing
+    ensures { λ r. ⌜ r ≡ packingOf l u ⌝ }
 {
     if l == 0 {
-        return Judged::Fault;
+        return Packing::Fault;
     }
     let n = l as u64;
     if n == u {
-        return Judged::Uncompressed;
+        return Packing::Uncompressed;
     }
     if n <= u {
-        return Judged::Compressed;
+        return Packing::Compressed;
     }
-    Judged::Fault
+    Packing::Fault
 }
 
 // Where a cell starts in its element's uncompressed content.
@@ -72,10 +72,10 @@ pub fn element_bytes(s: &[u8], e: usize) -> u64
 }
 
 // A length L against U of a file's element.
-pub fn judge_element(s: &[u8], e: usize, l: u32) -> Judged
-    ensures { λ r. ⌜ r ≡ judgeElement (now (s .entry)) e l ⌝ }
+pub fn element_packing(s: &[u8], e: usize, l: u32) -> Packing
+    ensures { λ r. ⌜ r ≡ elementPacking (now (s .entry)) e l ⌝ }
 {
-    judge(l, element_bytes(s, e))
+    packing_of(l, element_bytes(s, e))
 }
 
 // The uncompressed bytes of one tile, or 4294967296 where there are more.

@@ -26,7 +26,7 @@ pub fn remainder(a: u32, b: u32) -> u32
 }
 
 // The tiles that a side of the grid takes.
-pub fn tiles_along(side: u32, tile: u32) -> u32
+fn tiles_along(side: u32, tile: u32) -> u32
     ensures { λ r. ⌜ r ≡ tilesAlong side tile ⌝ }
 {
     if tile == 0 {
@@ -37,7 +37,7 @@ pub fn tiles_along(side: u32, tile: u32) -> u32
 }
 
 // The tile of a cell, of tiles of h rows and w columns, `across` of them in a row of tiles.
-pub fn tile_of(h: u32, w: u32, across: u32, row: u32, column: u32) -> u64
+fn tile_of(h: u32, w: u32, across: u32, row: u32, column: u32) -> u64
     ensures { λ r. ⌜ r ≡ tileOf h w across row column ⌝ }
 {
     let down = quotient(row, h) as u64;
@@ -46,7 +46,7 @@ pub fn tile_of(h: u32, w: u32, across: u32, row: u32, column: u32) -> u64
 }
 
 // The cell's number inside its tile.
-pub fn inside_of(h: u32, w: u32, row: u32, column: u32) -> u64
+fn inside_of(h: u32, w: u32, row: u32, column: u32) -> u64
     ensures { λ r. ⌜ r ≡ insideOf h w row column ⌝ }
 {
     let down = remainder(row, h) as u64;

@@ -65,7 +65,7 @@ block-other k n = rw (ne-eqb k 1 n)
 
 pub entry-whole :
     (s : List ℕ) (at k n f e : ℕ) → k ≡ byteAt s at → n ≡ u16At s (at + 8) → f ≡ fillBits s at → e ≡ entryEnd s at →
-    _≡_ {A = Element} (record { kind = k; name = at + 10; size = n; fill = f; end = e }) (entryAt s at)
+    _≡_ {A = Element} (record { kind = k; name = at + 10; «name_length» = n; fill = f; end = e }) (entryAt s at)
 unfolding entryAt
 entry-whole s at k n f e p q r t = rw (p, q, r, t)
 

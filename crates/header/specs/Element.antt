@@ -60,7 +60,7 @@ entryAt s at =
     record {
       kind = entryKind s at;
       name = at + 10;
-      size = u16At s (at + 8);
+      «name_length» = u16At s (at + 8);
       fill = fillBits s at;
       end = entryEnd s at;
     }
@@ -76,7 +76,7 @@ element s e = entryAt s (entryStart s e)
 
 -- its name
 unfoldable pub elementName : List ℕ → ℕ → List ℕ
-elementName s e = part s (element s e .name) (element s e .size)
+elementName s e = part s (element s e .name) (element s e .«name_length»)
 
 -- document 01, stage 3: at most the first 16 element entries are read
 unfoldable pub entriesRead : List ℕ → ℕ

@@ -100,13 +100,13 @@ fn entry_at(s: &[u8], at: usize) -> Element
     ensures { λ r. ⌜ r ≡ entryAt (now (s .entry)) at ⌝ }
 {
     let kind = wire::byte_at(s, at);
-    let size = wire::u16_off(s, at, 8) as usize;
+    let name_length = wire::u16_off(s, at, 8) as usize;
     let fill = fill_bits(s, at);
     let end = entry_end(s, at);
     Element {
         kind,
         name: at + 10,
-        size,
+        name_length,
         fill,
         end,
     }

@@ -9,7 +9,7 @@ pub mod tail;
 pub struct Element {
     pub kind: u32,
     pub name: usize,
-    pub size: usize,
+    pub name_length: usize,
     pub fill: u32,
     pub end: usize,
 }

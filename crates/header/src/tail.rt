@@ -7,7 +7,7 @@ ghost use lib.ListN.{length};
 ghost use Rattle.header.specs.Tail.{methodsAt, methodCount, productLabelAt, fieldsEnd};
 
 // Where the number of compression methods stands.
-pub fn methods_at(s: &[u8]) -> usize
+fn methods_at(s: &[u8]) -> usize
     ensures is { λ r. ⌜ r ≡ methodsAt (now (s .entry)) ⌝ }
     ensures near { λ r. ⌜ r ≤ length (now (s .entry)) + 262200 ⌝ }
 {

@@ -23,61 +23,35 @@ use Rattle.check_header.specs.HeaderRecord.{headerRight}
 use Rattle.check_header.specs.Ceilings.{withinCeilings}
 use Rattle.check_header.specs.Stages.{firstTwo, nextTwo, stages, frontRight, checkFront}
 use Rattle.check_header.proofs.Judged.{header-long}
+use Rattle.check_header.specs.Passed.{Headed, InRange}
+use Rattle.check_header.proofs.PassedLaws.{range-of, stages-passed}
 use Rattle.lay_down.specs.Pieces.{recordLength}
 use Rattle.lay_down.proofs.PageLaws.{storedBefore, element-within}
 
--- what each stage says
-pub record FrontRules (f : List ℕ) : Type 0 where
-  pub block : identified f (length f) ≡ true
-  pub version : versionRight f ≡ true
-  pub header : headerRight f (length f) ≡ true
-  pub no-more : headerEnd f ≡ length f
-  pub ceilings : withinCeilings f (length f) ≡ true
-
-pub rules-of : (f : List ℕ) → checkFront f ≡ Accepted → FrontRules f
-unfolding checkFront stages firstTwo nextTwo frontRight
-rules-of f e =
-    let a = gate-passed _ _ _ e in
-    let b = gate-passed _ _ _ (a .1) in
-    let c = gate-passed _ _ _ (b .1) in
-    let d = gate-passed _ _ _ (c .1) in
-    let h = means _ (c .0) in
-    record { block = a .0; version = b .0; header = h .0; no-more = h .1 .0; ceilings = d .0 }
+-- a front passes stages 1 to 4 by itself, and is its header and no byte more
+pub front-passed : (f : List ℕ) → checkFront f ≡ Accepted → Headed f (length f) × (headerEnd f ≡ length f)
+unfolding checkFront frontRight
+front-passed f e =
+    let a = stages-passed f (length f) _ _ e (λ h. means _ h .0) in
+    (a .0, means _ (a .1 .0) .1 .0)
 
 -- its numbers
-pub record Front (f : List ℕ) : Type 0 where
-  pub least : 288 ≤ length f
-  pub most : length f ≤ 16777216
-  pub all : entriesRead f ≡ elementCount f
-  pub few : entriesRead f ≤ 16
-  pub tile : tileBytes f ≤ 1048576
-  pub tiles : tileCount f ≤ 65536
+abbrev pub Front : List ℕ → Type 0
+Front f = InRange f (length f)
 
 pub front-of : (f : List ℕ) → checkFront f ≡ Accepted → Front f
-unfolding withinCeilings entriesRead
-front-of f e =
-    let r = rules-of f e in
-    let w = means _ (r .ceilings) in
-    let n : elementCount f ≤ 16 = w .1 .1 .1 .0 in
-    record {
-      least = omega (arith, header-long f (length f) (r .header), r .no-more);
-      most = w .0;
-      all = omega arith;
-      few = omega arith;
-      tile = w .1 .1 .1 .1 .0;
-      tiles = w .1 .1 .0;
-    }
+front-of f e = range-of f (length f) (front-passed f e .0)
 
 module _ (f : List ℕ) (w : Front f) where
   -- U of an element, as it is and as it is read
   pub size-small : (e : ℕ) → e < entriesRead f → elementBytes f e ≤ 1048576
-  size-small e h = omega (arith, element-within f (w .all) e (omega (arith, w .all)), w .tile)
+  size-small e h = omega (arith, element-within f (w .all) e (omega (arith, w .all)), w .tile-size)
 
   pub size-exact : (e x : ℕ) → x ≡ min (elementBytes f e) cap → e < entriesRead f → x ≡ elementBytes f e
   size-exact e x p h = omega (arith, size-small e h)
 
   pub tile-exact : (x : ℕ) → x ≡ min (tileBytes f) cap → x ≡ tileBytes f
-  tile-exact x p = omega (arith, w .tile)
+  tile-exact x p = omega (arith, w .tile-size)
 
   -- a tile record's length, an element more at a time
 
@@ -86,7 +60,7 @@ module _ (f : List ℕ) (w : Front f) where
   stored-small e h =
       let a = sum-stored (entriesRead f) (elementBytes f) in
       let b = sum-within (entriesRead f) (λ d. storedSize (elementBytes f d)) e h in
-      omega (arith, a, b, w .tile, w .few)
+      omega (arith, a, b, w .tile-size, w .all, w .elements)
 
   pub stored-more :
       (e u r sum : ℕ) → u ≡ min (elementBytes f e) cap → r ≡ storedSize u → sum ≡ storedBefore f e → e < entriesRead f →
@@ -104,7 +78,7 @@ module _ (f : List ℕ) (w : Front f) where
   -- no sum of lengths is too large
 
   pub plain-small : plainTileLength f ≤ 1048711
-  plain-small = omega (arith, plain-most f, w .tile, w .few)
+  plain-small = omega (arith, plain-most f, w .tile-size, w .all, w .elements)
 
   pub records-small : (k : ℕ) → k ≤ 65536 → k * plainTileLength f ≤ 68728324096
   records-small k h = let a : k * plainTileLength f ≤ 65536 * 1048711 = mul-le-mul h plain-small in omega arith

@@ -20,7 +20,7 @@ use Rattle.geometry.specs.Sizes.{cap, tileBytes, plainTileLength}
 use Rattle.check_header.specs.Stages.{checkFront}
 use Rattle.lay_down.specs.Pieces.{recordLength}
 use Rattle.lay_down.specs.Page.{directoryStart, fileLength}
-use Rattle.lay_down.specs.Answer.{ascending, inputRight, lengthAllowed, fitsIn, judgedInput, judged}
+use Rattle.lay_down.specs.Answer.{ascending, inputRight, lengthAllowed, fitsIn, inputVerdict, layDownVerdict}
 use Rattle.lay_down.proofs.FrontLaws.{Front, front-of, tile-exact}
 use Rattle.lay_down.proofs.AscendLaws.{ascending-few}
 
@@ -42,7 +42,7 @@ module _ (f : List ℕ) (t : ℕ) (ix c : List ℕ) where
       pub input-small : length ix * u ≤ 68719476736
       input-small =
           let a : length ix ≤ 65536 = omega (arith, ascending-few n ix (sym p ∙ q), front .tiles) in
-          let d : u ≤ 1048576 = omega (arith, front .tile) in
+          let d : u ≤ 1048576 = omega (arith, front .tile-size) in
           let e : length ix * u ≤ 65536 * 1048576 = mul-le-mul a d in
           omega arith
 
@@ -60,31 +60,31 @@ length-is f ix n e = e
 
 -- behind the front
 module _ (f : List ℕ) (t : ℕ) (ix c : List ℕ) (room : ℕ) (b : Bool) (p : b ≡ inputRight f t ix c) where
-  pub judged-input : b ≡ false → Refused Input ≡ judgedInput f t ix c room
-  unfolding judgedInput gate
+  pub judged-input : b ≡ false → Refused Input ≡ inputVerdict f t ix c room
+  unfolding inputVerdict gate
   judged-input q = rw (← p, q)
 
   module _ (q : b ≡ true) (n : ℕ) (e : n ≡ fileLength f ix) where
-    pub judged-ceiling : 16777216 < n → Refused Ceiling ≡ judgedInput f t ix c room
-    unfolding judgedInput gate lengthAllowed passes
+    pub judged-ceiling : 16777216 < n → Refused Ceiling ≡ inputVerdict f t ix c room
+    unfolding inputVerdict gate lengthAllowed passes
     judged-ceiling h = rw (← p, q, lt-leb (fileLength f ix) 16777216 (omega arith))
 
-    pub judged-room : n ≤ 16777216 → room < n → Refused Room ≡ judgedInput f t ix c room
-    unfolding judgedInput gate lengthAllowed fitsIn passes
+    pub judged-room : n ≤ 16777216 → room < n → Refused Room ≡ inputVerdict f t ix c room
+    unfolding inputVerdict gate lengthAllowed fitsIn passes
     judged-room h k = rw (← p, q, le-leb (fileLength f ix) 16777216 (omega arith), lt-leb (fileLength f ix) room (omega arith))
 
-    pub judged-done : n ≤ 16777216 → n ≤ room → Accepted ≡ judgedInput f t ix c room
-    unfolding judgedInput gate lengthAllowed fitsIn passes
+    pub judged-done : n ≤ 16777216 → n ≤ room → Accepted ≡ inputVerdict f t ix c room
+    unfolding inputVerdict gate lengthAllowed fitsIn passes
     judged-done h k = rw (← p, q, le-leb (fileLength f ix) 16777216 (omega arith), le-leb (fileLength f ix) room (omega arith))
 
-pub judged-front : (f : List ℕ) (t : ℕ) (ix c : List ℕ) (room : ℕ) (v : Verdict) (r : Refusal) → v ≡ checkFront f → v ≡ Refused r → Refused r ≡ judged f t ix c room
-unfolding judged unlessRefused
+pub judged-front : (f : List ℕ) (t : ℕ) (ix c : List ℕ) (room : ℕ) (v : Verdict) (r : Refusal) → v ≡ checkFront f → v ≡ Refused r → Refused r ≡ layDownVerdict f t ix c room
+unfolding layDownVerdict unlessRefused
 judged-front f t ix c room v r p e = rw (← p, e)
 
 pub judged-behind :
-    (f : List ℕ) (t : ℕ) (ix c : List ℕ) (room : ℕ) (v w : Verdict) → v ≡ checkFront f → v ≡ Accepted → w ≡ judgedInput f t ix c room →
-    w ≡ judged f t ix c room
-unfolding judged unlessRefused
+    (f : List ℕ) (t : ℕ) (ix c : List ℕ) (room : ℕ) (v w : Verdict) → v ≡ checkFront f → v ≡ Accepted → w ≡ inputVerdict f t ix c room →
+    w ≡ layDownVerdict f t ix c room
+unfolding layDownVerdict unlessRefused
 judged-behind f t ix c room v w p e q = rw (← p, e) q
 
 -- what a lay-down that is not refused was given
@@ -99,8 +99,8 @@ pub record Passed (f : List ℕ) (t : ℕ) (ix c : List ℕ) (room : ℕ) : Type
   pub start : directoryStart f ix ≡ length f + length ix * plainTileLength f
   pub long : fileLength f ix ≡ directoryStart f ix + recordLength (24 + 4 * tileCount f)
 
-pub passed-of : (f : List ℕ) (t : ℕ) (ix c : List ℕ) (room : ℕ) → judged f t ix c room ≡ Accepted → Passed f t ix c room
-unfolding judged judgedInput lengthAllowed fitsIn fileLength directoryStart
+pub passed-of : (f : List ℕ) (t : ℕ) (ix c : List ℕ) (room : ℕ) → layDownVerdict f t ix c room ≡ Accepted → Passed f t ix c room
+unfolding layDownVerdict inputVerdict lengthAllowed fitsIn fileLength directoryStart
 passed-of f t ix c room e =
     let a = behind-passed _ _ e in
     let b = gate-passed _ _ _ (a .1) in

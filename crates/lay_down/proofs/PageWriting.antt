@@ -16,7 +16,7 @@ use Rattle.geometry.specs.Tiles.{tileCount}
 use Rattle.geometry.specs.Sizes.{tileBytes, plainTileLength}
 use Rattle.lay_down.specs.Pieces.{recordLength}
 use Rattle.lay_down.specs.Page.{tileRecords, directoryRecord, directoryStart, fileLength, laidFront, laidFile}
-use Rattle.lay_down.specs.Answer.{judged, laid, laidOut}
+use Rattle.lay_down.specs.Answer.{layDownVerdict, laid, laidOut}
 use Rattle.lay_down.proofs.PageLaws.{tiles-length, directory-length, front-length, laid-length}
 use Rattle.lay_down.proofs.FrontLaws.{Front, front-of}
 use Rattle.lay_down.proofs.JudgeLaws.{passed-of}
@@ -37,7 +37,7 @@ page-put d a b l t at f ix c p q r e front h k =
     w3 .is ∙ ap (λ (z : ℕ). put d 0 (laidFront f t (z + 8) ++ x ++ directoryRecord f ix)) e
 
 -- what a lay-down answers, and what the buffer holds
-module _ (f : List ℕ) (t : ℕ) (ix c d : List ℕ) (v : Verdict) (p : v ≡ judged f t ix c (length d)) where
+module _ (f : List ℕ) (t : ℕ) (ix c d : List ℕ) (v : Verdict) (p : v ≡ layDownVerdict f t ix c (length d)) where
   pub laid-refused : (r : Refusal) → v ≡ verdict.Refused r → (Refused r ≡ laid f t ix c (length d)) × (d ≡ laidOut f t ix c d)
   unfolding laid laidOut unlessRefused
   laid-refused r e = (rw (← p, e), rw (← p, e))

@@ -51,7 +51,7 @@ module _
         omega (arith, w .place, sum-each (elementCount f) (λ i. storedSize (elementBytes f i)) e element-among)
 
     pub standing-given : from + u ≤ 1048576
-    standing-given = omega (arith, w .given, element-within f (front .all) e element-among, front .tile)
+    standing-given = omega (arith, w .given, element-within f (front .all) e element-among, front .tile-size)
 
     pub standing-more :
         (r : ℕ) (y m : List ℕ) → m ≡ put l p (section y) → y ≡ part c from u → r ≡ storedSize u → length c ≡ tileBytes f →

@@ -33,16 +33,16 @@ unfoldable pub fitsIn : List ℕ → List ℕ → ℕ → Bool
 fitsIn f ix room = passes ((fileLength f ix ≤? room) ∷ [])
 
 -- 12; then 4 if the file would pass its ceiling; then 13 exactly if the buffer is shorter than the file
-unfoldable pub judgedInput : List ℕ → ℕ → List ℕ → List ℕ → ℕ → Verdict
-judgedInput f t ix c room = gate (inputRight f t ix c) Input (gate (lengthAllowed f ix) Ceiling (gate (fitsIn f ix room) Room verdict.Accepted))
+unfoldable pub inputVerdict : List ℕ → ℕ → List ℕ → List ℕ → ℕ → Verdict
+inputVerdict f t ix c room = gate (inputRight f t ix c) Input (gate (lengthAllowed f ix) Ceiling (gate (fitsIn f ix room) Room verdict.Accepted))
 
 -- before that, the front passes stages 1 to 4 taken by itself
-unfoldable pub judged : List ℕ → ℕ → List ℕ → List ℕ → ℕ → Verdict
-judged f t ix c room = unlessRefused verdict.Refused (checkFront f) (judgedInput f t ix c room)
+unfoldable pub layDownVerdict : List ℕ → ℕ → List ℕ → List ℕ → ℕ → Verdict
+layDownVerdict f t ix c room = unlessRefused verdict.Refused (checkFront f) (inputVerdict f t ix c room)
 
 -- the answer is the file's length, or the refusal
 unfoldable pub laid : List ℕ → ℕ → List ℕ → List ℕ → ℕ → Laid
-laid f t ix c room = unlessRefused Refused (judged f t ix c room) (Length (fileLength f ix))
+laid f t ix c room = unlessRefused Refused (layDownVerdict f t ix c room) (Length (fileLength f ix))
 
 -- done, the buffer is the file, and bytes behind it stay; refused, it is as it was
 abbrev pub written : Laid → List ℕ → List ℕ → List ℕ

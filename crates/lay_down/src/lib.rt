@@ -26,7 +26,7 @@ ghost use Rattle.check_header.specs.Stages.{checkFront};
 ghost use Rattle.answer.specs.declared.Verdict.the-variants.{Accepted};
 ghost use Rattle.lay_down.specs.Pieces.{recordLength};
 ghost use Rattle.lay_down.specs.Page.{sections, tileRecord, tileRecords, references, directoryRecord, laidFront, laidFile};
-ghost use Rattle.lay_down.specs.Answer.{ascending, inputRight, judgedInput, judged, laid, laidOut};
+ghost use Rattle.lay_down.specs.Answer.{ascending, inputRight, inputVerdict, layDownVerdict, laid, laidOut};
 ghost use Rattle.lay_down.specs.Ready.{SizesOf, TileReady, TilesReady, IndexesReady};
 
 // Whether the indexes are strictly ascending, each below n.
@@ -124,9 +124,9 @@ fn file_length(front: &[u8], k: usize) -> usize
 }
 
 // What is judged behind the front: 12, then 4, then 13.
-fn judge_input(front: &[u8], time: u64, indexes: &[u32], cells: &[u8], room: usize) -> Verdict
+fn input_verdict(front: &[u8], time: u64, indexes: &[u32], cells: &[u8], room: usize) -> Verdict
     requires { ⌜ checkFront (now front) ≡ Accepted ⌝ }
-    ensures { λ r. ⌜ r ≡ judgedInput (now (front .entry)) time (now (indexes .entry)) (now (cells .entry)) room ⌝ }
+    ensures { λ r. ⌜ r ≡ inputVerdict (now (front .entry)) time (now (indexes .entry)) (now (cells .entry)) room ⌝ }
 {
     if input_right(front, time, indexes, cells) {
         let n = file_length(front, indexes.len());
@@ -142,12 +142,12 @@ fn judge_input(front: &[u8], time: u64, indexes: &[u32], cells: &[u8], room: usi
 }
 
 // Whether a lay-down is refused, into a buffer of so many bytes.
-fn judge(front: &[u8], time: u64, indexes: &[u32], cells: &[u8], room: usize) -> Verdict
-    ensures { λ r. ⌜ r ≡ judged (now (front .entry)) time (now (indexes .entry)) (now (cells .entry)) room ⌝ }
+fn lay_down_verdict(front: &[u8], time: u64, indexes: &[u32], cells: &[u8], room: usize) -> Verdict
+    ensures { λ r. ⌜ r ≡ layDownVerdict (now (front .entry)) time (now (indexes .entry)) (now (cells .entry)) room ⌝ }
 {
     match stages::check_front(front) {
         Verdict::Refused(r) => Verdict::Refused(r),
-        Verdict::Accepted => judge_input(front, time, indexes, cells, room),
+        Verdict::Accepted => input_verdict(front, time, indexes, cells, room),
     }
 }
 
@@ -262,7 +262,7 @@ fn put_directory(out: &mut [u8], at: usize, n: usize, front: &[u8], indexes: &[u
 
 // The whole file.
 fn put_page(front: &[u8], time: u64, indexes: &[u32], cells: &[u8], file: &mut [u8])
-    requires { ⌜ judged (now front) time (now indexes) (now cells) (length (now file)) ≡ Accepted ⌝ }
+    requires { ⌜ layDownVerdict (now front) time (now indexes) (now cells) (length (now file)) ≡ Accepted ⌝ }
     ensures { λ _. ⌜ now (file .exit) ≡ put (now (file .entry)) 0 (laidFile (now (front .entry)) time (now (indexes .entry)) (now (cells .entry))) ⌝ }
 {
     let mut sizes = [0u32; 16];
@@ -281,7 +281,7 @@ pub fn lay_down(front: &[u8], time: u64, indexes: &[u32], cells: &[u8], file: &m
     ensures buffer { λ _. ⌜ now (file .exit) ≡ laidOut (now (front .entry)) time (now (indexes .entry)) (now (cells .entry)) (now (file .entry)) ⌝ }
 {
     let room = file.len();
-    match judge(front, time, indexes, cells, room) {
+    match lay_down_verdict(front, time, indexes, cells, room) {
         Verdict::Refused(r) => Laid::Refused(r),
         Verdict::Accepted => {
             put_page(front, time, indexes, cells, file);

@@ -51,7 +51,7 @@ pub fn put_head(out: &mut [u8], at: usize, n: u32, kind: u8)
 }
 
 // The checksum of the n bytes from a position on, as the flag says.
-pub fn checksum_for(flag: u32, s: &[u8], at: usize, n: usize) -> u32
+fn checksum_for(flag: u32, s: &[u8], at: usize, n: usize) -> u32
     ensures { λ r. ⌜ r ≡ checksumFor flag (part (now (s .entry)) at n) ⌝ }
 {
     if flag == 1 {

@@ -11,10 +11,10 @@ use Rattle.answer.specs.declared.Verdict.the-variants.{Accepted}
 use Rattle.geometry.specs.Tiles.{tileCount}
 use Rattle.record.specs.Record.{contentAt}
 use Rattle.record.specs.Chain.{records, recordsOf}
-use Rattle.check_records.specs.TileBody.{tileIndex}
+use Rattle.bodies.specs.TileRecord.{tileIndex}
 use Rattle.wire.specs.Lists.{some, countBelow}
-use Rattle.directory.specs.TileDirectory.{tileReference}
-use Rattle.directory.specs.Correspondence.{OneToOne}
+use Rattle.bodies.specs.TileDirectory.{tileReference}
+use Rattle.check_directory.specs.Correspondence.{OneToOne}
 use Rattle.wire.proofs.ListLaws.{some-member, member-some, member-every}
 use Rattle.record.proofs.FindLaws.{records-behind, of-type, type-of}
 use Rattle.wire.proofs.CountLaws.{count-one, count-same, count-named}

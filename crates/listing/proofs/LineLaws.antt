@@ -12,7 +12,7 @@ use Rattle.answer.specs.declared.Verdict.the-variants.{Accepted}
 use Rattle.geometry.specs.Tiles.{tileCount}
 use Rattle.wire.specs.Lists.{some}
 use Rattle.record.specs.Chain.{records}
-use Rattle.directory.specs.TileDirectory.{tileReference}
+use Rattle.bodies.specs.TileDirectory.{tileReference}
 use Rattle.page_check.specs.Stages.{check}
 use Rattle.cells.specs.Routes.{carries}
 use Rattle.listing.specs.Text.{decimal, newline, elementsWord, line}

@@ -10,7 +10,7 @@ use Rattle.answer.specs.declared.Verdict.{Verdict}
 use Rattle.record.specs.Record.{recordOk}
 use Rattle.record.specs.Chain.{starts, startsGo, headerEnd, records, recordsOf}
 use Rattle.geometry.specs.Tiles.{tileCount, tilesAlong, tilesIn}
-use Rattle.check_records.specs.TileBody.{tileIndex}
+use Rattle.bodies.specs.TileRecord.{tileIndex}
 use Rattle.wire.specs.Lists.{select, some}
 use Rattle.cells.specs.Routes.{carries}
 use Rattle.sample_page.specs.Page.{file}

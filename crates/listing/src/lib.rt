@@ -2,7 +2,7 @@
 pub mod numbers;
 
 use answer::Verdict;
-use directory::tile_directory;
+use bodies::tile_directory;
 use geometry::tiles;
 use header::fields;
 use record::chain;

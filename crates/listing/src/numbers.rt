@@ -6,7 +6,7 @@ ghost use Rattle.wire.specs.Bytes.{put};
 ghost use Rattle.listing.specs.Text.{decimal};
 
 // How many digits a number has.
-pub fn decimal_length(n: u64) -> usize
+fn decimal_length(n: u64) -> usize
     ensures is { λ r. ⌜ r ≡ length (decimal n) ⌝ }
     ensures few { λ r. ⌜ r ≤ 20 ⌝ }
 {

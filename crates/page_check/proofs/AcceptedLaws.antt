@@ -20,6 +20,8 @@ use Rattle.check_header.specs.Identification.{identified, versionRight}
 use Rattle.check_header.specs.HeaderRecord.{frameRight, headerRight}
 use Rattle.check_header.specs.Ceilings.{withinCeilings}
 use Rattle.check_header.specs.Stages.{closed, firstTwo, nextTwo, stages, checkHeader}
+use Rattle.check_header.specs.Passed.{Headed}
+use Rattle.check_header.proofs.PassedLaws.{range-of, stages-passed}
 use Rattle.check_records.specs.declared.Rule.the-variants as rule
 use Rattle.check_records.specs.Checksum.{checksumRight}
 use Rattle.check_records.specs.Faults.{bodyRight, rightOf, checksumFault, bodyFault, firstWrong}
@@ -34,31 +36,13 @@ unless-passed (At x) r v e = refused-not e
 
 -- stages 1 to 5
 
-pub record Headed (s : List ℕ) : Type 0 where
-  pub block : identified s (length s) ≡ true
-  pub version : versionRight s ≡ true
-  pub header : headerRight s (length s) ≡ true
-  pub ceilings : withinCeilings s (length s) ≡ true
-  pub not-opened : closed s ≡ true
+pub headed-if : (s : List ℕ) → checkHeader s (length s) ≡ Accepted → Headed s (length s) × (closed s ≡ true)
+unfolding checkHeader
+headed-if s e = let a = stages-passed s (length s) _ _ e (λ h. h) in (a .0, gate-passed _ _ _ (a .1 .1) .0)
 
-pub headed-if : (s : List ℕ) → checkHeader s (length s) ≡ Accepted → Headed s
-unfolding checkHeader stages firstTwo nextTwo
-headed-if s e =
-    let a = gate-passed _ _ _ e in
-    let b = gate-passed _ _ _ (a .1) in
-    let c = gate-passed _ _ _ (b .1) in
-    let d = gate-passed _ _ _ (c .1) in
-    let f = gate-passed _ _ _ (d .1) in
-    record { block = a .0; version = b .0; header = c .0; ceilings = d .0; not-opened = f .0 }
-
-if-headed : (s : List ℕ) → Headed s → checkHeader s (length s) ≡ Accepted
+if-headed : (s : List ℕ) → Headed s (length s) → closed s ≡ true → checkHeader s (length s) ≡ Accepted
 unfolding checkHeader stages firstTwo nextTwo gate
-if-headed s h = rw (h .block, h .version, h .header, h .ceilings, h .not-opened)
-
--- a header that stage 3 passes ends inside the file
-header-inside : (s : List ℕ) → headerRight s (length s) ≡ true → headerEnd s ≤ length s
-unfolding headerRight frameRight
-header-inside s e = means _ (means _ e .0) .1 .0
+if-headed s h c = rw (h .block, h .version, h .header, h .ceilings, c)
 
 -- what Accepted gives
 pub accepted-obeys : (s : List ℕ) → check s ≡ Accepted → Obeys s
@@ -71,12 +55,9 @@ accepted-obeys s e =
     let f = gate-passed _ _ _ (d .1) in
     let h = headed-if s (a .0) in
     record {
-      block = h .block;
-      version = h .version;
-      header = h .header;
-      ceilings = h .ceilings;
-      not-opened = h .not-opened;
-      chain = chain-whole s (header-inside s (h .header)) (b .0);
+      headed = h .0;
+      not-opened = h .1;
+      chain = chain-whole s (range-of s (length s) (h .0) .header-inside) (b .0);
       header-checksum = none-breaks (checksumRight s) (16 ∷ records s) (c .0) (List·Memᴰ·head refl);
       checksums = λ m. none-breaks (checksumRight s) (16 ∷ records s) (c .0) (List·Memᴰ·tail m);
       bodies = λ m. none-breaks (bodyRight s) (records s) (d .0) m;
@@ -103,7 +84,7 @@ module _ (s : List ℕ) (xs : List ℕ) (o : ObeysBy s xs) where
   pub obeys-accepted : check s ≡ Accepted
   unfolding check checkFromRecords checkRecords checkDirectories unlessRefused unless gate
   obeys-accepted =
-      let h = if-headed s (record { block = o .block; version = o .version; header = o .header; ceilings = o .ceilings; not-opened = o .not-opened }) in
+      let h = if-headed s (o .headed) (o .not-opened) in
       rw (h, whole-chain s xs (o .chain), no-checksum-fault, no-body-fault, o .directories)
 
 pub accepted-exactly : AcceptedExactly

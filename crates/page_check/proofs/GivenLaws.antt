@@ -15,56 +15,30 @@ use Rattle.record.specs.Chain.{recordsOf}
 use Rattle.check_records.specs.TileBody.{tileRight}
 use Rattle.check_records.specs.MetadataBody.{metadataRight}
 use Rattle.check_records.specs.Faults.{bodyRight}
-use Rattle.directory.specs.TileDirectory.{tileDirectoryRight}
-use Rattle.directory.specs.Correspondence.{OneToOne}
+use Rattle.check_directory.specs.TileRules.{tileDirectoryRight}
+use Rattle.check_directory.specs.Correspondence.{OneToOne}
 use Rattle.record.proofs.FindLaws.{of-type}
-use Rattle.directory.proofs.CorrespondLaws.{one-to-one}
-use Rattle.listed_records.specs.Stage.{directoriesRight}
-use Rattle.listed_records.specs.FileSpace.{fileSpaceRight}
-use Rattle.listed_records.specs.Metadata.{metadataDirectoryRight}
-use Rattle.listed_records.specs.Rearranged.{FreeRearranged, MetadataRearranged}
-use Rattle.listed_records.proofs.RearrangedLaws.{free-rearranged, metadata-rearranged}
+use Rattle.check_directory.proofs.CorrespondLaws.{one-to-one}
+use Rattle.check_lists.specs.Stage.{directoriesRight}
+use Rattle.check_lists.specs.FileSpace.{fileSpaceRight}
+use Rattle.check_lists.specs.Metadata.{metadataDirectoryRight}
+use Rattle.check_lists.specs.Rearranged.{FreeRearranged, MetadataRearranged}
+use Rattle.check_lists.proofs.RearrangedLaws.{free-rearranged, metadata-rearranged}
 use Rattle.answer.specs.declared.Verdict.the-variants.{Accepted}
 use Rattle.answer.proofs.VerdictLaws.{behind-passed}
 use Rattle.page_check.specs.Stages.{checkToBodies}
-use Rattle.page_check.specs.Accepted.{ObeysBy, Obeys, InRange}
+use Rattle.page_check.specs.Accepted.{ObeysBy, Obeys}
+use Rattle.check_header.specs.Passed.{InRange}
+use Rattle.check_header.proofs.PassedLaws.{range-of}
 use Rattle.page_check.proofs.AcceptedLaws.{headed-if}
 
--- the entries that are read are all of them, where there are at most 16
-pub read-all : (s : List ℕ) → elementCount s ≤ 16 → entriesRead s ≡ elementCount s
-unfolding entriesRead
-read-all s h = omega arith
-
-pub range-of : (s : List ℕ) → headerRight s (length s) ≡ true → withinCeilings s (length s) ≡ true → InRange s
-unfolding headerRight sidesRight positive optionsRight elementsRight elementRight withinCeilings sidesWithin
-range-of s f g =
-    let h = means _ f in
-    let a = means _ (h .1 .0) in
-    let b = means _ (h .1 .1 .0) in
-    let e = means _ (h .1 .1 .1 .0) in
-    let c = means _ g in
-    let w = means _ (c .1 .0) in
-    let n : elementCount s ≤ 16 = c .1 .1 .1 .0 in
-    record {
-      file = c .0;
-      rows = (means _ (a .0) .0, w .0);
-      columns = (means _ (a .1 .0) .0, w .1 .0);
-      tile-rows = (means _ (a .1 .1 .0) .0, w .1 .1 .0);
-      tile-columns = (means _ (a .1 .1 .1 .0) .0, w .1 .1 .1 .0);
-      tiles = c .1 .1 .0;
-      elements = (means _ (e .0) .0, n);
-      tile-size = c .1 .1 .1 .1 .0;
-      checksum-flag = b .0;
-      kinds = λ i k. means _ (below-each (entriesRead s) _ (e .1 .1 .0) i (omega (arith, read-all s n))) .0;
-    }
-
-pub obeys-range : (s xs : List ℕ) → ObeysBy s xs → InRange s
-obeys-range s xs o = range-of s (o .header) (o .ceilings)
+pub obeys-range : (s xs : List ℕ) → ObeysBy s xs → InRange s (length s)
+obeys-range s xs o = range-of s (length s) (o .headed)
 
 -- the same where stages 1 to 8 pass
-pub bodies-range : (s : List ℕ) → checkToBodies s ≡ Accepted → InRange s
+pub bodies-range : (s : List ℕ) → checkToBodies s ≡ Accepted → InRange s (length s)
 unfolding checkToBodies
-bodies-range s e = let h = headed-if s (behind-passed _ _ e .0) in range-of s (h .header) (h .ceilings)
+bodies-range s e = range-of s (length s) (headed-if s (behind-passed _ _ e .0) .0)
 
 -- bodies
 

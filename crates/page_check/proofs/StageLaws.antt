@@ -13,7 +13,7 @@ use Rattle.record.specs.declared.Found.{Found}
 use Rattle.record.specs.declared.Found.the-variants.{At, Nothing}
 use Rattle.check_header.specs.Stages.{checkHeader}
 use Rattle.check_records.specs.Faults.{chainFault, checksumFault, bodyFault}
-use Rattle.listed_records.specs.Stage.{directoriesRight}
+use Rattle.check_lists.specs.Stage.{directoriesRight}
 use Rattle.page_check.specs.Stages.{unless, checkRecords, checkToBodies, checkDirectories, checkFromRecords, check}
 
 module _ (s : List ℕ) (v : Verdict) (f : Found) (p : f ≡ chainFault s) where

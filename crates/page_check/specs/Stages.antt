@@ -11,7 +11,7 @@ use Rattle.record.specs.declared.Found.{Found}
 use Rattle.record.specs.declared.Found.the-variants.{At, Nothing}
 use Rattle.check_header.specs.Stages.{checkHeader}
 use Rattle.check_records.specs.Faults.{chainFault, checksumFault, bodyFault}
-use Rattle.listed_records.specs.Stage.{directoriesRight}
+use Rattle.check_lists.specs.Stage.{directoriesRight}
 
 -- the refusal at the place of a fault, and what comes behind the stage where there is none
 unfoldable pub unless : Found → (ℕ → Refusal) → Verdict → Verdict

@@ -2,8 +2,8 @@
 use answer::Refusal;
 use answer::Verdict;
 use check_header::stages;
+use check_lists::stage;
 use check_records::faults;
-use listed_records::stage;
 use record::Found;
 ghost use mathlib.Core.Path.{_≡_};
 ghost use Rattle.answer.specs.declared.Verdict.the-variants.{Accepted};

@@ -39,18 +39,18 @@ record-checksum {s} {x} flag kind body p f w z k h =
 module _ {f : List ℕ} {t : ℕ} {ix c : List ℕ} (l : Laying f t ix c) where
   header-typed : typeAt f 16 ≡ 6
   unfolding headerRight frameRight
-  header-typed = means _ (means _ (l .rules .header) .0) .1 .1 .0
+  header-typed = means _ (means _ (l .headed .header) .0) .1 .1 .0
 
   header-stated : lengthAt f 16 ≡ length f - 16
   unfolding headerEnd
-  header-stated = let e = l .rules .no-more in omega arith
+  header-stated = let e = l .no-more in omega arith
 
   pub header-checksum : checksumRight (laidFile f t ix c) 16 ≡ true
   unfolding checksumFor
   header-checksum =
       let s = laidFile f t ix c in
       let j = front-judged l in
-      let k = l .front .least in
+      let k : 288 ≤ length f = omega (arith, l .front .header-least, l .front .header-inside) in
       let d = contentAt (directoryStart f ix) in
       let g = fieldsSet f t d in
       let u = part g 16 (length f - 16 - 4) in

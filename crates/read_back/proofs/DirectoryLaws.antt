@@ -15,13 +15,14 @@ use Rattle.geometry.specs.Tiles.{tilesAlong, tilesAcross, tilesDown, tileCount}
 use Rattle.geometry.specs.Sizes.{leastLength, plainTileLength}
 use Rattle.geometry.proofs.TileLaws.{along-small, count-is}
 use Rattle.record.specs.Chain.{recordsOf}
-use Rattle.directory.specs.TileDirectory.{tileDirectoryAt, directoryFormat, standardReferences, firstRow, firstColumn, listedRows, listedColumns, formRight, spanRight, rectangleRight, referenceCount, referenceSize, referenceAt, referencesEnd, tileReference, tilesListed, tilesOnly, tileDirectoryRight}
-use Rattle.directory.specs.Correspondence.{TileRecord}
-use Rattle.directory.proofs.MemberLaws.{one-of-type}
-use Rattle.directory.proofs.OnlyLaws.{grid-reference}
-use Rattle.directory.proofs.CorrespondLaws.{if-listed, if-only}
-use Rattle.listed_records.specs.Stage.{directoriesRight}
-use Rattle.listed_records.proofs.EmptyLaws.{metadata-empty, space-empty}
+use Rattle.check_directory.specs.TileRules.{formRight, spanRight, rectangleRight, tilesListed, tilesOnly, tileDirectoryRight}
+use Rattle.bodies.specs.TileDirectory.{tileDirectoryAt, directoryFormat, standardReferences, firstRow, firstColumn, listedRows, listedColumns, referenceCount, referenceSize, referenceAt, referencesEnd, tileReference}
+use Rattle.check_directory.specs.Correspondence.{TileRecord}
+use Rattle.check_directory.proofs.MemberLaws.{one-of-type}
+use Rattle.check_directory.proofs.OnlyLaws.{grid-reference}
+use Rattle.check_directory.proofs.CorrespondLaws.{if-listed, if-only}
+use Rattle.check_lists.specs.Stage.{directoriesRight}
+use Rattle.check_lists.proofs.EmptyLaws.{metadata-empty, space-empty}
 use Rattle.lay_down.specs.Pieces.{recordLength}
 use Rattle.lay_down.specs.Page.{compactFrom, directoryStart, fileLength, laidFile}
 use Rattle.lay_down.proofs.PieceLaws.{least-holds}
@@ -44,11 +45,11 @@ module _ {f : List ℕ} {t : ℕ} {ix c : List ℕ} (l : Laying f t ix c) where
 
   down-small : tilesDown f ≤ 65536
   unfolding tilesDown tilesAlong
-  down-small = let i = front-range l in omega (arith, along-small (gridRows f) (tileRows f) (λ z. omega (arith, i .tile-rows)), i .rows)
+  down-small = let i = front-range l in omega (arith, along-small (gridRows f) (tileRows f) (λ z. omega (arith, i .sides .tile-rows)), i .sides .rows)
 
   across-small : tilesAcross f ≤ 65536
   unfolding tilesAcross tilesAlong
-  across-small = let i = front-range l in omega (arith, along-small (gridColumns f) (tileColumns f) (λ z. omega (arith, i .tile-columns)), i .columns)
+  across-small = let i = front-range l in omega (arith, along-small (gridColumns f) (tileColumns f) (λ z. omega (arith, i .sides .tile-columns)), i .sides .columns)
 
   abbrev s : List ℕ
   s = laidFile f t ix c

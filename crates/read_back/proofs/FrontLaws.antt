@@ -3,6 +3,7 @@ use Prim.Native.Nat.{ℕ, _+_, _-_, _≤_, _<_}
 use mathlib.Core.Path.{_≡_, sym, _∙_}
 use mathlib.Core.List.{List}
 use mathlib.Core.Logic.{inl, inr}
+use mathlib.Core.Bool.{true}
 use native.Mathlib.Omega.{arith}
 use lib.ListN.{length}
 use Rattle.wire.specs.Bytes.{byteAt, Same}
@@ -16,7 +17,7 @@ use Rattle.check_header.specs.Stages.{closed}
 use Rattle.check_header.proofs.Judged as judged
 use Rattle.check_header.specs.Judged.{SameJudged}
 use Rattle.check_header.proofs.Judged.{end-same, identified-to, version-same, header-to, ceilings-to}
-use Rattle.page_check.proofs.AcceptedLaws.{Headed}
+use Rattle.check_header.specs.Passed.{Headed}
 use Rattle.lay_down.specs.Page.{directoryStart, fileLength, FieldsRead, NotSet, laidFront, laidFile}
 use Rattle.lay_down.proofs.PageLaws.{front-length, laid-length}
 use Rattle.lay_down.proofs.ChainLaws.{laid-joined}
@@ -34,7 +35,7 @@ module _ {f : List ℕ} {t : ℕ} {ix c : List ℕ} (l : Laying f t ix c) where
 
   untouched : (a b : ℕ) → b ≤ length f - 4 → ((i : ℕ) → a ≤ i → i < b → NotSet i) → Same f (laidFile f t ix c) a b
   untouched a b h o =
-      let k = l .front .least in
+      let k : 288 ≤ length f = omega (arith, l .front .header-least, l .front .header-inside) in
       same-trans (front-same f t (contentAt (directoryStart f ix)) (omega arith) a b h o) (begins a b (omega arith))
 
   pub byte-kept : (i : ℕ) → i < length f - 4 → NotSet i → byteAt (laidFile f t ix c) i ≡ byteAt f i
@@ -45,8 +46,8 @@ module _ {f : List ℕ} {t : ℕ} {ix c : List ℕ} (l : Laying f t ix c) where
   -- what stages 1 to 4 judge is as it was
   pub front-judged : SameJudged f (laidFile f t ix c)
   front-judged =
-      let k = l .front .least in
-      let e = l .rules .no-more in
+      let k : 288 ≤ length f = omega (arith, l .front .header-least, l .front .header-inside) in
+      let e = l .no-more in
       let n : length f ≤ length (laidFile f t ix c) = begins 0 (length f) (omega arith) .in-second in
       record {
         block = untouched 0 14 (omega arith) (λ i p q. inl (omega arith));
@@ -62,9 +63,9 @@ module _ {f : List ℕ} {t : ℕ} {ix c : List ℕ} (l : Laying f t ix c) where
   front-kept =
       let s = laidFile f t ix c in
       let j = front-judged in
-      let g = judged.header-fit f s j (length f) (l .rules .header) in
+      let g = judged.header-fit f s j (length f) (l .headed .header) in
       record {
-        ends = sym (end-same (j .frame)) ∙ l .rules .no-more;
+        ends = sym (end-same (j .frame)) ∙ l .no-more;
         rows = sym (judged.rows f s j);
         columns = sym (judged.columns f s j);
         tile-rows = sym (judged.tile-rows f s j);
@@ -78,22 +79,23 @@ module _ {f : List ℕ} {t : ℕ} {ix c : List ℕ} (l : Laying f t ix c) where
   pub fields-laid : FieldsRead (laidFile f t ix c) t (contentAt (directoryStart f ix))
   unfolding fileLength
   fields-laid =
-      let k = l .front .least in
+      let k : 288 ≤ length f = omega (arith, l .front .header-least, l .front .header-inside) in
       let h = l .file in
       read-same (begins 40 88 (omega arith)) (front-read f t (contentAt (directoryStart f ix)) (omega arith) (omega arith))
 
   -- stages 1 to 5 pass
-  pub front-headed : Headed (laidFile f t ix c)
+  pub front-headed : Headed (laidFile f t ix c) (length (laidFile f t ix c)) × (closed (laidFile f t ix c) ≡ true)
   unfolding closed
   front-headed =
       let s = laidFile f t ix c in
       let j = front-judged in
-      let e = l .rules .no-more in
-      let n = j .in-second in
-      record {
-        block = identified-to (j .block) (length f) (length s) (l .rules .block) (omega arith);
-        version = sym (version-same (j .block)) ∙ l .rules .version;
-        header = header-to f s j (length f) (length s) (l .rules .header) n;
-        ceilings = ceilings-to f s j (length f) (length s) (l .rules .header) (l .rules .ceilings) (omega (arith, length-laid, l .file));
-        not-opened = sym (yes _ (fields-laid .opened, tt));
-      }
+      let e = l .no-more in
+      let n = j .in-second in (
+        record {
+          block = identified-to (j .block) (length f) (length s) (l .headed .block) (omega arith);
+          version = sym (version-same (j .block)) ∙ l .headed .version;
+          header = header-to f s j (length f) (length s) (l .headed .header) n;
+          ceilings = ceilings-to f s j (length f) (length s) (l .headed .header) (l .headed .ceilings) (omega (arith, length-laid, l .file));
+        },
+        sym (yes _ (fields-laid .opened, tt)),
+      )

@@ -52,11 +52,8 @@ module _ {f : List ℕ} {t : ℕ} {ix c : List ℕ} (l : Laying f t ix c) where
       let s = laidFile f t ix c in
       let h = front-headed l in
       record {
-        block = h .block;
-        version = h .version;
-        header = h .header;
-        ceilings = h .ceilings;
-        not-opened = h .not-opened;
+        headed = h .0;
+        not-opened = h .1;
         chain = rw (front-kept l .ends) (chain-laid l);
         header-checksum = header-checksum l;
         checksums =

@@ -20,9 +20,9 @@ use Rattle.header.specs.Element.{cellSize, element}
 use Rattle.geometry.specs.Tiles.{cellTile, tileCount}
 use Rattle.geometry.specs.Sizes.{elementBytes, tileBytes, plainTileLength}
 use Rattle.geometry.proofs.GridLaws.{tile-less}
-use Rattle.check_records.specs.TileBody.{elementContentAt}
-use Rattle.directory.specs.TileDirectory.{tileReference}
-use Rattle.directory.specs.Correspondence.{OneToOne}
+use Rattle.bodies.specs.TileDirectory.{tileReference}
+use Rattle.bodies.specs.TileRecord.{elementContentAt}
+use Rattle.check_directory.specs.Correspondence.{OneToOne}
 use Rattle.page_check.proofs.GivenLaws.{obeys-one}
 use Rattle.cells.specs.Asked.{inGrid, inTiles}
 use Rattle.cells.specs.TileCells.{fillOf, offsetIn, placeIn, storedAt, cellIn, contentIn}
@@ -124,12 +124,12 @@ module _ {f : List ℕ} {t : ℕ} {ix c : List ℕ} (l : Laying f t ix c) where
     fill-read : ((k : ℕ) → ListedAs f ix k row column → ⊥) → meaning s row column e ≡ fillOf f e
     unfolding meaning cellBy
     fill-read none =
-        let n = tile-less f row column (front-range l .tile-rows .0) (front-range l .tile-columns .0) (asked .0) (asked .1 .0) in
+        let n = tile-less f row column (front-range l .sides .tile-rows .0) (front-range l .sides .tile-columns .0) (asked .0) (asked .1 .0) in
         let z = unlisted-none (cellTile f row column) n (λ k h g. none k (record { among = h; tile = g })) in
         rw (grid-kept (front-kept l) row column e, i, tile-kept (front-kept l) row column, z) (fill-kept (front-kept l) e (asked .1 .1))
 
     cell-inside : offsetIn f row column e + bytesOfCell f e ≤ elementBytes f e
-    cell-inside = offset-within f row column e (front-range l .tile-rows .0) (front-range l .tile-columns .0)
+    cell-inside = offset-within f row column e (front-range l .sides .tile-rows .0) (front-range l .sides .tile-columns .0)
 
     module _ (k : ℕ) (q : ListedAs f ix k row column) where
       cell-given : cellGiven f k row column e + bytesOfCell f e ≤ length c

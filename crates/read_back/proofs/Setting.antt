@@ -18,17 +18,18 @@ use Rattle.geometry.specs.Tiles.{tilesAcross, tilesDown, tileCount, cellTile, c
 use Rattle.geometry.specs.Sizes.{tileBytes, elementBytes}
 use Rattle.check_header.specs.HeaderRecord.{lengthRight}
 use Rattle.check_header.proofs.Judged.{header-lawful}
-use Rattle.page_check.specs.Accepted.{InRange}
-use Rattle.page_check.proofs.GivenLaws.{range-of}
+use Rattle.check_header.proofs.PassedLaws.{range-of}
+use Rattle.check_header.specs.Passed.{InRange, Headed}
 use Rattle.cells.specs.Asked.{inGrid, inTiles}
 use Rattle.cells.specs.TileCells.{fillOf, offsetIn}
 use Rattle.lay_down.specs.Answer.{ascending, laid}
 use Rattle.lay_down.specs.Page.{fileLength}
-use Rattle.lay_down.proofs.FrontLaws.{FrontRules, rules-of, Front, front-of}
+use Rattle.lay_down.proofs.FrontLaws.{Front, front-of, front-passed}
 use Rattle.lay_down.proofs.JudgeLaws.{passed-of}
 
 pub record Laying (f : List ℕ) (t : ℕ) (ix c : List ℕ) : Type 0 where
-  pub rules : FrontRules f
+  pub headed : Headed f (length f)
+  pub no-more : headerEnd f ≡ length f
   pub front : Front f
   pub indexes : ascending (tileCount f) 0 ix ≡ true
   pub cells : length c ≡ length ix * tileBytes f
@@ -46,18 +47,18 @@ unfolding laid
 laying-of f t ix c room n b d e =
     let a = lengths-are _ _ _ e in
     let p = passed-of f t ix c room (a .0) in (
-      record { rules = rules-of f (p .front); front = front-of f (p .front); indexes = p .indexes; cells = p .cells; file = p .ceiling; front-bytes = b; cell-bytes = d },
+      record { headed = front-passed f (p .front) .0; no-more = front-passed f (p .front) .1; front = front-of f (p .front); indexes = p .indexes; cells = p .cells; file = p .ceiling; front-bytes = b; cell-bytes = d },
       a .1,
     )
 
 -- what its rules give besides
 module _ {f : List ℕ} {t : ℕ} {ix c : List ℕ} (l : Laying f t ix c) where
-  pub front-range : InRange f
-  front-range = range-of f (l .rules .header) (l .rules .ceilings)
+  pub front-range : InRange f (length f)
+  front-range = l .front
 
   pub front-eights : length f % 8 ≡ 0
   unfolding lengthRight headerEnd
-  front-eights = let h = means _ (header-lawful f (length f) (l .rules .header)) .0 in omega (arith, h, l .rules .no-more)
+  front-eights = let h = means _ (header-lawful f (length f) (l .headed .header)) .0 in omega (arith, h, l .no-more)
 
 -- the file s has the fields of the front f that are judged and read
 pub record Kept (f s : List ℕ) : Type 0 where

@@ -17,14 +17,15 @@ use Rattle.header.specs.Fields.{tileRows, tileColumns, checksumEnabled, element
 use Rattle.header.specs.Element.{cellSize, element}
 use Rattle.record.specs.Record.{lengthAt, typeAt, recordLimit}
 use Rattle.geometry.specs.Tiles.{tileCount}
-use Rattle.geometry.specs.Sizes.{uncompressed, storedSize, leastLength, elementBytes, judgeElement, tileBytes, plainTileLength}
-use Rattle.geometry.proofs.SizeLaws.{size-range, judge-whole}
+use Rattle.geometry.specs.Sizes.{uncompressed, storedSize, leastLength, elementBytes, elementPacking, tileBytes, plainTileLength}
+use Rattle.geometry.proofs.SizeLaws.{size-range, packing-whole}
 use Rattle.check_records.specs.Frame.{endRight}
-use Rattle.check_records.specs.TileBody.{tileIndex, sectionEnd, sectionAt, sectionLength, elementContentAt, sectionRight, tileEnd, indexRight, tileRight}
+use Rattle.check_records.specs.TileBody.{sectionRight, indexRight, tileRight}
+use Rattle.bodies.specs.TileRecord.{tileIndex, sectionEnd, sectionAt, sectionLength, elementContentAt, tileEnd}
 use Rattle.check_records.specs.Faults.{bodyRight}
 use Rattle.check_records.proofs.RecordLaws.{section-whole, body-tile}
-use Rattle.check_records.proofs.SectionLaws.{section-next}
-use Rattle.page_check.specs.Accepted.{InRange}
+use Rattle.bodies.proofs.SectionLaws.{section-next}
+use Rattle.check_header.specs.Passed.{InRange}
 use Rattle.cells.specs.TileCells.{packed}
 use Rattle.lay_down.specs.Pieces.{section}
 use Rattle.lay_down.specs.Page.{sections, tileRecord}
@@ -38,17 +39,17 @@ use Rattle.read_back.proofs.Setting.{Kept, tiles-kept, size-kept}
 abbrev bytesGiven : List ℕ → List ℕ → ℕ → List ℕ
 bytesGiven f cs e = part cs (sumBelow e (elementBytes f)) (elementBytes f e)
 
-element-some : {f : List ℕ} → InRange f → (e : ℕ) → 1 ≤ elementBytes f e
+element-some : {f : List ℕ} → InRange f (length f) → (e : ℕ) → 1 ≤ elementBytes f e
 unfolding elementBytes uncompressed
 element-some {f} r e =
-    let a : 1 * 1 ≤ tileRows f * tileColumns f = mul-le-mul (r .tile-rows .0) (r .tile-columns .0) in
+    let a : 1 * 1 ≤ tileRows f * tileColumns f = mul-le-mul (r .sides .tile-rows .0) (r .sides .tile-columns .0) in
     let b : 1 ≤ cellSize (element f e .kind) = omega (arith, size-range (element f e .kind)) in
     mul-le-mul a b
 
 -- the record of tile i with the cell bytes cs stands in s, which has the front's fields, from x on
 pub record TileHere (f s cs : List ℕ) (i x : ℕ) : Type 0 where
   pub kept : Kept f s
-  pub range : InRange f
+  pub range : InRange f (length f)
   pub front : Front f
   pub below : i < tileCount f
   pub long : length cs ≡ tileBytes f
@@ -98,7 +99,7 @@ module _ {f s cs : List ℕ} {i x : ℕ} (p : TileHere f s cs i x) where
   stated-here : (e : ℕ) → e < elementCount f → u32At s (x + 12 + storedBefore f e) ≡ elementBytes f e
   stated-here e h =
       let l = given-length e h in
-      section-states _ (section-here e h) (omega (arith, element-within f (p .front .all) e h, p .front .tile)) ∙ l
+      section-states _ (section-here e h) (omega (arith, element-within f (p .front .all) e h, p .front .tile-size)) ∙ l
 
   -- the sections end before the checksum
   limit-here : x + 12 + storedBefore f (elementCount f) ≤ recordLimit s x
@@ -145,12 +146,12 @@ module _ {f s cs : List ℕ} {i x : ℕ} (p : TileHere f s cs i x) where
       sym (yes _ (omega (arith, limit-here), (tile-long ∙ plain-is f (p .front .all) ∙ ap leastLength (sym d), tt)))
 
   each-right : (e : ℕ) → e < elementCount f → sectionRight s x e ≡ true
-  unfolding judgeElement sectionLength
+  unfolding elementPacking sectionLength
   each-right e h =
       let d = tile-states e h in
       let q = size-kept (p .kept) e h in
       let g = element-some (p .range) e in
-      sym (section-whole s x e _ _ _ refl refl refl (sym (judge-whole _ _ (λ z. omega arith) (d ∙ sym q))))
+      sym (section-whole s x e _ _ _ refl refl refl (sym (packing-whole _ _ (λ z. omega arith) (d ∙ sym q))))
 
   tile-right : tileRight s x ≡ true
   unfolding tileRight

@@ -33,7 +33,7 @@ pub enum Found {
 
 // Whether a record stands at a position: its length is a multiple of 8, at least 16, not negative, and ends inside the
 // file; its type is 0 to 5.
-pub fn record_ok(s: &[u8], at: usize) -> bool
+fn record_ok(s: &[u8], at: usize) -> bool
     ensures { λ r. ⌜ r ≡ recordOk (now (s .entry)) at ⌝ }
 {
     let n = wire::u32_at(s, at);

@@ -17,7 +17,7 @@ use Rattle.answer.proofs.VerdictLaws.{refusal-handed, answer-behind, same-behin
 use Rattle.header.specs.Fields.{tileDirectoryReference}
 use Rattle.record.specs.Chain.{headerEnd}
 use Rattle.geometry.specs.Tiles.{tileCount}
-use Rattle.directory.specs.TileDirectory.{tileDirectoryAt}
+use Rattle.bodies.specs.TileDirectory.{tileDirectoryAt}
 use Rattle.page_check.specs.Stages.{check}
 use Rattle.cells.specs.declared.Route.{Route}
 use Rattle.cells.specs.declared.Route.the-variants.{Directory, Walk}

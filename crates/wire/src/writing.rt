@@ -13,7 +13,7 @@ pub fn put_byte(out: &mut [u8], at: usize, v: u8)
 }
 
 // The two lowest bytes of a number, lowest first.
-pub fn put_u16(out: &mut [u8], at: usize, v: u32)
+fn put_u16(out: &mut [u8], at: usize, v: u32)
     ensures { λ _. ⌜ now (out .exit) ≡ put (now (out .entry)) at (bytesOf 2 v) ⌝ }
 {
     let n = out.len();

@@ -14,5 +14,5 @@ directory-start-spec =
     (tie.spec
     (λ c κs. search needs)
     (λ c. let w = front-of _ (c .before .before .pre .0) in omega (arith, records-small _ w (c .before .before .args .k) (c .before .before .pre .1), ap (λ (x : ℕ). c .before .before .args .k * x) (c .tile-length .ensures)))
-    (λ c. let w = front-of _ (c .before .before .pre .0) in omega (arith, w .most, records-small _ w (c .before .before .args .k) (c .before .before .pre .1), ap (λ (x : ℕ). c .before .before .args .k * x) (c .tile-length .ensures)))
+    (λ c. let w = front-of _ (c .before .before .pre .0) in omega (arith, w .file, records-small _ w (c .before .before .args .k) (c .before .before .pre .1), ap (λ (x : ℕ). c .before .before .args .k * x) (c .tile-length .ensures)))
     (λ c. ap (λ (x : ℕ). length (c .before .before .args .front .now) + c .before .before .args .k * x) (c .tile-length .ensures)))

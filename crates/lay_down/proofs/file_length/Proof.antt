@@ -11,5 +11,5 @@ file-length-spec =
     (tie.spec
     (λ c κs. search needs)
     (λ c κs. search needs)
-    (λ c. let w = front-of _ (c .before .before .before .pre .0) in omega (arith, w .most, records-small _ w (c .before .before .before .args .k) (c .before .before .before .pre .1), directory-small _ w, c .before .directory-start .ensures, c .directory-length .ensures))
+    (λ c. let w = front-of _ (c .before .before .before .pre .0) in omega (arith, w .file, records-small _ w (c .before .before .before .args .k) (c .before .before .before .pre .1), directory-small _ w, c .before .directory-start .ensures, c .directory-length .ensures))
     (λ c. search needs))

@@ -12,9 +12,9 @@ put-front-spec =
     tie.close
     (tie.spec
     (λ c κs. search needs)
-    (λ c. let w = front-of _ (c .before .before .before .pre .0) in omega (arith, w .least))
+    (λ c. let w = front-of _ (c .before .before .before .pre .0) in omega (arith, w .header-least, w .header-inside))
     (λ c κs. search needs)
     (λ c κs. search needs)
     (λ c κs. search needs)
     (λ c. search needs)
-    (λ c. let w = front-of _ (c .before .before .before .before .before .before .before .before .before .before .before .before .before .before .before .pre .0) in front-put _ _ _ _ _ _ _ _ _ (c .before .before .before .before .before .before .before .before .before .before .put-bytes .ensures) (c .before .before .before .before .before .before .set-fields .ensures) (c .before .before .seal .ensures) (c .before .before .before .before .before .before .before .before .before .before .before .before .checksum-enabled .ensures) refl (w .least) (c .before .before .before .before .before .before .before .before .before .before .before .before .before .before .before .pre .1)))
+    (λ c. let w = front-of _ (c .before .before .before .before .before .before .before .before .before .before .before .before .before .before .before .pre .0) in front-put _ _ _ _ _ _ _ _ _ (c .before .before .before .before .before .before .before .before .before .before .put-bytes .ensures) (c .before .before .before .before .before .before .set-fields .ensures) (c .before .before .seal .ensures) (c .before .before .before .before .before .before .before .before .before .before .before .before .checksum-enabled .ensures) refl (omega (arith, w .header-least, w .header-inside)) (c .before .before .before .before .before .before .before .before .before .before .before .before .before .before .before .pre .1)))

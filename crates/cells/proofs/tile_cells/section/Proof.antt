@@ -1,5 +1,5 @@
 -- `cells::tile_cells::section` meets its contract. Assumes nothing.
-use Rattle.cells.proofs.CellLaws.{section-told}
+use Rattle.bodies.proofs.SectionLaws.{section-told}
 use borrow.Author.Needs.{needs}
 use Rattle.cells.proofs.tile_cells.section.Statement.{statement}
 use Rattle.cells.proofs.tile_cells.section.Tie as tie

@@ -1,4 +1,4 @@
--- `check_records::frame::end_right` meets its contract. Assumes nothing.
+-- `check_records::ends::end_right` meets its contract. Assumes nothing.
 use native.Mathlib.Omega.{arith}
 use Rattle.wire.proofs.TestLaws.{no, yes}
 use Rattle.geometry.specs.Sizes.{leastLength}

@@ -1,7 +1,8 @@
 -- `check_records::tile_body::index_right` meets its contract. Assumes nothing.
 use native.Mathlib.Omega.{arith}
 use Rattle.wire.proofs.TestLaws.{no, yes}
-use Rattle.check_records.specs.TileBody.{tileIndex, indexRight}
+use Rattle.check_records.specs.TileBody.{indexRight}
+use Rattle.bodies.specs.TileRecord.{tileIndex}
 use borrow.Author.Needs.{needs}
 use Rattle.check_records.proofs.tile_body.index_right.Statement.{statement}
 use Rattle.check_records.proofs.tile_body.index_right.Tie as tie

@@ -1,4 +1,5 @@
 -- `check_records::tile_body::section_right` meets its contract. Assumes nothing.
+use Rattle.bodies.proofs.SectionLaws.{section-told}
 use Rattle.check_records.proofs.RecordLaws.{section-whole, section-packed, section-fault}
 use borrow.Author.Needs.{needs}
 use Rattle.check_records.proofs.tile_body.section_right.Statement.{statement}
@@ -14,6 +15,6 @@ section-right-spec =
     (λ c. search needs)
     (λ c. search needs)
     (λ c. search needs)
-    (λ c. search (needs, section-whole))
-    (λ c. search (needs, section-packed))
-    (λ c. search (needs, section-fault)))
+    (λ c. search (needs, section-told, section-whole))
+    (λ c. search (needs, section-told, section-packed))
+    (λ c. search (needs, section-told, section-fault)))

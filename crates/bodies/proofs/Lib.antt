@@ -1,0 +1,4 @@
+pub mod SectionLaws
+pub mod MetadataLaws
+pub mod DirectoryLaws
+pub mod CountLaws

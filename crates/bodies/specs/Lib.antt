@@ -1,0 +1,4 @@
+pub mod TileRecord
+pub mod MetadataRecord
+pub mod TileDirectory
+pub mod ListDirectories

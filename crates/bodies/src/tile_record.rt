@@ -1,0 +1,46 @@
+// The fields of a tile record.
+use geometry::sizes;
+use record::frame;
+ghost use mathlib.Core.Path.{_≡_};
+ghost use Prim.Native.Nat.{_+_, _≤_, _<_};
+ghost use lib.ListN.{length};
+ghost use Rattle.bodies.specs.TileRecord.{sectionEnd, sectionAt, sectionStart};
+
+// Where the section at a position ends; it has at most 4 + 4294967296 bytes.
+fn section_end(s: &[u8], p: usize) -> usize
+    requires { ⌜ p ≤ 9223372036854775820 ⌝ }
+    ensures is { λ r. ⌜ r ≡ sectionEnd (now (s .entry)) p ⌝ }
+    ensures near { λ r. ⌜ (p + 4 ≤ r) × (r ≤ p + 4294967300) ⌝ }
+{
+    p + sizes::stored_size(wire::u32_at(s, p)) as usize
+}
+
+// Where the section of element e of the tile record at a position starts.
+fn section_at(s: &[u8], at: usize, e: u32) -> usize
+    requires { ⌜ at < length (now s) ⌝ }
+    ensures is { λ r. ⌜ r ≡ sectionAt (now (s .entry)) at e ⌝ }
+    ensures near { λ r. ⌜ r ≤ length (now (s .entry)) + 4294967312 ⌝ }
+{
+    let limit = frame::record_limit(s, at);
+    let mut p = at + 12;
+    let mut left = e;
+    while 0 < left {
+        if limit < p {
+            return p;
+        }
+        p = section_end(s, p);
+        left -= 1;
+    }
+    p
+}
+
+// The same for any position; 0 where it is past the file.
+pub fn section_start(s: &[u8], at: usize, e: u32) -> usize
+    ensures is { λ r. ⌜ r ≡ sectionStart (now (s .entry)) at e ⌝ }
+    ensures near { λ r. ⌜ r ≤ length (now (s .entry)) + 4294967312 ⌝ }
+{
+    if s.len() <= at {
+        return 0;
+    }
+    section_at(s, at, e)
+}

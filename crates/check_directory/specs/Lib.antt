@@ -1,0 +1,4 @@
+pub mod References
+pub mod TileRules
+pub mod Correspondence
+pub mod inner

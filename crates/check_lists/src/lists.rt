@@ -1,0 +1,387 @@
+// Stage 9: the records that a list names, each once, and metadata records with the same name and ID.
+use crate::ListKind;
+use crate::file_space;
+use crate::metadata;
+use bodies::list_directories;
+use bodies::metadata_record;
+use record::Cursor;
+use record::Found;
+use record::Step;
+use record::chain;
+use record::frame;
+ghost use mathlib.Core.Path.{_≡_};
+ghost use mathlib.Core.Bool.{true};
+ghost use Prim.Native.Nat.{_+_, _≤_, _<_};
+ghost use lib.ListN.{length};
+ghost use Rattle.record.specs.Record.{typeAt};
+ghost use Rattle.record.specs.Chain.{firstRecord, headerEnd, records};
+ghost use Rattle.check_lists.specs.Listed.{listedOnce};
+ghost use Rattle.check_lists.specs.Metadata.{keysDistinct};
+ghost use Rattle.check_lists.specs.inner.Windows.{namedBy, slotOf, oneMore, noted, tallied, notOnceIn, windowRight};
+ghost use Rattle.check_lists.specs.inner.Keys.{keyHash, keySlot, keyFine, keySeen, allFine, partDistinct};
+ghost use Rattle.check_lists.specs.inner.Search.{listedKind, listCount, listFits, listEntryAt, listEntryOf, listEntryIs, listEntrySize, listRight, twinOf, hasTwin};
+
+// The type of the records that a list is of.
+fn listed_kind(list: ListKind) -> u32
+    ensures { λ r. ⌜ r ≡ listedKind list ⌝ }
+{
+    match list {
+        ListKind::FreeSpace => 0,
+        ListKind::Metadata => 1,
+    }
+}
+
+// How many entries it has.
+fn list_count(s: &[u8], list: ListKind) -> u32
+    ensures { λ r. ⌜ r ≡ listCount (now (s .entry)) list ⌝ }
+{
+    match list {
+        ListKind::FreeSpace => list_directories::free_count(s),
+        ListKind::Metadata => list_directories::metadata_count(s),
+    }
+}
+
+// They fit its record.
+fn list_fits(s: &[u8], list: ListKind) -> bool
+    ensures { λ r. ⌜ r ≡ listFits (now (s .entry)) list ⌝ }
+{
+    match list {
+        ListKind::FreeSpace => file_space::free_fits(s),
+        ListKind::Metadata => metadata::metadata_fits(s),
+    }
+}
+
+// Where its first entry starts.
+fn first_entry(s: &[u8], list: ListKind) -> usize
+    requires { ⌜ listFits (now s) list ≡ true ⌝ }
+    ensures { λ r. ⌜ r ≡ listEntryAt (now (s .entry)) list 0 ⌝ }
+{
+    match list {
+        ListKind::FreeSpace => list_directories::file_space_at(s) + 12,
+        ListKind::Metadata => list_directories::metadata_at(s) + 12,
+    }
+}
+
+// The size of the entry at a position.
+fn entry_size(s: &[u8], list: ListKind, p: usize) -> usize
+    ensures is { λ r. ⌜ r ≡ listEntrySize (now (s .entry)) list p ⌝ }
+    ensures near { λ r. ⌜ r ≤ 65550 ⌝ }
+{
+    match list {
+        ListKind::FreeSpace => 12,
+        ListKind::Metadata => list_directories::metadata_entry_size(s, p),
+    }
+}
+
+// Whether the entry at a position is that of the record at another.
+fn entry_of(s: &[u8], list: ListKind, x: usize, p: usize) -> bool
+    ensures { λ r. ⌜ r ≡ listEntryOf (now (s .entry)) list x p ⌝ }
+{
+    match list {
+        ListKind::FreeSpace => file_space::free_entry_of(s, x, p),
+        ListKind::Metadata => metadata::metadata_entry_of(s, x, p),
+    }
+}
+
+// The start of the record that the entry at a position names.
+fn named_by(s: &[u8], list: ListKind, p: usize) -> usize
+    ensures { λ r. ⌜ r ≡ namedBy (now (s .entry)) list p ⌝ }
+{
+    match list {
+        ListKind::FreeSpace => wire::u64_at(s, p) as usize,
+        ListKind::Metadata => frame::record_of(wire::u64_at(s, p)),
+    }
+}
+
+// Which of a window's counts the entry at a position adds to: that of the record that it is of, or 131072, which is none.
+fn slot_of(s: &[u8], list: ListKind, base: usize, p: usize) -> usize
+    ensures { λ r. ⌜ r ≡ slotOf (now (s .entry)) list base p ⌝ }
+{
+    let x = named_by(s, list, p);
+    if x < base {
+        return 131072;
+    }
+    let d = x - base;
+    if 1048575 < d {
+        return 131072;
+    }
+    if d % 8 != 0 {
+        return 131072;
+    }
+    if entry_of(s, list, x, p) {
+        return d / 8;
+    }
+    131072
+}
+
+// One more, up to 2.
+fn one_more(count: u8) -> u8
+    ensures { λ r. ⌜ r ≡ oneMore count ⌝ }
+{
+    if count < 2 {
+        return count + 1;
+    }
+    2
+}
+
+// One more at a place; past the end nothing.
+fn note(counts: &mut [u8], j: usize)
+    ensures { λ _. ⌜ now (counts .exit) ≡ noted (now (counts .entry)) j ⌝ }
+{
+    if j < counts.len() {
+        counts[j] = one_more(counts[j]);
+    }
+}
+
+// Every entry of the list, added to a window's counts.
+fn tally(s: &[u8], list: ListKind, base: usize, counts: &mut [u8])
+    requires { ⌜ listFits (now s) list ≡ true ⌝ }
+    ensures { λ _. ⌜ now (counts .exit) ≡ tallied (now (s .entry)) list base (now (counts .entry)) (listCount (now (s .entry)) list) ⌝ }
+{
+    let n = list_count(s, list);
+    let mut p = first_entry(s, list);
+    let mut k = 0;
+    while k < n {
+        let j = slot_of(s, list, base, p);
+        note(counts, j);
+        p += entry_size(s, list, p);
+        k += 1;
+    }
+}
+
+// Whether the record of a type at a position is of the list's type, in the window and not counted once.
+fn is_not_once(s: &[u8], list: ListKind, base: usize, counts: &[u8], kind: u32, at: usize) -> bool
+    requires { ⌜ kind ≡ typeAt (now s) at ⌝ }
+    ensures { λ r. ⌜ r ≡ notOnceIn (now (s .entry)) list base (now (counts .entry)) at ⌝ }
+{
+    if kind != listed_kind(list) {
+        return false;
+    }
+    if at < base {
+        return false;
+    }
+    let j = (at - base) / 8;
+    if j < counts.len() {
+        if counts[j] == 1 {
+            return false;
+        }
+        return true;
+    }
+    false
+}
+
+// The first such record.
+fn find_not_once(s: &[u8], list: ListKind, base: usize, counts: &[u8]) -> Found
+    ensures { λ r. ⌜ r ≡ firstRecord (now (s .entry)) (headerEnd (now (s .entry))) (notOnceIn (now (s .entry)) list base (now (counts .entry))) ⌝ }
+{
+    let mut c = Cursor {
+        at: chain::header_end(s),
+    };
+    loop {
+        let Step::Record {
+            kind,
+            start,
+            length: _,
+            next,
+        } = c.step(s)
+        else {
+            return Found::Nothing;
+        };
+        if is_not_once(s, list, base, counts, kind, start) {
+            return Found::At(start);
+        }
+        c = next;
+    }
+}
+
+// Every record of the list's type that starts in the window is listed once.
+fn window_right(s: &[u8], list: ListKind, base: usize) -> bool
+    requires { ⌜ listFits (now s) list ≡ true ⌝ }
+    ensures { λ r. ⌜ r ≡ windowRight (now (s .entry)) list base ⌝ }
+{
+    let mut counts = [0u8; 131072];
+    tally(s, list, base, &mut counts);
+    if let Found::At(_) = find_not_once(s, list, base, &counts) {
+        return false;
+    }
+    true
+}
+
+// Every record of the list's type is listed once. The file is judged a window at a time.
+fn listed_once(s: &[u8], list: ListKind) -> bool
+    requires { ⌜ listFits (now s) list ≡ true ⌝ }
+    ensures { λ r. ⌜ r ≡ listedOnce (now (s .entry)) (listedKind list) (listCount (now (s .entry)) list) (listEntryIs (now (s .entry)) list) ⌝ }
+{
+    let mut base = chain::header_end(s);
+    while base < s.len() {
+        if window_right(s, list, base) {
+            base += 1048576;
+        } else {
+            return false;
+        }
+    }
+    true
+}
+
+// A list fits its record, and names every record of its type once and nothing else. Where every record is listed once, nothing
+// else is just where there are as many entries as records.
+pub fn list_right(s: &[u8], list: ListKind) -> bool
+    ensures { λ r. ⌜ r ≡ listRight (now (s .entry)) list ⌝ }
+{
+    if list_fits(s, list) {
+        let records = chain::record_count(s, listed_kind(list));
+        if list_count(s, list) as usize != records {
+            return false;
+        }
+        if records == 0 {
+            return true;
+        }
+        return listed_once(s, list);
+    }
+    false
+}
+
+// Whether the record of a type at y is a metadata record other than the one at x and has its pair of name and ID.
+fn is_twin(s: &[u8], x: usize, kind: u32, y: usize) -> bool
+    requires { ⌜ kind ≡ typeAt (now s) y ⌝ }
+    ensures { λ r. ⌜ r ≡ twinOf (now (s .entry)) x y ⌝ }
+{
+    if kind != 1 {
+        return false;
+    }
+    if x == y {
+        return false;
+    }
+    metadata::same_key(s, x, y)
+}
+
+// The first such record.
+fn find_twin(s: &[u8], x: usize) -> Found
+    ensures { λ r. ⌜ r ≡ firstRecord (now (s .entry)) (headerEnd (now (s .entry))) (twinOf (now (s .entry)) x) ⌝ }
+{
+    let mut c = Cursor {
+        at: chain::header_end(s),
+    };
+    loop {
+        let Step::Record {
+            kind,
+            start,
+            length: _,
+            next,
+        } = c.step(s)
+        else {
+            return Found::Nothing;
+        };
+        if is_twin(s, x, kind, start) {
+            return Found::At(start);
+        }
+        c = next;
+    }
+}
+
+// Whether there is one.
+fn has_twin(s: &[u8], x: usize) -> bool
+    ensures { λ r. ⌜ r ≡ hasTwin (now (s .entry)) x ⌝ }
+{
+    if let Found::At(_) = find_twin(s, x) {
+        return true;
+    }
+    false
+}
+
+// A hash of a metadata record's pair of name and ID.
+fn key_hash(s: &[u8], x: usize) -> u64
+    ensures { λ r. ⌜ r ≡ keyHash (now (s .entry)) x ⌝ }
+{
+    let name = crc32c::crc_of(metadata_record::metadata_name(s, x));
+    let id = metadata_record::record_id(s, x);
+    (name as u64) + (id as u64) * 2654435761
+}
+
+// The place of a metadata record of a part of the hashes; 131072 where it is of another part, or of another type.
+fn key_slot(s: &[u8], parts: u64, part: u64, kind: u32, x: usize) -> usize
+    requires { ⌜ (0 < parts) × (kind ≡ typeAt (now s) x) ⌝ }
+    ensures { λ r. ⌜ r ≡ keySlot (now (s .entry)) parts part x ⌝ }
+{
+    if kind != 1 {
+        return 131072;
+    }
+    let h = key_hash(s, x);
+    if h % parts != part {
+        return 131072;
+    }
+    (h / parts % 131072) as usize
+}
+
+// A record takes its place. It is the first there, or no other has its pair.
+fn key_fine(s: &[u8], parts: u64, part: u64, seen: &mut [u8], kind: u32, x: usize) -> bool
+    requires { ⌜ (0 < parts) × (kind ≡ typeAt (now s) x) ⌝ }
+    ensures fine { λ r. ⌜ r ≡ keyFine (now (s .entry)) parts part (now (seen .entry)) x ⌝ }
+    ensures seen { λ _. ⌜ now (seen .exit) ≡ keySeen (now (s .entry)) parts part (now (seen .entry)) x ⌝ }
+{
+    let j = key_slot(s, parts, part, kind, x);
+    if seen.len() <= j {
+        return true;
+    }
+    let before = seen[j];
+    seen[j] = 1;
+    if before == 0 {
+        return true;
+    }
+    if has_twin(s, x) {
+        return false;
+    }
+    true
+}
+
+// Each record behind the header does so.
+fn all_fine(s: &[u8], parts: u64, part: u64, seen: &mut [u8]) -> bool
+    requires { ⌜ 0 < parts ⌝ }
+    ensures { λ r. ⌜ r ≡ allFine (now (s .entry)) parts part (now (seen .entry)) (records (now (s .entry))) ⌝ }
+{
+    let mut c = Cursor {
+        at: chain::header_end(s),
+    };
+    loop {
+        let Step::Record {
+            kind,
+            start,
+            length: _,
+            next,
+        } = c.step(s)
+        else {
+            return true;
+        };
+        if key_fine(s, parts, part, seen, kind, start) {
+            c = next;
+        } else {
+            return false;
+        }
+    }
+}
+
+// No two metadata records of a part have the same pair.
+fn part_distinct(s: &[u8], parts: u64, part: u64) -> bool
+    requires { ⌜ 0 < parts ⌝ }
+    ensures { λ r. ⌜ r ≡ partDistinct (now (s .entry)) parts part ⌝ }
+{
+    let mut seen = [0u8; 131072];
+    all_fine(s, parts, part, &mut seen)
+}
+
+// No two metadata records have the same pair of name and ID. Those with the same pair have the same hash, so they are of one part,
+// and have one place there.
+pub fn keys_distinct(s: &[u8]) -> bool
+    ensures { λ r. ⌜ r ≡ keysDistinct (now (s .entry)) ⌝ }
+{
+    let parts = (chain::record_count(s, 1) as u64) / 2048 + 1;
+    let mut part = 0;
+    while part < parts {
+        if part_distinct(s, parts, part) {
+            part += 1;
+        } else {
+            return false;
+        }
+    }
+    true
+}

@@ -1,4 +1,0 @@
-pub mod References
-pub mod TileDirectory
-pub mod Search
-pub mod Correspondence
