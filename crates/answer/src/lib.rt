@@ -1,4 +1,5 @@
-// The answer types, and what each case says as numbers.
+// The answer types, and what each case says as numbers. Positions and lengths are `usize`, since they index the caller's slice. A bit
+// pattern is unsigned: it is compared and kept, not calculated with.
 ghost use mathlib.Core.Path.{_≡_};
 ghost use Prim.Native.Nat.{_%_};
 ghost use lib.Ieee.{ofBits, binary32};

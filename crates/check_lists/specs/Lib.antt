@@ -1,3 +1,8 @@
+-- Stage 9 of the check: the file-space and metadata directories, and the stage whole.
+--
+-- Both directories list records by one rule, 'listed once ... and nothing else is', which `Listed` says once over both. Two records
+-- never share an entry, so where every record is listed once, nothing else is just where there are as many entries as records
+-- (`else-count`, `count-else`). The functions count; the definitions say it entry by entry.
 pub mod Listed
 pub mod FileSpace
 pub mod Metadata

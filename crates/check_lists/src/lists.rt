@@ -1,4 +1,21 @@
 // Stage 9: the records that a list names, each once, and metadata records with the same name and ID.
+//
+// A list is judged a window of the file at a time. A window has 131,072 places, each eight bytes behind the one before it; the first
+// window starts at the header's end. A record's length is a multiple of eight, so every record starts at a place. One pass over the
+// entries counts at each place how many are those of a record there; one walk over the records asks that each of the list's type has
+// a count of 1. A count goes no further than 2, so it is a byte. The time grows with the number of windows times the number of
+// entries and records: a file of one window, 1 MiB, is judged in two passes.
+//
+// Metadata records are compared by a hash of name and ID. The hashes are judged in parts, one for each 2,048 metadata records and one
+// more; a part has 131,072 places. Records with the same pair have the same hash, hence one part and one place. A record that is the
+// first at its place has no earlier one with its pair; any other is compared with every record. So the records are walked once for
+// each part, and names that are made to have one hash take time that grows with the square of their number.
+//
+// Counts and places are each a local array of 128 KiB; nothing else is written, and no memory is asked for. The compiler puts both
+// below one call, so a check runs in less than 320 KiB of stack, which tests/run tries.
+//
+// Measured at 16 MiB, where the checksums took 44 ms: a list of free records in reverse 123 ms, a metadata list in reverse 2.7 s,
+// 4,000 metadata records 49 ms. Record by record and entry by entry, the free list in reverse took 1,059 s.
 use crate::ListKind;
 use crate::file_space;
 use crate::metadata;

@@ -1,7 +1,13 @@
 // Lists the file that its first argument names (document 01, 'The listing'), or says why it cannot.
+//
+// It reads 65,537 bytes at most: the last of them says that the file is longer, and the rest is never needed. The text has room for
+// 32,768 bytes, and nothing is printed of a longer one. That none is longer is counted, not proved: a tile record that passes stage 8
+// has at least 24 bytes and its line at most 6, so 65,536 bytes give less than 16,400 bytes of such lines, and the four lines before
+// them have less than 200.
 use libc::STDOUT_FILENO;
 
-// What a failed read answers: more than any buffer here holds.
+// What a failed read answers: more than any buffer here holds. Every number up to 65,537 is a count that can come about, so one number
+// goes round the loop. A failed read is told apart before anything is listed: a part of a file is never listed as the file.
 const FAILED: usize = 65538;
 
 // Reads once, behind the bytes that are there, and answers how many are there then: no more at the end of the file.

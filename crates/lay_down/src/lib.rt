@@ -1,4 +1,14 @@
 // Laying down a page (document 01): the front, one tile record for each index, the tile directory last.
+//
+// The pieces of a record, of a front and of a directory are public and total; what does not fit whole is not written. Another writer
+// may use them, and close its records over the buffer's own bytes. The writers here are private and have a `requires`: the input was
+// judged, and what is written fits. Asking again in each of them would decide nothing.
+//
+// The references of all tiles are set to zero, then that of each tile given is written at its index. The time grows with the number
+// of tiles plus the number of indexes; looking each tile up among the indexes would take their product.
+//
+// The elements' sizes are worked out once, into 16 numbers, and serve every tile record, since an element's entry is found by passing
+// over those before it. A front that passes stage 4 has at most 16, so a lay-down needs no memory that grows with the page.
 pub mod directory;
 pub mod front;
 pub mod pieces;

@@ -1,4 +1,13 @@
-// The listing of a file (document 01).
+// The listing of a file (document 01). It stands above the check and the definitions of cells; neither the reads nor the lay-down
+// knows it.
+//
+// `list` itself says `too long`, before it looks at any byte, so that one text is promised to every caller. Else it makes the check
+// once and the text twice: first into a buffer of no bytes, which gives the length, then into the caller's, if it fits. The writers
+// of the lines promise where they end, fit or not, and what they leave only where they fit (`Puts`); none of them is public.
+//
+// Tile records are counted over the chain. For the lines of the indexes the tile directory is asked, in index order: on an accepted
+// file a reference is not zero just where a tile record carries the index. So no line takes a pass over the chain, and nothing has to
+// be sorted.
 pub mod numbers;
 
 use answer::Verdict;

@@ -1,5 +1,14 @@
-// The public face: the opened page. It keeps hold of the file's own bytes and of two positions that they give. Whoever makes one may
-// put any numbers there: a read on it answers as one on the bytes.
+// The public face: the opened page. It keeps hold of the file's own bytes and of two positions that they give, from which the two
+// routes start. Whoever makes one may put any numbers there: a read on it answers as one on the bytes.
+//
+// Opening refuses nothing: a read gives the check's refusal, whatever page it is asked on. Of bytes that are refused 0 is held, where
+// neither a record nor a directory can start.
+//
+// A read takes its route as a bool. There are two behind the whole check, and no number is left over that is no route. The walk
+// without stage 9 is for files whose directories are at fault, and such bytes have no positions that a page holds; `cells` has it.
+//
+// A function that has a page in a local is proved by hand. `cell_of` and `content_of` ask the same of bytes, without a page, so that
+// no proof of a product above goes through one.
 pub mod reads;
 
 use answer::Cell;

@@ -93,7 +93,8 @@ pub fn read_from(
     }
 }
 
-// Where an element's content stands, through a held tile directory: present, absent, or refused and why.
+// Where an element's content stands, through a held tile directory: present, absent, or refused and why. As a part of the file an absent
+// one and a refused one are both empty.
 pub fn content_at(file: &[u8], directory: u64, tile: u64, e: u64) -> Content
     ensures held { λ r. ⌜ r ≡ pageContent (now (file .entry)) directory tile e ⌝ }
     ensures plain { λ r. ⌜ r ≡ readContent (now (file .entry)) tile e ⌝ }
