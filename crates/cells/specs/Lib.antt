@@ -1,8 +1,8 @@
 -- What a cell means, the routes to its tile's record, the reads, and an element's content.
 --
 -- The two routes take the place from which they start: `referredTo` that of the directory's record, `walkedTo` the header's end. A
--- read of bytes puts in the bytes' own (`tileDirectoryAt`, `headerEnd`), a read on an opened page starts from what the page holds; so
--- both have one definition and one function.
+-- read of bytes puts in the bytes' own (`tileDirectoryAt`, `headerEnd`), a read on an opened page what the page holds, if that is the
+-- same. So both have one definition and one function.
 --
 -- `content` finds the tile's record through the directory, without a pass over the chain. Its contract does not say so: document 01
 -- names two routes for a cell and none for an element's content, and a contract that is the meaning leaves the body free.

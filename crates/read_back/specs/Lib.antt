@@ -1,8 +1,8 @@
 -- A page laid down is accepted, and reads back: definitions and proofs, no code.
 --
--- It is about the check, cells and the lay-down, and stands above them, so that the writer is checked again without their proofs.
--- That a file which is laid down obeys over the list of records that were put into it is shown once (`laid-obeys`); laws of the check
--- and of cells do the rest.
+-- It is about the check, cells and the lay-down, and stands above all three. So an edit of the writer is checked again without the
+-- proofs of the other two. That a file which is laid down obeys over the list of records that were put into it is shown once
+-- (`laid-obeys`); laws of the check and of cells do the rest.
 --
 -- The theorem asks that the front and the cells are lists of bytes. A slice of `u8` holds no others, so every call meets it. Of
 -- larger numbers a checksum could take more than four bytes, and stage 7 would not find it again.
