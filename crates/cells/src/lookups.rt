@@ -1,5 +1,5 @@
 // For callers that have made the check: the same as a read, without it. They answer 10 first, then 9 where unchecked bytes lead
-// nowhere; on an accepted file it is the cell's meaning.
+// nowhere; on an accepted file, from the positions that its bytes give, it is the cell's meaning.
 use crate::Route;
 use crate::asked;
 use crate::routes;

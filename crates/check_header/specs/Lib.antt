@@ -3,6 +3,7 @@
 -- The stages take the bytes and the file's length as two arguments, so that a file's first bytes and its stated length suffice for
 -- them (`Depends`). Of a whole file the length is the number of its bytes. Bytes that are not there are never evidence of fit: where
 -- fewer are given than the header takes, the header is at fault (3), if stages 1 and 2 pass.
+-- The pages stand in the order in which to read them.
 pub mod Identification
 pub mod HeaderRecord
 pub mod Ceilings

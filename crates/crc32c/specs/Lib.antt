@@ -1,1 +1,2 @@
+-- The checksum CRC32C, bit by bit.
 pub mod Crc

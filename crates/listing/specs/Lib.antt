@@ -1,3 +1,5 @@
+-- The listing of a file, byte for byte.
+-- The pages stand in the order in which to read them.
 pub mod Text
 pub mod Listing
 pub mod Puts

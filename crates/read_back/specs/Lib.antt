@@ -10,5 +10,6 @@
 -- `part` is empty where bytes do not lie whole, so two equal parts say something only with their extents beside them: each content is
 -- also said to lie whole in the file and among the bytes given. The header is said by the names of its fields, so that a reader need
 -- not work out offsets.
+-- The pages stand in the order in which to read them.
 pub mod ReadBack
 pub mod Sample

@@ -4,5 +4,6 @@
 -- behind it (`advance`). So no count and no length makes a loop run past its record or the file; a count of 2147483647 ends at once.
 -- Items only move forward, so one test of the last one's end shows that all fit. An item that starts exactly at the limit is still
 -- read, which decides nothing: its end lies past it.
+-- The pages stand in the order in which to read them.
 pub mod Record
 pub mod Chain

@@ -1,2 +1,4 @@
+-- What an opened page holds and answers, and what a product above the store cites.
+-- The pages stand in the order in which to read them.
 pub mod Opened
 pub mod Face

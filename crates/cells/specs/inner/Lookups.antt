@@ -1,5 +1,5 @@
 -- For callers that have made the check: a cell and a content without it, on any bytes. No read is defined by it. Where unchecked bytes
--- lead nowhere it is 9; on an accepted file it is the meaning.
+-- lead nowhere it is 9; on an accepted file, from the positions that its bytes give, it is the meaning.
 use Prim.Native.Nat.{ℕ, _+_}
 use mathlib.Core.List.{List, [], _∷_}
 use mathlib.Core.Bool.{Bool, true}
