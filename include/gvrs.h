@@ -23,12 +23,12 @@ enum {
     GVRS_ACCEPTED = 0,     /* the file is accepted, the page is laid down */
     GVRS_NOT_GVRS = 1,     /* fewer than 16 bytes, or the first twelve differ */
     GVRS_VERSION = 2,      /* not version 1.4 */
-    GVRS_HEADER = 3,       /* header record at fault */
+    GVRS_HEADER = 3,       /* header record at fault: also an element's name, as gvrs_is_identifier says */
     GVRS_CEILING = 4,      /* a house ceiling is passed */
     GVRS_OPENED = 5,       /* time opened for writing is not zero */
     GVRS_CHAIN = 6,        /* chain at fault */
     GVRS_CHECKSUM = 7,     /* checksum at fault */
-    GVRS_BODY = 8,         /* body of a tile or metadata record at fault */
+    GVRS_BODY = 8,         /* body of a tile or metadata record at fault: also a metadata record's name */
     GVRS_DIRECTORY = 9,    /* directory at fault */
     GVRS_OUTSIDE = 10,     /* row, column, element or tile asked for not in the grid */
     GVRS_COMPRESSED = 11,  /* content asked for is compressed */
@@ -74,6 +74,10 @@ uint32_t gvrs_lay_down(const uint8_t *front, uint64_t front_n, uint64_t time, co
 /* The listing of a file, as text: its length. `text` takes it where it fits, and what stands behind it stays; else `text` is as it
    was. A file over 65,536 bytes lists as `too long`. */
 uint64_t gvrs_list(const uint8_t *file, uint64_t n, uint8_t *text, uint64_t text_n);
+
+/* 1 if the bytes are a name that an element or a metadata record may have, else 0: 1 to 32 letters, digits and underscores of
+   ASCII, a letter first, no underscore last. */
+uint32_t gvrs_is_identifier(const uint8_t *name, uint64_t n);
 
 #ifdef __cplusplus
 }

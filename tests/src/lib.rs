@@ -3,7 +3,7 @@
 //! interface.
 //!
 //! "Document 01" is the scope paper, "G" the GVRS format description 1.4, "reading N" the N-th of
-//! the readings that the project takes of them.
+//! the readings that the project takes of them, "Req N" a change request.
 
 pub mod build;
 pub mod library;

@@ -37,6 +37,7 @@ extern "C" {
         out_n: u64,
     ) -> u32;
     fn gvrs_list(file: *const u8, n: u64, text: *mut u8, text_n: u64) -> u64;
+    fn gvrs_is_identifier(name: *const u8, n: u64) -> u32;
 }
 
 /// The routes of `gvrs_cell`. Every other number is the directory too.
@@ -116,6 +117,12 @@ pub fn lay_down_into(
 pub fn list_into(file: &[u8], text: &mut [u8]) -> u64 {
     // Both slices are alive for the whole call and do not overlap.
     unsafe { gvrs_list(file.as_ptr(), file.len() as u64, text.as_mut_ptr(), text.len() as u64) }
+}
+
+/// 1 if the bytes are a name that an element or a metadata record may have, else 0.
+pub fn is_identifier(name: &[u8]) -> u32 {
+    // The slice is alive for the whole call.
+    unsafe { gvrs_is_identifier(name.as_ptr(), name.len() as u64) }
 }
 
 /// What `out` holds before a call, so that a number left unwritten shows.

@@ -85,18 +85,27 @@ fn name_near(taken: &[&[u8]], random: &mut Prng) -> Vec<u8> {
     let mut name = near.to_vec();
     let at = random.below(name.len());
     match random.below(3) {
-        0 if name.len() < 32 => name.push(b'_'),
-        1 if name.len() > 1 => drop(name.pop()),
+        0 if name.len() < 31 => name.extend(b"_1"),
+        1 if name.len() > 1 => shorten(&mut name),
         _ if name[at].is_ascii_alphabetic() => name[at] ^= 0x20,
         _ => name[0] = random.pick(b"AZaz"),
     }
     name
 }
 
-/// An identifier of 1 to 32 characters.
+/// Takes away the last character, and the underscores that are last then.
+fn shorten(name: &mut Vec<u8>) {
+    name.pop();
+    while name.ends_with(b"_") {
+        name.pop();
+    }
+}
+
+/// An identifier of 1 to 32 characters, often with underscores inside.
 pub fn name(random: &mut Prng) -> Vec<u8> {
     const LETTERS: &[u8] = b"ABCXYZabcxyz";
     const OTHERS: &[u8] = b"AMZamz0189__";
+    const LAST: &[u8] = b"AMZamz0189";
     let length = match random.below(6) {
         0 => 1,
         1 => 32,
@@ -104,8 +113,11 @@ pub fn name(random: &mut Prng) -> Vec<u8> {
         _ => random.between(2, 12),
     };
     let mut name = vec![random.pick(LETTERS)];
-    while name.len() < length {
+    while name.len() + 1 < length {
         name.push(random.pick(OTHERS));
+    }
+    if length > 1 {
+        name.push(random.pick(LAST));
     }
     name
 }

@@ -2,11 +2,14 @@
 use answer::Cell;
 use answer::Laid;
 use cells::reads;
+use header::names;
 ghost use mathlib.Core.Path.{_≡_};
 ghost use mathlib.Core.List.{[], _∷_};
 ghost use lib.ListN.{length, set};
 ghost use Rattle.answer.specs.Refusals.{verdictNumber, verdictPlace};
 ghost use Rattle.answer.specs.Answers.{cellKind, contentKind, laidNumber};
+ghost use Rattle.wire.specs.Pick.{pick};
+ghost use Rattle.header.specs.Names.{identifier};
 ghost use Rattle.page_check.specs.Stages.{check};
 ghost use Rattle.cells.specs.Reads.{readContent};
 ghost use Rattle.lay_down.specs.Answer.{laid, laidOut};
@@ -120,4 +123,15 @@ pub extern "C" fn gvrs_list(file: &[u8], text: &mut [u8]) -> u64
     ensures holds { λ _. ⌜ now (text .exit) ≡ put (now (text .entry)) 0 (listing (now (file .entry))) ⌝ }
 {
     listing::list(file, text) as u64
+}
+
+// 1 if the bytes are a name that an element or a metadata record may have, else 0.
+#[no_mangle]
+pub extern "C" fn gvrs_is_identifier(name: &[u8]) -> u32
+    ensures { λ r. ⌜ r ≡ pick (identifier 32 (now (name .entry))) 1 0 ⌝ }
+{
+    if names::is_identifier(name, 32) {
+        return 1;
+    }
+    0
 }

@@ -1,3 +1,4 @@
 pub mod NameLaws
 pub mod EntryLaws
 pub mod SameLaws
+pub mod NameSamples

@@ -1,16 +1,17 @@
 -- The bytes of a name, and the loop over them. Assumes nothing.
 use Prim.Native.Nat.{ℕ, suc, _+_, _-_, _≤_, _<_}
 use mathlib.Core.Path.{_≡_, refl, sym, _∙_}
-use mathlib.Core.List.{List, [], _∷_}
+use mathlib.Core.List.{List, [], _∷_, _++_}
 use mathlib.Core.Bool.{Bool, true, false, or-true}
 use native.Mathlib.Omega.{arith}
 use native.Mathlib.Numerals.{add-one}
-use lib.ListN.{length, getD, take, drop, drop-of-length-le}
-use lib.Seq.{drop-cons, take-all}
+use lib.ListN.{length, getD, take, drop, drop-of-length-le, length-append}
+use lib.Seq.{drop-cons, take-all, getD-at}
 use borrow.Author.Tests.{le-leb}
-use Rattle.wire.specs.Tests.{both, is, passes}
+use Rattle.wire.specs.Tests.{_≢?_, both, is, passes}
+use Rattle.wire.specs.Bytes.{byteAt}
 use Rattle.wire.proofs.TestLaws.{yes, no, not-both}
-use Rattle.header.specs.Names.{within, letter, nameByte, nameBytes, identifier}
+use Rattle.header.specs.Names.{within, letter, nameByte, nameBytes, fiveRules, lastByte, identifier, Underscores}
 
 within-in : (a b x : ℕ) → a ≤ x → x ≤ b → within a b x ≡ true
 unfolding within
@@ -99,30 +100,63 @@ from-end l i h = rw (drop-of-length-le l h)
 
 -- identifiers
 
-pub identifier-empty : (m : ℕ) (l : List ℕ) → length l < 1 → false ≡ identifier m l
-unfolding identifier
-identifier-empty m [] h = refl
-identifier-empty m (b ∷ bs) h = absurd (omega arith)
+pub five-empty : (m : ℕ) (l : List ℕ) → length l < 1 → false ≡ fiveRules m l
+unfolding fiveRules
+five-empty m [] h = refl
+five-empty m (b ∷ bs) h = absurd (omega arith)
 
-pub identifier-long : (m : ℕ) (l : List ℕ) → m < length l → false ≡ identifier m l
-unfolding identifier
-identifier-long m [] h = refl
-identifier-long m (b ∷ bs) h = no _ (λ z. omega (arith, z .1 .1 .0))
+pub five-long : (m : ℕ) (l : List ℕ) → m < length l → false ≡ fiveRules m l
+unfolding fiveRules
+five-long m [] h = refl
+five-long m (b ∷ bs) h = no _ (λ z. omega (arith, z .1 .1 .0))
 
-pub identifier-first : (m : ℕ) (l : List ℕ) {r : Bool} → r ≡ letter (getD l 0 0) → r ≡ false → false ≡ identifier m l
-unfolding identifier
-identifier-first m [] p q = refl
-identifier-first m (b ∷ bs) p q = no _ (λ z. not-both (z .0) (sym p ∙ q))
+pub five-first : (m : ℕ) (l : List ℕ) {r : Bool} → r ≡ letter (getD l 0 0) → r ≡ false → false ≡ fiveRules m l
+unfolding fiveRules
+five-first m [] p q = refl
+five-first m (b ∷ bs) p q = no _ (λ z. not-both (z .0) (sym p ∙ q))
 
-pub identifier-rest :
+pub five-rest :
     (m : ℕ) (l : List ℕ) {q r : Bool} → 1 ≤ length l → length l ≤ m → q ≡ letter (getD l 0 0) → q ≡ true →
-    r ≡ nameBytes (take (length l - 1) (drop 1 l)) → r ≡ identifier m l
-unfolding identifier passes
-identifier-rest m [] h k p e f = absurd (omega arith)
-identifier-rest m (b ∷ bs) h k p e f =
+    r ≡ nameBytes (take (length l - 1) (drop 1 l)) → r ≡ fiveRules m l
+unfolding fiveRules passes
+five-rest m [] h k p e f = absurd (omega arith)
+five-rest m (b ∷ bs) h k p e f =
     let g : take (length (b ∷ bs) - 1) bs ≡ bs = take-all (length (b ∷ bs) - 1) bs (omega arith) in
     rw (← p, e, ← rw g at f, le-leb (length (b ∷ bs)) m k) (go _)
   where
     go : (x : Bool) → x ≡ both x true
     go true = refl
     go false = refl
+
+-- and no underscore at the end
+
+pub identifier-empty : (m : ℕ) (l : List ℕ) → length l < 1 → false ≡ identifier m l
+unfolding identifier
+identifier-empty m l h = no _ (λ z. not-both (z .0) (sym (five-empty m l h)))
+
+pub identifier-last : (m : ℕ) (l : List ℕ) → getD l (length l - 1) 0 ≡ 95 → false ≡ identifier m l
+unfolding identifier lastByte byteAt
+identifier-last m l e = no _ (λ z. z .1 .0 e)
+
+pub identifier-five : (m : ℕ) (l : List ℕ) {r : Bool} → (getD l (length l - 1) 0 ≡ 95 → ⊥) → r ≡ fiveRules m l → r ≡ identifier m l
+unfolding identifier lastByte byteAt
+identifier-five m l n p = p ∙ go (fiveRules m l) refl
+  where
+    go : (b : Bool) → fiveRules m l ≡ b → fiveRules m l ≡ passes (is (fiveRules m l) ∷ (getD l (length l - 1) 0 ≢? 95) ∷ [])
+    go true e = e ∙ yes _ (e, (n, tt))
+    go false e = e ∙ no _ (λ z. not-both (z .0) e)
+
+last-is : (l : List ℕ) → getD (l ++ 95 ∷ []) (length (l ++ 95 ∷ []) - 1) 0 ≡ 95
+last-is l =
+    let n = length-append l (95 ∷ []) in
+    let e : length l ≡ length (l ++ 95 ∷ []) - 1 = omega arith in
+    getD-at l 95 [] 0 _ e
+
+pub underscores : Underscores
+unfolding identifier lastByte byteAt
+underscores =
+    record {
+      last = λ m l. sym (identifier-last m (l ++ 95 ∷ []) (last-is l));
+      first = λ m l. sym (no _ (λ z. not-both (z .0) (sym (five-first m (95 ∷ l) (letter-between 95 (omega arith) (omega arith)) refl))));
+      else-as-before = λ m l n. sym (identifier-five m l n refl);
+    }

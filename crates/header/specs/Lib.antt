@@ -5,6 +5,7 @@
 -- whether the element is there.
 -- The pages stand in the order in which to read them.
 pub mod Names
+pub mod NameSamples
 pub mod Fields
 pub mod Element
 pub mod Tail

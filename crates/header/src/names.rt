@@ -1,7 +1,7 @@
 // G 3.6.1: identifiers, and comparison of names.
 ghost use mathlib.Core.Path.{_≡_};
 ghost use Rattle.wire.specs.Bytes.{part, sameBytes};
-ghost use Rattle.header.specs.Names.{letter, nameByte, nameBytes, identifier};
+ghost use Rattle.header.specs.Names.{letter, nameByte, nameBytes, fiveRules, identifier};
 
 fn is_letter(b: u8) -> bool
     ensures { λ r. ⌜ r ≡ letter b ⌝ }
@@ -54,9 +54,9 @@ fn are_name_bytes(name: &[u8]) -> bool
     true
 }
 
-// Whether a slice holds an identifier of at most so many characters.
-pub fn is_identifier(name: &[u8], most: usize) -> bool
-    ensures { λ r. ⌜ r ≡ identifier most (now (name .entry)) ⌝ }
+// Whether a slice keeps the five numbered rules, of at most so many characters.
+fn five_rules(name: &[u8], most: usize) -> bool
+    ensures { λ r. ⌜ r ≡ fiveRules most (now (name .entry)) ⌝ }
 {
     if name.len() < 1 {
         return false;
@@ -68,6 +68,20 @@ pub fn is_identifier(name: &[u8], most: usize) -> bool
         return are_name_bytes(&name[1..]);
     }
     false
+}
+
+// Whether a slice holds an identifier of at most so many characters.
+pub fn is_identifier(name: &[u8], most: usize) -> bool
+    ensures { λ r. ⌜ r ≡ identifier most (now (name .entry)) ⌝ }
+{
+    if name.len() < 1 {
+        return false;
+    }
+    let last = name.len() - 1;
+    if name[last] == 95 {
+        return false;
+    }
+    five_rules(name, most)
 }
 
 // The same of the n bytes of a slice from a position on; bytes that are not all there are no identifier.

@@ -2,31 +2,31 @@
 use mathlib.Core.Path.{refl}
 use Rattle.answer.specs.Refusals.{gate, unlessRefused}
 use Rattle.answer.specs.Values.{valueOf}
+use Rattle.bodies.specs.ListDirectories.{entryCount, fileSpaceAt, freeCount, freeEntryAt, metadataAt, metadataCount, metadataEntryAt, metadataEntryEnd, metadataEntrySize}
+use Rattle.bodies.specs.MetadataRecord.{contentLengthAt, dataType, metadataEnd, metadataLength, metadataName, recordId, recordIdAt}
+use Rattle.bodies.specs.TileDirectory.{inRectangle, inSpan, numberOf, referenceAt, referenceFrom, referenceOf, referenceSize, referencesEnd, tileDirectoryAt}
+use Rattle.bodies.specs.TileRecord.{elementContentAt, sectionAt, sectionEnd, sectionLength, tileEnd, tileIndex}
+use Rattle.check_directory.specs.References.{noOther, refersOrZero, refersTo}
+use Rattle.check_directory.specs.TileRules.{formRight, givesTile, rectangleRight, spanRight, tileDirectoryRight, tilesListed, tilesOnly}
 use Rattle.check_header.specs.Ceilings.{sidesWithin, withinCeilings}
 use Rattle.check_header.specs.HeaderRecord.{elementRight, elementsRight, frameRight, headerRight, lengthRight, namesDiffer, optionsRight, positive, sidesRight, tailRight}
 use Rattle.check_header.specs.Identification.{identified, mark, versionRight}
 use Rattle.check_header.specs.Stages.{checkFront, checkHeader, closed, firstTwo, frontRight, nextTwo, stages}
-use Rattle.check_records.specs.Checksum.{summedBytes}
-use Rattle.check_records.specs.MetadataBody.{metadataRight}
-use Rattle.bodies.specs.MetadataRecord.{contentLengthAt, dataType, metadataEnd, metadataLength, metadataName, recordId, recordIdAt}
-use Rattle.check_records.specs.TileBody.{indexRight, sectionPacking, sectionRight, tileRight}
-use Rattle.bodies.specs.TileRecord.{elementContentAt, sectionAt, sectionEnd, sectionLength, tileEnd, tileIndex}
-use Rattle.crc32c.specs.Crc.{crcBit, crcByte, crcOf, crcOver, crcPart}
-use Rattle.check_directory.specs.References.{noOther, refersOrZero, refersTo}
-use Rattle.bodies.specs.TileDirectory.{inRectangle, inSpan, numberOf, referenceAt, referenceFrom, referenceOf, referenceSize, referencesEnd, tileDirectoryAt}
-use Rattle.check_directory.specs.TileRules.{formRight, givesTile, rectangleRight, spanRight, tileDirectoryRight, tilesListed, tilesOnly}
-use Rattle.bodies.specs.ListDirectories.{entryCount, fileSpaceAt, freeCount, freeEntryAt, metadataAt, metadataCount, metadataEntryAt, metadataEntryEnd, metadataEntrySize}
-use Rattle.geometry.specs.Sizes.{cellOffset, elementBytes, packingOf, elementPacking, leastLength, plainTileLength, storedSize, tileBytes, tileLength, uncompressed}
-use Rattle.geometry.specs.Tiles.{insideOf, tileCount, tileIn, tileOf, tilesAcross, tilesAlong, tilesDown, tilesIn}
-use Rattle.header.specs.Element.{blockAt, blockSize, cellSize, descriptionAt, element, elementName, entriesRead, entryAt, entryEnd, entryStart, fillBits, fillOffset, labelAt, stringEnd, stringSize, unitAt}
-use Rattle.header.specs.Names.{identifier, letter, nameByte, nameBytes, within}
-use Rattle.header.specs.Tail.{fieldsEnd, methodCount, methodsAt, productLabelAt}
-use Rattle.lay_down.specs.Answer.{ascending, fitsIn, inputRight, layDownVerdict, inputVerdict, laid, lengthAllowed}
-use Rattle.lay_down.specs.Page.{compactFrom, directoryBody, directoryForm, directoryRecord, directoryStart, fieldsSet, fileLength, laidFile, laidFront, references, sections, tileRecord, tileRecords}
-use Rattle.lay_down.specs.Pieces.{checksumFor, recordHead, recordLength, recordOf, sealed, section, unclosed, zeros}
 use Rattle.check_lists.specs.FileSpace.{fileSpaceRight, freeEntryIs, freeEntryOf, freeFits, freeListed, freeOnly}
 use Rattle.check_lists.specs.Listed.{listedOnce, nothingElse}
 use Rattle.check_lists.specs.Metadata.{keysDistinct, metadataDirectoryRight, metadataEntryIs, metadataEntryOf, metadataFits, metadataListed, metadataOnly, sameKey}
+use Rattle.check_records.specs.Checksum.{summedBytes}
+use Rattle.check_records.specs.MetadataBody.{metadataRight}
+use Rattle.check_records.specs.TileBody.{indexRight, sectionPacking, sectionRight, tileRight}
+use Rattle.crc32c.specs.Crc.{crcBit, crcByte, crcOf, crcOver, crcPart}
+use Rattle.geometry.specs.Sizes.{cellOffset, elementBytes, elementPacking, leastLength, packingOf, plainTileLength, storedSize, tileBytes, tileLength, uncompressed}
+use Rattle.geometry.specs.Tiles.{insideOf, tileCount, tileIn, tileOf, tilesAcross, tilesAlong, tilesDown, tilesIn}
+use Rattle.header.specs.Element.{blockAt, blockSize, cellSize, descriptionAt, element, elementName, entriesRead, entryAt, entryEnd, entryStart, fillBits, fillOffset, labelAt, stringEnd, stringSize, unitAt}
+use Rattle.header.specs.Names.{fiveRules, identifier, lastByte, letter, nameByte, nameBytes, within}
+use Rattle.header.specs.Tail.{fieldsEnd, methodCount, methodsAt, productLabelAt}
+use Rattle.lay_down.specs.Answer.{ascending, fitsIn, inputRight, inputVerdict, laid, layDownVerdict, lengthAllowed}
+use Rattle.lay_down.specs.Page.{compactFrom, directoryBody, directoryForm, directoryRecord, directoryStart, fieldsSet, fileLength, laidFile, laidFront, references, sections, tileRecord, tileRecords}
+use Rattle.lay_down.specs.Pieces.{checksumFor, recordHead, recordLength, recordOf, sealed, section, unclosed, zeros}
 use Rattle.page_check.specs.Stages.{unless}
 use Rattle.record.specs.Chain.{endOf, find, findNot, headerEnd, records, recordsEnd, recordsOf, starts, startsGo}
 use Rattle.record.specs.Record.{padded, recordLimit, recordOk}
@@ -37,5 +37,5 @@ use Rattle.wire.specs.Tests.{allBelow, passes, sumBelow}
 use Rattle.read_back.specs.Sample.{SampleLaid}
 
 pub sample-laid : SampleLaid
-unfolding advance allBelow ascending blockAt blockSize byteAt bytesOf cellOffset cellSize checkFront checkHeader checksumFor closed compactFrom contentLengthAt countBelow crcBit crcByte crcOf crcOver crcPart dataType descriptionAt directoryBody directoryForm directoryRecord directoryStart element elementBytes elementContentAt elementName elementRight elementsRight endOf entriesRead entryAt entryCount entryEnd entryStart every fieldsEnd fieldsSet fileLength fileSpaceAt fileSpaceRight fillBits fillOffset find findNot firstTwo fitsIn formRight frameRight freeCount freeEntryAt freeEntryIs freeEntryOf freeFits freeListed freeOnly frontRight gate givesTile headerEnd headerRight identified identifier inRectangle inSpan indexRight inputRight insideOf packingOf elementPacking layDownVerdict inputVerdict keysDistinct labelAt laid laidFile laidFront leastLength lengthAllowed lengthRight letter listedOnce mark metadataAt metadataCount metadataDirectoryRight metadataEnd metadataEntryAt metadataEntryEnd metadataEntryIs metadataEntryOf metadataEntrySize metadataFits metadataLength metadataListed metadataName metadataOnly metadataRight methodCount methodsAt nameByte nameBytes namesDiffer nextTwo noOther nothingElse number numberAt numberOf oneIf optionsRight padded part passes plainTileLength positive productLabelAt put recordHead recordId recordIdAt recordLength recordLimit recordOf recordOk records recordsEnd recordsOf rectangleRight referenceAt referenceFrom referenceOf referenceSize references referencesEnd refersOrZero refersTo sameBytes sameKey sealed section sectionAt sectionEnd sectionPacking sectionLength sectionRight sections select sidesRight sidesWithin some spanRight stages starts startsGo storedSize stringEnd stringSize sumBelow summedBytes tailRight tileBytes tileCount tileDirectoryAt tileDirectoryRight tileEnd tileIn tileIndex tileLength tileOf tileRecord tileRecords tileRight tilesAcross tilesAlong tilesDown tilesIn tilesListed tilesOnly unclosed uncompressed unitAt unless unlessRefused valueOf versionRight within withinCeilings zeros
+unfolding advance allBelow ascending blockAt blockSize byteAt bytesOf cellOffset cellSize checkFront checkHeader checksumFor closed compactFrom contentLengthAt countBelow crcBit crcByte crcOf crcOver crcPart dataType descriptionAt directoryBody directoryForm directoryRecord directoryStart element elementBytes elementContentAt elementName elementPacking elementRight elementsRight endOf entriesRead entryAt entryCount entryEnd entryStart every fieldsEnd fieldsSet fileLength fileSpaceAt fileSpaceRight fillBits fillOffset find findNot firstTwo fitsIn fiveRules formRight frameRight freeCount freeEntryAt freeEntryIs freeEntryOf freeFits freeListed freeOnly frontRight gate givesTile headerEnd headerRight identified identifier inRectangle inSpan indexRight inputRight inputVerdict insideOf keysDistinct labelAt laid laidFile laidFront lastByte layDownVerdict leastLength lengthAllowed lengthRight letter listedOnce mark metadataAt metadataCount metadataDirectoryRight metadataEnd metadataEntryAt metadataEntryEnd metadataEntryIs metadataEntryOf metadataEntrySize metadataFits metadataLength metadataListed metadataName metadataOnly metadataRight methodCount methodsAt nameByte nameBytes namesDiffer nextTwo noOther nothingElse number numberAt numberOf oneIf optionsRight packingOf padded part passes plainTileLength positive productLabelAt put recordHead recordId recordIdAt recordLength recordLimit recordOf recordOk records recordsEnd recordsOf rectangleRight referenceAt referenceFrom referenceOf referenceSize references referencesEnd refersOrZero refersTo sameBytes sameKey sealed section sectionAt sectionEnd sectionLength sectionPacking sectionRight sections select sidesRight sidesWithin some spanRight stages starts startsGo storedSize stringEnd stringSize sumBelow summedBytes tailRight tileBytes tileCount tileDirectoryAt tileDirectoryRight tileEnd tileIn tileIndex tileLength tileOf tileRecord tileRecords tileRight tilesAcross tilesAlong tilesDown tilesIn tilesListed tilesOnly unclosed uncompressed unitAt unless unlessRefused valueOf versionRight within withinCeilings zeros
 sample-laid = record { answer = refl; bytes = refl }

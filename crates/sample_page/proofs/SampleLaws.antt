@@ -2,35 +2,35 @@
 use mathlib.Core.Path.{refl}
 use Rattle.answer.specs.Refusals.{gate, unlessRefused}
 use Rattle.answer.specs.Values.{valueOf}
+use Rattle.bodies.specs.ListDirectories.{entryCount, fileSpaceAt, freeCount, freeEntryAt, metadataAt, metadataCount, metadataEntryAt, metadataEntryEnd, metadataEntrySize}
+use Rattle.bodies.specs.MetadataRecord.{contentLengthAt, dataType, metadataEnd, metadataLength, metadataName, recordId, recordIdAt}
+use Rattle.bodies.specs.TileDirectory.{inRectangle, inSpan, numberOf, referenceAt, referenceFrom, referenceOf, referenceSize, referencesEnd, tileDirectoryAt}
+use Rattle.bodies.specs.TileRecord.{elementContentAt, sectionAt, sectionEnd, sectionLength, tileEnd, tileIndex}
 use Rattle.cells.specs.Asked.{inGrid}
 use Rattle.cells.specs.Meaning.{meaning}
 use Rattle.cells.specs.Routes.{carries, cellBy, meant, recordsWith}
 use Rattle.cells.specs.TileCells.{cellIn, fillOf, offsetIn, packed, placeIn, storedAt}
+use Rattle.check_directory.specs.References.{noOther, refersOrZero, refersTo}
+use Rattle.check_directory.specs.TileRules.{formRight, givesTile, rectangleRight, spanRight, tileDirectoryRight, tilesListed, tilesOnly}
 use Rattle.check_header.specs.Ceilings.{sidesWithin, withinCeilings}
 use Rattle.check_header.specs.HeaderRecord.{elementRight, elementsRight, frameRight, headerRight, lengthRight, namesDiffer, optionsRight, positive, sidesRight, tailRight}
 use Rattle.check_header.specs.Identification.{identified, mark, versionRight}
 use Rattle.check_header.specs.Stages.{checkHeader, closed, firstTwo, nextTwo, stages}
-use Rattle.check_records.specs.Checksum.{checksumAt, checksumOf, checksumRight, summedBytes}
-use Rattle.check_records.specs.Faults.{bodyFault, bodyRight, chainFault, checksumFault, firstWrong, rightOf}
-use Rattle.check_records.specs.Frame.{endRight}
-use Rattle.check_records.specs.MetadataBody.{metadataRight}
-use Rattle.bodies.specs.MetadataRecord.{contentLengthAt, dataType, metadataEnd, metadataLength, metadataName, recordId, recordIdAt}
-use Rattle.check_records.specs.TileBody.{indexRight, sectionPacking, sectionRight, tileRight}
-use Rattle.bodies.specs.TileRecord.{elementContentAt, sectionAt, sectionEnd, sectionLength, tileEnd, tileIndex}
-use Rattle.crc32c.specs.Crc.{crcBit, crcByte, crcOf, crcOver, crcPart}
-use Rattle.check_directory.specs.References.{noOther, refersOrZero, refersTo}
-use Rattle.bodies.specs.TileDirectory.{inRectangle, inSpan, numberOf, referenceAt, referenceFrom, referenceOf, referenceSize, referencesEnd, tileDirectoryAt}
-use Rattle.check_directory.specs.TileRules.{formRight, givesTile, rectangleRight, spanRight, tileDirectoryRight, tilesListed, tilesOnly}
-use Rattle.bodies.specs.ListDirectories.{entryCount, fileSpaceAt, freeCount, freeEntryAt, metadataAt, metadataCount, metadataEntryAt, metadataEntryEnd, metadataEntrySize}
-use Rattle.geometry.specs.Sizes.{cellOffset, elementBytes, packingOf, elementPacking, leastLength, storedSize, tileBytes, uncompressed}
-use Rattle.geometry.specs.Tiles.{cellInside, cellTile, insideOf, tileCount, tileIn, tileOf, tilesAcross, tilesAlong, tilesDown, tilesIn}
-use Rattle.header.specs.Element.{blockAt, blockSize, cellSize, descriptionAt, element, elementName, entriesRead, entryAt, entryEnd, entryStart, fillBits, fillOffset, labelAt, stringEnd, stringSize, unitAt}
-use Rattle.header.specs.Names.{identifier, letter, nameByte, nameBytes, within}
-use Rattle.header.specs.Tail.{fieldsEnd, methodCount, methodsAt, productLabelAt}
 use Rattle.check_lists.specs.FileSpace.{fileSpaceRight, freeEntryIs, freeEntryOf, freeFits, freeListed, freeOnly}
 use Rattle.check_lists.specs.Listed.{listedOnce, nothingElse}
 use Rattle.check_lists.specs.Metadata.{keysDistinct, metadataDirectoryRight, metadataEntryIs, metadataEntryOf, metadataFits, metadataListed, metadataOnly, sameKey}
 use Rattle.check_lists.specs.Stage.{directoriesRight}
+use Rattle.check_records.specs.Checksum.{checksumAt, checksumOf, checksumRight, summedBytes}
+use Rattle.check_records.specs.Faults.{bodyFault, bodyRight, chainFault, checksumFault, firstWrong, rightOf}
+use Rattle.check_records.specs.Frame.{endRight}
+use Rattle.check_records.specs.MetadataBody.{metadataRight}
+use Rattle.check_records.specs.TileBody.{indexRight, sectionPacking, sectionRight, tileRight}
+use Rattle.crc32c.specs.Crc.{crcBit, crcByte, crcOf, crcOver, crcPart}
+use Rattle.geometry.specs.Sizes.{cellOffset, elementBytes, elementPacking, leastLength, packingOf, storedSize, tileBytes, uncompressed}
+use Rattle.geometry.specs.Tiles.{cellInside, cellTile, insideOf, tileCount, tileIn, tileOf, tilesAcross, tilesAlong, tilesDown, tilesIn}
+use Rattle.header.specs.Element.{blockAt, blockSize, cellSize, descriptionAt, element, elementName, entriesRead, entryAt, entryEnd, entryStart, fillBits, fillOffset, labelAt, stringEnd, stringSize, unitAt}
+use Rattle.header.specs.Names.{fiveRules, identifier, lastByte, letter, nameByte, nameBytes, within}
+use Rattle.header.specs.Tail.{fieldsEnd, methodCount, methodsAt, productLabelAt}
 use Rattle.page_check.specs.Stages.{check, checkDirectories, checkFromRecords, checkRecords, unless}
 use Rattle.record.specs.Chain.{endOf, find, findNot, headerEnd, records, recordsEnd, recordsOf, starts, startsGo}
 use Rattle.record.specs.Record.{padded, recordLimit, recordOk}
@@ -41,5 +41,5 @@ use Rattle.wire.specs.Tests.{allBelow, passes, sumBelow}
 use Rattle.sample_page.specs.Reads.{SampleRead}
 
 pub sample-read : SampleRead
-unfolding advance allBelow blockAt blockSize bodyFault bodyRight byteAt bytesOf carries cellBy cellIn cellInside cellOffset cellSize cellTile chainFault check checkDirectories checkFromRecords checkHeader checkRecords checksumAt checksumFault checksumOf checksumRight closed contentLengthAt countBelow crcBit crcByte crcOf crcOver crcPart dataType descriptionAt directoriesRight element elementBytes elementContentAt elementName elementRight elementsRight endOf endRight entriesRead entryAt entryCount entryEnd entryStart every fieldsEnd fileSpaceAt fileSpaceRight fillBits fillOf fillOffset find findNot firstTwo firstWrong formRight frameRight freeCount freeEntryAt freeEntryIs freeEntryOf freeFits freeListed freeOnly gate givesTile headerEnd headerRight identified identifier inGrid inRectangle inSpan indexRight insideOf packingOf elementPacking keysDistinct labelAt leastLength lengthRight letter listedOnce mark meaning meant metadataAt metadataCount metadataDirectoryRight metadataEnd metadataEntryAt metadataEntryEnd metadataEntryIs metadataEntryOf metadataEntrySize metadataFits metadataLength metadataListed metadataName metadataOnly metadataRight methodCount methodsAt nameByte nameBytes namesDiffer nextTwo noOther nothingElse number numberAt numberOf offsetIn oneIf optionsRight packed padded part passes placeIn positive productLabelAt recordId recordIdAt recordLimit recordOk records recordsEnd recordsOf recordsWith rectangleRight referenceAt referenceFrom referenceOf referenceSize referencesEnd refersOrZero refersTo rightOf sameBytes sameKey sectionAt sectionEnd sectionPacking sectionLength sectionRight select sidesRight sidesWithin some spanRight stages starts startsGo storedAt storedSize stringEnd stringSize sumBelow summedBytes tailRight tileBytes tileCount tileDirectoryAt tileDirectoryRight tileEnd tileIn tileIndex tileOf tileRight tilesAcross tilesAlong tilesDown tilesIn tilesListed tilesOnly uncompressed unitAt unless unlessRefused valueOf versionRight within withinCeilings
+unfolding advance allBelow blockAt blockSize bodyFault bodyRight byteAt bytesOf carries cellBy cellIn cellInside cellOffset cellSize cellTile chainFault check checkDirectories checkFromRecords checkHeader checkRecords checksumAt checksumFault checksumOf checksumRight closed contentLengthAt countBelow crcBit crcByte crcOf crcOver crcPart dataType descriptionAt directoriesRight element elementBytes elementContentAt elementName elementPacking elementRight elementsRight endOf endRight entriesRead entryAt entryCount entryEnd entryStart every fieldsEnd fileSpaceAt fileSpaceRight fillBits fillOf fillOffset find findNot firstTwo firstWrong fiveRules formRight frameRight freeCount freeEntryAt freeEntryIs freeEntryOf freeFits freeListed freeOnly gate givesTile headerEnd headerRight identified identifier inGrid inRectangle inSpan indexRight insideOf keysDistinct labelAt lastByte leastLength lengthRight letter listedOnce mark meaning meant metadataAt metadataCount metadataDirectoryRight metadataEnd metadataEntryAt metadataEntryEnd metadataEntryIs metadataEntryOf metadataEntrySize metadataFits metadataLength metadataListed metadataName metadataOnly metadataRight methodCount methodsAt nameByte nameBytes namesDiffer nextTwo noOther nothingElse number numberAt numberOf offsetIn oneIf optionsRight packed packingOf padded part passes placeIn positive productLabelAt recordId recordIdAt recordLimit recordOk records recordsEnd recordsOf recordsWith rectangleRight referenceAt referenceFrom referenceOf referenceSize referencesEnd refersOrZero refersTo rightOf sameBytes sameKey sectionAt sectionEnd sectionLength sectionPacking sectionRight select sidesRight sidesWithin some spanRight stages starts startsGo storedAt storedSize stringEnd stringSize sumBelow summedBytes tailRight tileBytes tileCount tileDirectoryAt tileDirectoryRight tileEnd tileIn tileIndex tileOf tileRight tilesAcross tilesAlong tilesDown tilesIn tilesListed tilesOnly uncompressed unitAt unless unlessRefused valueOf versionRight within withinCeilings
 sample-read = record { accepted = refl; stored = refl; fill = refl }

@@ -70,14 +70,15 @@ fn met(functions: &[Function], number: u32) -> usize {
 }
 
 impl Run {
-    /// The five functions.
-    pub fn functions(&self) -> [Function; 5] {
+    /// The six functions. Of names no answer is a refusal.
+    pub fn functions(&self) -> [Function; 6] {
         [
             Function::new("gvrs_check", self.answers()),
             Function::new("gvrs_cell", self.reads.cell_answers()),
             Function::new("gvrs_content", self.reads.content_answers()),
             Function::new("gvrs_lay_down", self.lay_downs.answers()),
             Function::new("gvrs_list", self.listings.answers()),
+            Function::new("gvrs_is_identifier", [(0, self.names)].into_iter()),
         ]
     }
 }

@@ -15,6 +15,7 @@ mod lay_downs;
 mod lengths;
 mod listings;
 mod made;
+mod names;
 mod out;
 mod reads;
 mod run;
@@ -52,7 +53,7 @@ fn main() -> ExitCode {
 
 /// Every section. Each has a generator of its own, so that one can change without the others.
 fn whole_run(seed: u64, small: bool) -> bool {
-    let sections: [fn(&mut Run, &mut Prng); 12] = [
+    let sections: [fn(&mut Run, &mut Prng); 13] = [
         sample_sums::section,
         made::section,
         allowed::section,
@@ -65,6 +66,7 @@ fn whole_run(seed: u64, small: bool) -> bool {
         lay_downs::section,
         listings::section,
         stack::section,
+        names::section,
     ];
     let mut run = Run::new(small);
     for (number, section) in sections.into_iter().enumerate() {

@@ -26,6 +26,8 @@ pub struct Run {
     pub reads: reads::tally::Tally,
     pub lay_downs: lay_downs::tally::Tally,
     pub listings: listings::tally::Tally,
+    /// Names asked about.
+    pub names: usize,
     faults: usize,
 }
 
@@ -54,6 +56,7 @@ impl Run {
             reads: reads::tally::Tally::new(),
             lay_downs: lay_downs::tally::Tally::new(),
             listings: listings::tally::Tally::new(),
+            names: 0,
             faults: 0,
         }
     }

@@ -1,7 +1,7 @@
-//! Document 01's sample sums that the check shows, and published checksums.
+//! Document 01's sample sums that the check shows, those of Req 02, and published checksums.
 
 use gvrs_tests::build::{build, bytes_of, make_checksums_good};
-use gvrs_tests::page::{Body, Element, Page, Tile, SHORT};
+use gvrs_tests::page::{Body, Element, Metadata, Page, Tile, SHORT};
 use gvrs_tests::prng::Prng;
 use gvrs_tests::second::crc32c::crc32c;
 
@@ -14,6 +14,7 @@ pub fn section(run: &mut Run, _: &mut Prng) {
     record_lengths(run);
     content_lengths(run);
     chain_samples(run);
+    names(run);
     run.expect(SORT, "an empty file", &[], (1, 0));
 }
 
@@ -92,4 +93,20 @@ fn chain_samples(run: &mut Run) {
         make_checksums_good(&mut damaged.bytes);
         run.expect(SORT, "opened and a broken chain", &damaged.bytes, (5, 0));
     }
+}
+
+/// An element named `z_` is 3 at 0, a metadata record 8 at its start; a method passes.
+fn names(run: &mut Run) {
+    let mut page = Page::plain();
+    page.elements[0].name = b"z_".to_vec();
+    run.expect(SORT, "an element named z_", &bytes_of(&page), (3, 0));
+    let mut page = Page::plain();
+    page.insert(1, Body::Metadata(Metadata::new(b"z_", 0)));
+    page.insert(2, Body::MetadataDirectory(vec![1]));
+    let built = build(&page);
+    let start = built.starts[1] as u64;
+    run.expect(SORT, "a metadata record named z_", &built.bytes, (8, start));
+    let mut page = Page::plain();
+    page.methods = vec![b"z_".to_vec()];
+    run.expect(SORT, "a method named z_", &bytes_of(&page), (0, 0));
 }

@@ -254,6 +254,15 @@ fn metadata_name_aims() -> Vec<Aim> {
         Aim::description(8, "a metadata name with a byte that is not ASCII", |page, random| {
             spoil_name(page, BadName::NotAscii, random)
         }),
+        Aim::description(8, "a metadata name that ends in an underscore", |page, random| {
+            spoil_name(page, BadName::Ending, random)
+        }),
+        Aim::description(8, "a metadata name of one letter and 31 underscores", |page, random| {
+            spoil_name(page, BadName::Underscores, random)
+        }),
+        Aim::description(8, "a metadata name that is one underscore", |page, random| {
+            spoil_name(page, BadName::Underscore, random)
+        }),
     ]
 }
 
@@ -265,10 +274,10 @@ fn any_metadata<'a>(page: &'a mut Page, random: &mut Prng) -> Option<(usize, &'a
     }
 }
 
+/// The record's name, and with it the name in its directory entry.
 fn spoil_name(page: &mut Page, bad: BadName, random: &mut Prng) -> Option<At> {
-    let name = bad_name(bad, random);
     let (number, metadata) = any_metadata(page, random)?;
-    metadata.name = name;
+    metadata.name = bad_name(bad, &metadata.name, random);
     Some(At::Record(number))
 }
 

@@ -62,6 +62,7 @@ fn count_aims() -> Vec<Aim> {
         Aim::bytes(4, "tiles above 65,536", many_tiles),
         Aim::description(4, "elements above 16", many_elements),
         Aim::description(4, "elements above 16, faults behind the 16th", faults_behind_16),
+        Aim::description(4, "elements above 16, the 17th named z_", named_z_behind_16),
         Aim::bytes(4, "elements above 16, the record ends there", record_ends_behind_16),
         Aim::bytes(4, "tile bytes above 1,048,576", many_tile_bytes),
     ]
@@ -107,6 +108,13 @@ fn faults_behind_16(page: &mut Page, random: &mut Prng) -> Option<At> {
         2 => page.elements[16].name = page.elements[0].name.clone(),
         _ => page.surplus = 8,
     }
+    Some(At::Zero)
+}
+
+/// A name that would be refused among the first 16.
+fn named_z_behind_16(page: &mut Page, random: &mut Prng) -> Option<At> {
+    more_than_16(page, random);
+    page.elements[16].name = b"z_".to_vec();
     Some(At::Zero)
 }
 

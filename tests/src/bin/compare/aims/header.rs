@@ -223,13 +223,23 @@ fn name_aims() -> Vec<Aim> {
         Aim::description(3, "a name with a byte that is not ASCII", |page, random| {
             spoil_name(page, BadName::NotAscii, random)
         }),
+        Aim::description(3, "a name that ends in an underscore", |page, random| {
+            spoil_name(page, BadName::Ending, random)
+        }),
+        Aim::description(3, "a name of one letter and 31 underscores", |page, random| {
+            spoil_name(page, BadName::Underscores, random)
+        }),
+        Aim::description(3, "a name that is one underscore", |page, random| {
+            spoil_name(page, BadName::Underscore, random)
+        }),
         Aim::description(3, "no two names are equal", equal_names),
     ]
 }
 
 fn spoil_name(page: &mut Page, bad: BadName, random: &mut Prng) -> Option<At> {
     let element = random.below(page.elements.len());
-    page.elements[element].name = bad_name(bad, random);
+    let name = &mut page.elements[element].name;
+    *name = bad_name(bad, name, random);
     Some(At::Zero)
 }
 
@@ -318,8 +328,9 @@ fn bad_type_of_many(page: &mut Page, random: &mut Prng) -> Option<At> {
 
 fn bad_name_of_many(page: &mut Page, random: &mut Prng) -> Option<At> {
     more_than_16(page, random);
-    let bad = random.pick(&[BadName::TooLong, BadName::Beginning, BadName::Character]);
-    page.elements[one_of_16(random)].name = bad_name(bad, random);
+    let bad = [BadName::TooLong, BadName::Beginning, BadName::Character, BadName::Ending];
+    let name = &mut page.elements[one_of_16(random)].name;
+    *name = bad_name(random.pick(&bad), name, random);
     Some(At::Zero)
 }
 

@@ -136,6 +136,7 @@ fn entry_aims() -> Vec<Aim> {
         Aim::bytes(9, "listed by name", name_changed),
         Aim::bytes(9, "listed by name, with case", name_case_changed),
         Aim::bytes(9, "listed by name: the same length", name_length_changed),
+        Aim::bytes(9, "listed by name: the entry's alone ends in an underscore", underscore_last),
         Aim::bytes(9, "listed by record ID", |built, random| {
             flip_a_bit(built, "listed ID", random)
         }),
@@ -176,6 +177,12 @@ fn name_length_changed(built: &mut Built, _: &mut Prng) -> Option<At> {
     built.set(&field, length);
     built.bytes.copy_within(behind + 1..behind + 6, behind);
     (built.left_behind(behind + 5, field.owner?) <= 7).then_some(At::Header)
+}
+
+fn underscore_last(built: &mut Built, random: &mut Prng) -> Option<At> {
+    let field = a_name(built, random)?;
+    built.bytes[field.at + field.width - 1] = b'_';
+    Some(At::Header)
 }
 
 fn flip_a_bit(built: &mut Built, name: &str, random: &mut Prng) -> Option<At> {

@@ -4,6 +4,7 @@ use gvrs_tests::build::{build, bytes_of};
 use gvrs_tests::page::{Element, Page, FLOAT, INTEGER, INTEGER_CODED, SHORT};
 use gvrs_tests::prng::Prng;
 
+use super::UNDERSCORES_INSIDE;
 use crate::run::Run;
 
 const TYPES: [u8; 4] = [INTEGER, INTEGER_CODED, FLOAT, SHORT];
@@ -62,9 +63,16 @@ fn name_characters(run: &mut Run) {
     for byte in (b'A'..=b'Z').chain(b'a'..=b'z') {
         accept_name(run, "a name begins with any letter", &[byte]);
     }
-    for byte in (b'A'..=b'Z').chain(b'a'..=b'z').chain(b'0'..=b'9').chain([b'_']) {
+    let letters_and_numbers = (b'A'..=b'Z').chain(b'a'..=b'z').chain(b'0'..=b'9');
+    for byte in letters_and_numbers.clone().chain([b'_']) {
         accept_name(run, "a name goes on with letters, numbers, underscores", &[b'q', byte, b'q']);
-        accept_name(run, "a name ends with any of these", &[b'q', byte]);
+    }
+    for byte in letters_and_numbers {
+        accept_name(run, "a name ends with a letter or a number", &[b'q', byte]);
+        accept_name(run, "a name ends so behind an underscore too", &[b'q', b'_', byte]);
+    }
+    for name in UNDERSCORES_INSIDE {
+        accept_name(run, "a name has underscores inside", name);
     }
 }
 
@@ -73,8 +81,14 @@ fn near_names(run: &mut Run) {
     let long = [b'a'; 32];
     let mut other = long;
     other[31] = b'b';
-    let pairs: [[&[u8]; 2]; 5] =
-        [[b"Score", b"score"], [b"a", b"ab"], [b"a_", b"a"], [&long, &other], [&long[..31], &long]];
+    let pairs: [[&[u8]; 2]; 6] = [
+        [b"Score", b"score"],
+        [b"a", b"ab"],
+        [b"a_1", b"a"],
+        [b"a__1", b"a_1"],
+        [&long, &other],
+        [&long[..31], &long],
+    ];
     for [one, two] in pairs {
         for names in [[one, two], [two, one]] {
             let mut page = Page::plain();
@@ -104,10 +118,11 @@ fn printed_values(run: &mut Run) {
 }
 
 fn methods(run: &mut Run) {
-    let lists: [Vec<Vec<u8>>; 7] = [
+    let lists: [Vec<Vec<u8>>; 8] = [
         vec![b"GvrsHuffman".to_vec(), b"GvrsDeflate".to_vec()],
         vec![Vec::new()],
         vec![b"9 not an identifier".to_vec()],
+        vec![b"gvrs_".to_vec()],
         vec![vec![0xff; 33]],
         vec![b"same".to_vec(), b"same".to_vec()],
         vec![Vec::new(); 300],

@@ -4,6 +4,7 @@ use gvrs_tests::build::{build, bytes_of, Built};
 use gvrs_tests::page::{Body, Element, Metadata, Page, Tile, FLOAT, INTEGER, INTEGER_CODED, SHORT};
 use gvrs_tests::prng::Prng;
 
+use super::UNDERSCORES_INSIDE;
 use crate::run::Run;
 
 pub fn section(run: &mut Run, random: &mut Prng) {
@@ -102,10 +103,14 @@ fn metadata_names(run: &mut Run) {
         let built = with_metadata(vec![Metadata::new(&vec![b'm'; length], 0)]);
         run.accept("metadata names of 1 to 32 bytes", &built.bytes);
     }
+    for name in UNDERSCORES_INSIDE {
+        let built = with_metadata(vec![Metadata::new(name, 0)]);
+        run.accept("a metadata name has underscores inside", &built.bytes);
+    }
     let keys: [[(&[u8], u32); 3]; 4] = [
         [(b"Author", 0), (b"Author", 1), (b"Author", 0xffff_ffff)],
         [(b"Author", 7), (b"author", 7), (b"Autho", 7)],
-        [(b"z", 0), (b"z_", 0), (b"z0", 0)],
+        [(b"z", 0), (b"z_1", 0), (b"z0", 0)],
         [(b"a", 1), (b"b", 1), (b"a", 2)],
     ];
     for records in keys {
