@@ -23,12 +23,12 @@ enum {
     GVRS_ACCEPTED = 0,     /* the file is accepted, the page is laid down */
     GVRS_NOT_GVRS = 1,     /* fewer than 16 bytes, or the first twelve differ */
     GVRS_VERSION = 2,      /* not version 1.4 */
-    GVRS_HEADER = 3,       /* header record at fault: also an element's name, as gvrs_is_identifier says */
+    GVRS_HEADER = 3,       /* header record at fault: also a name or a text, as the last two functions say */
     GVRS_CEILING = 4,      /* a house ceiling is passed */
     GVRS_OPENED = 5,       /* time opened for writing is not zero */
     GVRS_CHAIN = 6,        /* chain at fault */
     GVRS_CHECKSUM = 7,     /* checksum at fault */
-    GVRS_BODY = 8,         /* body of a tile or metadata record at fault: also a metadata record's name */
+    GVRS_BODY = 8,         /* body of a tile or metadata record at fault: also its name or description */
     GVRS_DIRECTORY = 9,    /* directory at fault */
     GVRS_OUTSIDE = 10,     /* row, column, element or tile asked for not in the grid */
     GVRS_COMPRESSED = 11,  /* content asked for is compressed */
@@ -78,6 +78,9 @@ uint64_t gvrs_list(const uint8_t *file, uint64_t n, uint8_t *text, uint64_t text
 /* 1 if the bytes are a name that an element or a metadata record may have, else 0: 1 to 32 letters, digits and underscores of
    ASCII, a letter first, no underscore last. */
 uint32_t gvrs_is_identifier(const uint8_t *name, uint64_t n);
+
+/* 1 if the bytes are UTF-8 by RFC 3629, as every label, description and unit has to be, else 0. */
+uint32_t gvrs_is_utf8(const uint8_t *text, uint64_t n);
 
 #ifdef __cplusplus
 }

@@ -2,6 +2,7 @@
 //! run.
 
 mod checksum;
+mod descriptions;
 mod lay_downs;
 mod look_up;
 mod reads;
@@ -32,6 +33,7 @@ fn main() {
         measure_reverse(length);
     }
     checksum::measure();
+    descriptions::measure();
     reads::measure();
     look_up::measure();
     lay_downs::measure();

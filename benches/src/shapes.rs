@@ -59,6 +59,31 @@ pub fn many_metadata(checksums: bool) -> Vec<u8> {
     bytes_of(&page)
 }
 
+/// 256 metadata records, each but the last with a description as long as it can be. The last one's
+/// fills the file.
+pub fn descriptions(character: &str) -> Vec<u8> {
+    let mut page = Page::plain();
+    let first = page.records.len();
+    for id in 0..255 {
+        page.records.push(described(id, character, 65_535));
+    }
+    page.records.push(described(255, character, 0));
+    let listed = (first..page.records.len()).collect();
+    page.records.push(Record::new(Body::MetadataDirectory(listed)));
+    let left = CEILING - bytes_of(&page).len();
+    page.records[first + 255] = described(255, character, left);
+    bytes_of(&page)
+}
+
+/// A metadata record with a description of so many bytes: the character again and again, and letters
+/// where it would be cut.
+fn described(id: u32, character: &str, length: usize) -> Record {
+    let mut metadata = Metadata::new(b"Deed", id);
+    metadata.description = character.repeat(length / character.len()).into_bytes();
+    metadata.description.resize(length, b'e');
+    Record::new(Body::Metadata(metadata))
+}
+
 /// How many free records of 16 bytes fit, each with an entry of 12 bytes.
 pub fn free_records(length: usize) -> usize {
     (length - 1024) / 28

@@ -192,7 +192,8 @@ impl Writer {
         self.put(name, Role::Unjudged, bytes);
     }
 
-    fn identifier(&mut self, length_name: &'static str, name: &'static str, bytes: &[u8]) {
+    /// An identifier, or a text in UTF-8.
+    fn judged_string(&mut self, length_name: &'static str, name: &'static str, bytes: &[u8]) {
         self.put(length_name, Role::Count, &(bytes.len() as u16).to_le_bytes());
         self.put(name, Role::Judged, bytes);
     }
@@ -243,7 +244,7 @@ impl Writer {
         for method in &page.methods {
             self.string("method name length", "method name", method);
         }
-        self.string("product label length", "product label", &page.label);
+        self.judged_string("product label length", "product label", &page.label);
         self.filler("reserved", 8);
         self.close(start, page.surplus);
     }
@@ -279,12 +280,16 @@ impl Writer {
         self.put("element type", Role::Judged, &[element.type_code]);
         self.put("continuous", Role::Unjudged, &[element.continuous]);
         self.filler("reserved", 6);
-        self.identifier("element name length", "element name", &element.name);
+        self.judged_string("element name length", "element name", &element.name);
         self.put("range and fill", Role::Unjudged, &element.range_and_fill);
         self.fill_to_four("element padding");
-        self.string("element label length", "element label", &element.label);
-        self.string("element description length", "element description", &element.description);
-        self.string("element unit length", "element unit", &element.unit);
+        self.judged_string("element label length", "element label", &element.label);
+        self.judged_string(
+            "element description length",
+            "element description",
+            &element.description,
+        );
+        self.judged_string("element unit length", "element unit", &element.unit);
         self.fill_to_four("element padding");
     }
 
@@ -331,13 +336,13 @@ impl Writer {
 
     /// G Table 14.
     fn metadata(&mut self, metadata: &Metadata) {
-        self.identifier("metadata name length", "metadata name", &metadata.name);
+        self.judged_string("metadata name length", "metadata name", &metadata.name);
         self.integer("metadata ID", Role::Judged, metadata.id);
         self.put("metadata type", Role::Judged, &[metadata.data_type]);
         self.integer("metadata content length", Role::Count, metadata.content.len() as u32);
         self.put("metadata content", Role::Unjudged, &metadata.content);
         let description = &metadata.description;
-        self.string("metadata description length", "metadata description", description);
+        self.judged_string("metadata description length", "metadata description", description);
     }
 
     /// G Tables 15 and 16.
@@ -369,7 +374,7 @@ impl Writer {
                 _ => &unnamed,
             };
             self.long("metadata position", Role::Reference, starts[*number] as u64 + 8);
-            self.identifier("listed name length", "listed name", &metadata.name);
+            self.judged_string("listed name length", "listed name", &metadata.name);
             self.integer("listed ID", Role::Judged, metadata.id);
             self.put("listed type", Role::Judged, &[metadata.data_type]);
         }

@@ -38,6 +38,7 @@ extern "C" {
     ) -> u32;
     fn gvrs_list(file: *const u8, n: u64, text: *mut u8, text_n: u64) -> u64;
     fn gvrs_is_identifier(name: *const u8, n: u64) -> u32;
+    fn gvrs_is_utf8(text: *const u8, n: u64) -> u32;
 }
 
 /// The routes of `gvrs_cell`. Every other number is the directory too.
@@ -123,6 +124,12 @@ pub fn list_into(file: &[u8], text: &mut [u8]) -> u64 {
 pub fn is_identifier(name: &[u8]) -> u32 {
     // The slice is alive for the whole call.
     unsafe { gvrs_is_identifier(name.as_ptr(), name.len() as u64) }
+}
+
+/// 1 if the bytes are UTF-8, as every label, description and unit has to be, else 0.
+pub fn is_utf8(text: &[u8]) -> u32 {
+    // The slice is alive for the whole call.
+    unsafe { gvrs_is_utf8(text.as_ptr(), text.len() as u64) }
 }
 
 /// What `out` holds before a call, so that a number left unwritten shows.

@@ -18,7 +18,7 @@ pub fn random_page(random: &mut Prng) -> Page {
     page.coordinate_system = random.below(3) as u8;
     page.elements = elements(random);
     sides(&mut page, random);
-    page.methods = (0..random.below(4)).map(|_| text(random)).collect();
+    page.methods = (0..random.below(4)).map(|_| any_bytes(random)).collect();
     page.label = text(random);
     let directory = tiles(&mut page, random);
     metadata(&mut page, random);
@@ -38,14 +38,51 @@ fn unjudged_fields(page: &mut Page, random: &mut Prng) {
     }
 }
 
-/// A string of any bytes, mostly short, sometimes empty.
-fn text(random: &mut Prng) -> Vec<u8> {
-    let length = match random.below(8) {
+/// A string's length: mostly short, sometimes 0.
+fn string_length(random: &mut Prng) -> usize {
+    match random.below(8) {
         0..=2 => 0,
         3..=6 => random.between(1, 20),
         _ => random.between(21, 300),
-    };
+    }
+}
+
+/// What no rule looks into: a method's name, or a metadata record's content.
+fn any_bytes(random: &mut Prng) -> Vec<u8> {
+    let length = string_length(random);
     random.bytes(length)
+}
+
+/// A label, a description or a unit, in UTF-8.
+fn text(random: &mut Prng) -> Vec<u8> {
+    let length = string_length(random);
+    text_of(length, random)
+}
+
+/// A text of so many bytes, with characters of every length.
+pub fn text_of(length: usize, random: &mut Prng) -> Vec<u8> {
+    let mut text = String::new();
+    while text.len() < length {
+        let most = (length - text.len()).min(4);
+        text.push(character(random.between(1, most), random));
+    }
+    text.into_bytes()
+}
+
+/// A character that takes so many bytes in UTF-8, often the first or the last of these, next to the
+/// surrogates, U+FEFF or a noncharacter.
+pub fn character(bytes: usize, random: &mut Prng) -> char {
+    let (codes, often): (_, &[usize]) = match bytes {
+        1 => ([0, 0x7f], &[0, 0x7f]),
+        2 => ([0x80, 0x7ff], &[0x80, 0x7ff]),
+        3 => ([0x800, 0xffff], &[0x800, 0xd7ff, 0xe000, 0xfeff, 0xfffe, 0xffff]),
+        _ => ([0x1_0000, 0x10_ffff], &[0x1_0000, 0x10_ffff]),
+    };
+    let [first, last] = codes;
+    let any = random.between(first, last);
+    let code = if random.one_in(3) { random.pick(often) } else { any };
+    // A surrogate is no character; U+FFFD takes three bytes too.
+    char::from_u32(code as u32).unwrap_or(char::REPLACEMENT_CHARACTER)
 }
 
 fn elements(random: &mut Prng) -> Vec<Element> {
@@ -230,7 +267,7 @@ fn metadata(page: &mut Page, random: &mut Prng) {
     }
     for (name, id) in keys {
         let data_type = random.below(10) as u8;
-        let (content, description) = (text(random), text(random));
+        let (content, description) = (any_bytes(random), text(random));
         let metadata = Metadata { name, id, data_type, content, description };
         page.records.push(Record::new(Body::Metadata(metadata)));
     }

@@ -28,8 +28,11 @@ unfoldable pub metadataLength : List ℕ → ℕ → ℕ
 metadataLength s at = u32At s (contentLengthAt s at)
 
 -- behind the content the description, a string
+unfoldable pub metadataDescriptionAt : List ℕ → ℕ → ℕ
+metadataDescriptionAt s at = contentLengthAt s at + 4 + metadataLength s at
+
 unfoldable pub metadataEnd : List ℕ → ℕ → ℕ
-metadataEnd s at = stringEnd s (contentLengthAt s at + 4 + metadataLength s at)
+metadataEnd s at = stringEnd s (metadataDescriptionAt s at)
 
 -- where the record ID stands, if `at` lies in the file; 0 where not
 unfoldable pub recordIdStart : List ℕ → ℕ → ℕ

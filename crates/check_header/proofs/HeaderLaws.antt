@@ -12,7 +12,8 @@ use Rattle.header.specs.declared.Element.{Element}
 use Rattle.header.specs.Names.{identifier}
 use Rattle.header.specs.Fields.{elementCount, headerLimit}
 use Rattle.header.specs.Element.{element, elementName, entryStart, entriesRead}
-use Rattle.header.specs.Tail.{methodCount, fieldsEnd}
+use Rattle.header.specs.Texts.{textRight, entryTexts}
+use Rattle.header.specs.Tail.{methodCount, productLabelAt, fieldsEnd}
 use Rattle.geometry.specs.Sizes.{cap}
 use Rattle.check_header.specs.Identification.{mark, identified}
 use Rattle.check_header.specs.HeaderRecord.{positive, namesDiffer, elementRight, elementsRight, tailRight}
@@ -59,11 +60,17 @@ module _ (s : List ℕ) (e : ℕ) (x : Element) (p : x ≡ element s e) where
     unfolding elementRight
     name-not f = no _ (λ z. not-both (z .1 .0) (sym named ∙ f))
 
-    pub element-last : (t : Bool) → t ≡ allBelow e (namesDiffer s e) → x .kind ≤ 3 → r ≡ true → t ≡ elementRight s e
-    unfolding elementRight
-    element-last t u h f =
-        let k : element s e .kind ≤ 3 = rw p at h in
-        either-way _ t (λ g. (k, (sym named ∙ f, (sym u ∙ g, tt)))) (λ g z. not-both (z .1 .1 .0) (sym u ∙ g))
+    module _ (n : Bool) (v : n ≡ allBelow e (namesDiffer s e)) where
+      pub new-not : n ≡ false → false ≡ elementRight s e
+      unfolding elementRight
+      new-not f = no _ (λ z. not-both (z .1 .1 .0) (sym v ∙ f))
+
+      pub element-last :
+          (t : Bool) → t ≡ entryTexts s (entryStart s e) → x .kind ≤ 3 → r ≡ true → n ≡ true → t ≡ elementRight s e
+      unfolding elementRight
+      element-last t u h f g =
+          let k : element s e .kind ≤ 3 = rw p at h in
+          either-way _ t (λ o. (k, (sym named ∙ f, (sym v ∙ g, (sym u ∙ o, tt))))) (λ o z. not-both (z .1 .1 .1 .0) (sym u ∙ o))
 
 -- the elements
 
@@ -104,9 +111,13 @@ module _ (s : List ℕ) (c m : ℕ) (p : c ≡ elementCount s) (q : m ≡ method
     unfolding tailRight
     tail-loose j k = rw (le-leb (elementCount s) 16 (omega arith)) (no _ (λ z. omega arith))
 
-    pub tail-fits : m ≤ largestInteger → e ≤ l → l - e ≤ 7 → true ≡ tailRight s
+    pub tail-fits :
+        (a : ℕ) → a ≡ productLabelAt s → (t : Bool) → t ≡ textRight s a → m ≤ largestInteger → e ≤ l → l - e ≤ 7 → t ≡ tailRight s
     unfolding tailRight
-    tail-fits i j k = rw (le-leb (elementCount s) 16 (omega arith)) (yes _ (omega arith, (omega arith, (omega arith, tt))))
+    tail-fits a w t o i j k =
+        let n : t ≡ textRight s (productLabelAt s) = o ∙ ap (textRight s) w in
+        rw (le-leb (elementCount s) 16 (omega arith))
+        (either-way _ t (λ g. (omega arith, (omega arith, (omega arith, (sym n ∙ g, tt))))) (λ g z. not-both (z .1 .1 .1 .0) (sym n ∙ g)))
 
 -- ceilings: U is held under a bound that lies above its ceiling
 

@@ -15,6 +15,7 @@ use Rattle.header.specs.Fields.{gridRows, gridColumns, tileRows, tileColumns, e
 use Rattle.record.specs.Chain.{headerEnd}
 use Rattle.header.specs.Element.{entryStart, entriesRead}
 use Rattle.header.proofs.SameLaws.{SameRest, limit-same, start-same, start-least, limit-is, element-same, element-name-same, method-count-same, fields-end-same}
+use Rattle.header.proofs.TextLaws.{element-texts-same, product-text-same}
 use Rattle.geometry.specs.Tiles.{tileCount}
 use Rattle.geometry.specs.Sizes.{elementBytes, tileBytes}
 use Rattle.check_header.specs.Identification.{identified, versionRight}
@@ -142,7 +143,12 @@ module _ (s t : List ℕ) (j : SameJudged s t) where
       let d : allBelow e (namesDiffer s e) ≡ allBelow e (namesDiffer t e) =
       below-same e (namesDiffer s e) (namesDiffer t e)
       (λ i l. rw (element-name-same s t sameRest i (entriesRead s) (omega arith) (f .last), element-name-same s t sameRest e (entriesRead s) h (f .last))) in
-      rw (element-same s t sameRest e (entriesRead s) h (f .last), element-name-same s t sameRest e (entriesRead s) h (f .last), d)
+      rw (
+        element-same s t sameRest e (entriesRead s) h (f .last),
+        element-name-same s t sameRest e (entriesRead s) h (f .last),
+        d,
+        element-texts-same s t sameRest e (entriesRead s) h (f .last),
+      )
 
   bytes-to : Fit s t → tileBytes s ≡ tileBytes t
   unfolding tileBytes elementBytes
@@ -169,7 +175,8 @@ module _ (s t : List ℕ) (j : SameJudged s t) where
       let m = method-count-same s t sameRest c (a .1 .0) in
       let f = fields-end-same s t sameRest c (a .1 .0) in
       let l = limit-same s t sameRest in
-      rw (← c, le-leb (elementCount s) 16 h) (sym (yes _ (omega (arith, a .0), (omega (arith, a .1 .0), (omega (arith, a .1 .1 .0), tt))))))
+      let p = product-text-same s t sameRest c (a .1 .0) in
+      rw (← c, le-leb (elementCount s) 16 h) (sym (yes _ (omega (arith, a .0), (omega (arith, a .1 .0), (omega (arith, a .1 .1 .0), (sym p ∙ a .1 .1 .1 .0, tt)))))))
       (λ n. let h : 16 < elementCount s = omega arith in rw (← c, lt-leb (elementCount s) 16 h))
 
   pub header-fit : (n : ℕ) → headerRight s n ≡ true → Fit s t

@@ -11,7 +11,8 @@ use Rattle.header.specs.Names.{identifier}
 use Rattle.header.specs.Fields.{headerLength, headerType, gridRows, gridColumns, tileRows, tileColumns, checksumEnabled, rasterSpace, coordinateSystem, elementCount, headerLimit}
 use Rattle.record.specs.Chain.{headerEnd}
 use Rattle.header.specs.Element.{entryStart, element, elementName, entriesRead}
-use Rattle.header.specs.Tail.{methodCount, fieldsEnd}
+use Rattle.header.specs.Texts.{textRight, entryTexts}
+use Rattle.header.specs.Tail.{methodCount, productLabelAt, fieldsEnd}
 
 -- its length is a multiple of 8, not negative, and ends inside the file
 unfoldable pub lengthRight : List ℕ → ℕ → Bool
@@ -40,11 +41,12 @@ unfoldable pub namesDiffer : List ℕ → ℕ → ℕ → Bool
 namesDiffer s e d = passes (isNot (sameBytes (elementName s d) (elementName s e)) ∷ [])
 
 -- an element's type is one of G's Table 2, by the codes of Table 8; its name is an identifier of at most 32 characters
--- (Table 8), and no earlier element has it
+-- (Table 8), and no earlier element has it; its label, its description and its unit are UTF-8 (Req 06)
 unfoldable pub elementRight : List ℕ → ℕ → Bool
 elementRight s e =
     passes
-    ((element s e .kind ≤? 3) ∷ is (identifier 32 (elementName s e)) ∷ is (allBelow e (namesDiffer s e)) ∷ [])
+    ((element s e .kind ≤? 3) ∷ is (identifier 32 (elementName s e)) ∷ is (allBelow e (namesDiffer s e))
+    ∷ is (entryTexts s (entryStart s e)) ∷ [])
 
 -- there is at least one element; the entries read fit before the checksum, each is right, and no two names are equal.
 -- The entries begin at 284, so this also says that every fixed field fits
@@ -54,12 +56,13 @@ elementsRight s =
     (is (positive (elementCount s)) ∷ (entryStart s (entriesRead s) ≤? headerLimit s)
     ∷ is (allBelow (entriesRead s) (elementRight s)) ∷ [])
 
--- what follows the entries, where there are at most 16: a count of methods that is not negative, and fields that fit with
--- 0 to 7 padding bytes before the checksum
+-- what follows the entries, where there are at most 16: a count of methods that is not negative, fields that fit with
+-- 0 to 7 padding bytes before the checksum, and a product label that is UTF-8 (Req 06)
 unfoldable pub tailRight : List ℕ → Bool
 tailRight s =
     pick (leb (elementCount s) 16)
-    (passes ((methodCount s ≤? largestInteger) ∷ (fieldsEnd s ≤? headerLimit s) ∷ (headerLimit s ≤? fieldsEnd s + 7) ∷ []))
+    (passes ((methodCount s ≤? largestInteger) ∷ (fieldsEnd s ≤? headerLimit s) ∷ (headerLimit s ≤? fieldsEnd s + 7)
+    ∷ is (textRight s (productLabelAt s)) ∷ []))
     true
 
 -- stage 3

@@ -3,6 +3,7 @@ use header::entries;
 use header::fields;
 use header::names;
 use header::tail;
+use header::texts;
 use record::chain;
 ghost use mathlib.Core.Path.{_≡_};
 ghost use Rattle.wire.specs.Tests.{allBelow};
@@ -109,7 +110,7 @@ fn name_new(s: &[u8], e: usize) -> bool
     true
 }
 
-// The type and the name of element e.
+// The type, the name and the texts of element e.
 fn element_right(s: &[u8], e: usize) -> bool
     ensures { λ r. ⌜ r ≡ elementRight (now (s .entry)) e ⌝ }
 {
@@ -118,7 +119,9 @@ fn element_right(s: &[u8], e: usize) -> bool
         return false;
     }
     if names::identifier_at(s, x.name, x.name_length, 32) {
-        return name_new(s, e);
+        if name_new(s, e) {
+            return texts::element_texts(s, e);
+        }
     }
     false
 }
@@ -169,7 +172,7 @@ fn tail_right(s: &[u8]) -> bool
     if 7 < limit - end {
         return false;
     }
-    true
+    texts::text_right(s, tail::product_label_at(s))
 }
 
 // Stage 3.

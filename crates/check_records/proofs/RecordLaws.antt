@@ -33,8 +33,9 @@ use Rattle.check_records.specs.Frame.{endRight}
 use Rattle.check_records.specs.Checksum.{summedBytes, checksumOf, checksumAt, checksumRight}
 use Rattle.check_records.specs.TileBody.{sectionPacking, sectionRight, tileRight}
 use Rattle.bodies.specs.TileRecord.{sectionStart, sectionLength, tileEnd, sectionAt}
+use Rattle.header.specs.Texts.{textRight}
 use Rattle.check_records.specs.MetadataBody.{metadataRight}
-use Rattle.bodies.specs.MetadataRecord.{metadataName, recordIdAt, contentLengthAt, metadataLength, metadataEnd, recordIdStart}
+use Rattle.bodies.specs.MetadataRecord.{metadataName, recordIdAt, contentLengthAt, metadataLength, metadataDescriptionAt, metadataEnd, recordIdStart}
 use Rattle.bodies.proofs.SectionLaws.{section-told, section-least}
 use Rattle.bodies.proofs.MetadataLaws.{id-told}
 use Rattle.check_records.specs.Faults.{bodyRight, rightOf, firstWrong, chainFault, BrokenAt, ChainFaultExactly, checksumFault}
@@ -132,13 +133,18 @@ pub metadata-length-is : (s : List ℕ) (at p r : ℕ) → at < length s → p �
 unfolding metadataLength contentLengthAt
 metadata-length-is s at p r h a e = e ∙ rw (id-told s at p h a)
 
-pub metadata-end-is :
-    (s : List ℕ) (at p l n : ℕ) → at < length s → p ≡ recordIdStart s at → l ≡ metadataLength s at → n ≡ stringSize s (p + 9 + l) → p + 9 + l + n ≡ metadataEnd s at
-unfolding metadataEnd contentLengthAt stringEnd
-metadata-end-is s at p l n h a b e =
-    let i = id-told s at p h a in
-    let k : p + 9 + l ≡ recordIdAt s at + 5 + 4 + metadataLength s at = omega arith in
-    rw (e, ← k)
+pub description-is :
+    (s : List ℕ) (at p l : ℕ) → at < length s → p ≡ recordIdStart s at → l ≡ metadataLength s at → p + 9 + l ≡ metadataDescriptionAt s at
+unfolding metadataDescriptionAt contentLengthAt
+description-is s at p l h a b = let i = id-told s at p h a in omega arith
+
+pub metadata-end-is : (s : List ℕ) (at d n : ℕ) → d ≡ metadataDescriptionAt s at → n ≡ stringSize s d → d + n ≡ metadataEnd s at
+unfolding metadataEnd stringEnd
+metadata-end-is s at d n a e = rw (e, a)
+
+pub description-told :
+    (s : List ℕ) (at d : ℕ) (r v : Bool) → d ≡ metadataDescriptionAt s at → r ≡ textRight s d → r ≡ v → textRight s (metadataDescriptionAt s at) ≡ v
+description-told s at d r v p q t = sym (q ∙ ap (textRight s) p) ∙ t
 
 -- by the rule
 

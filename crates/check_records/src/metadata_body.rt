@@ -3,12 +3,13 @@ use crate::ends;
 use bodies::metadata_record;
 use header::entries;
 use header::names;
+use header::texts;
 ghost use mathlib.Core.Path.{_≡_};
-ghost use Prim.Native.Nat.{_+_, _<_};
+ghost use Prim.Native.Nat.{_+_, _≤_, _<_};
 ghost use lib.ListN.{length};
 ghost use Rattle.header.specs.Names.{identifier};
 ghost use Rattle.check_records.specs.MetadataBody.{metadataRight};
-ghost use Rattle.bodies.specs.MetadataRecord.{metadataName, metadataLength, metadataEnd};
+ghost use Rattle.bodies.specs.MetadataRecord.{metadataName, metadataLength, metadataDescriptionAt, metadataEnd};
 
 // The content's length.
 fn metadata_length(s: &[u8], at: usize) -> u32
@@ -18,12 +19,21 @@ fn metadata_length(s: &[u8], at: usize) -> u32
     wire::u32_off(s, metadata_record::record_id_start(s, at), 5)
 }
 
+// Where the description stands.
+fn description_at(s: &[u8], at: usize) -> usize
+    requires { ⌜ at < length (now s) ⌝ }
+    ensures is { λ r. ⌜ r ≡ metadataDescriptionAt (now (s .entry)) at ⌝ }
+    ensures near { λ r. ⌜ r ≤ at + 4295032849 ⌝ }
+{
+    metadata_record::record_id_start(s, at) + 9 + metadata_length(s, at) as usize
+}
+
 // Where the last field ends.
 fn metadata_end(s: &[u8], at: usize) -> usize
     requires { ⌜ at < length (now s) ⌝ }
     ensures { λ r. ⌜ r ≡ metadataEnd (now (s .entry)) at ⌝ }
 {
-    let description = metadata_record::record_id_start(s, at) + 9 + metadata_length(s, at) as usize;
+    let description = description_at(s, at);
     description + entries::string_size(s, description)
 }
 
@@ -47,7 +57,7 @@ pub fn metadata_right(s: &[u8], at: usize) -> bool
             if 9 < metadata_record::data_type(s, at) {
                 return false;
             }
-            return true;
+            return texts::text_right(s, description_at(s, at));
         }
     }
     false

@@ -10,6 +10,7 @@ ghost use Rattle.answer.specs.Refusals.{verdictNumber, verdictPlace};
 ghost use Rattle.answer.specs.Answers.{cellKind, contentKind, laidNumber};
 ghost use Rattle.wire.specs.Pick.{pick};
 ghost use Rattle.header.specs.Names.{identifier};
+ghost use Rattle.utf8.specs.Utf8.{utf8};
 ghost use Rattle.page_check.specs.Stages.{check};
 ghost use Rattle.cells.specs.Reads.{readContent};
 ghost use Rattle.lay_down.specs.Answer.{laid, laidOut};
@@ -131,6 +132,17 @@ pub extern "C" fn gvrs_is_identifier(name: &[u8]) -> u32
     ensures { λ r. ⌜ r ≡ pick (identifier 32 (now (name .entry))) 1 0 ⌝ }
 {
     if names::is_identifier(name, 32) {
+        return 1;
+    }
+    0
+}
+
+// 1 if the bytes are UTF-8 by RFC 3629, as every label, description and unit has to be, else 0.
+#[no_mangle]
+pub extern "C" fn gvrs_is_utf8(text: &[u8]) -> u32
+    ensures { λ r. ⌜ r ≡ pick (utf8 (now (text .entry))) 1 0 ⌝ }
+{
+    if utf8::is_utf8(text) {
         return 1;
     }
     0

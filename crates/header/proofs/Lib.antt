@@ -1,4 +1,5 @@
 pub mod NameLaws
 pub mod EntryLaws
 pub mod SameLaws
+pub mod TextLaws
 pub mod NameSamples

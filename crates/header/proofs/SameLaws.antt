@@ -107,15 +107,15 @@ module _ {s t : List ℕ} {a b : ℕ} (e : Same s t a b) where
     unfolding blockAt
     block-same = let o = in-order s at in string-same (at + 8) (omega arith) (omega arith)
 
-    label-same : labelAt s at ≡ labelAt t at
+    pub label-same : labelAt s at ≡ labelAt t at
     unfolding labelAt
     label-same = rw (block-same, kind-same)
 
-    description-same : descriptionAt s at ≡ descriptionAt t at
+    pub description-same : descriptionAt s at ≡ descriptionAt t at
     unfolding descriptionAt
     description-same = let o = in-order s at in string-same (labelAt s at) (omega arith) (omega arith) ∙ ap (stringEnd t) label-same
 
-    unit-same : unitAt s at ≡ unitAt t at
+    pub unit-same : unitAt s at ≡ unitAt t at
     unfolding unitAt
     unit-same = let o = in-order s at in string-same (descriptionAt s at) (omega arith) (omega arith) ∙ ap (stringEnd t) description-same
 
@@ -164,7 +164,7 @@ module _ (s t : List ℕ) (r : SameRest s t) where
       (advance-same (entryEnd s) (entryEnd t) (headerLimit s) 280 (entry-grows s) (λ at i j. entry-same (r .rest) at i (omega arith)) k 284 (omega arith) h)
 
   module _ (j k : ℕ) (h : j < k) (fit : entryStart s k ≤ headerLimit s) where
-    entry-ends : entryEnd s (entryStart s j) ≤ headerEnd s - 4
+    pub entry-ends : entryEnd s (entryStart s j) ≤ headerEnd s - 4
     entry-ends =
         let l = limit-is s (r .in-first) in
         let p = start-mono s j k (omega arith) in
@@ -172,7 +172,7 @@ module _ (s t : List ℕ) (r : SameRest s t) where
         let n = start-next s j (omega arith) in
         omega arith
 
-    at-same : entryStart s j ≡ entryStart t j
+    pub at-same : entryStart s j ≡ entryStart t j
     at-same = let p = start-mono s j k (omega arith) in start-same j (omega arith)
 
     pub element-same : element s j ≡ element t j
@@ -193,11 +193,11 @@ module _ (s t : List ℕ) (r : SameRest s t) where
     unfolding fieldsEnd
     label-least = omega (arith, string-grows s (productLabelAt s))
 
-    methods-least : methodsAt s + 4 ≤ productLabelAt s
+    pub methods-least : methodsAt s + 4 ≤ productLabelAt s
     unfolding productLabelAt
     methods-least = advance-grows (stringEnd s) (headerLimit s) (λ at. omega (arith, string-grows s at)) (methodCount s) (methodsAt s + 4)
 
-    methods-from : 284 ≤ methodsAt s
+    pub methods-from : 284 ≤ methodsAt s
     unfolding methodsAt
     methods-from = start-least s (elementCount s)
 

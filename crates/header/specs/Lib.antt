@@ -8,4 +8,5 @@ pub mod Names
 pub mod NameSamples
 pub mod Fields
 pub mod Element
+pub mod Texts
 pub mod Tail

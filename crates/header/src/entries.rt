@@ -16,7 +16,7 @@ pub fn string_size(s: &[u8], at: usize) -> usize
 }
 
 // Where the string at a position ends.
-fn string_end(s: &[u8], at: usize) -> usize
+pub(crate) fn string_end(s: &[u8], at: usize) -> usize
     requires { ⌜ at ≤ 9223372036856000000 ⌝ }
     ensures is { λ r. ⌜ r ≡ stringEnd (now (s .entry)) at ⌝ }
     ensures near { λ r. ⌜ (at + 2 ≤ r) × (r ≤ at + 65537) ⌝ }
@@ -55,7 +55,7 @@ fn block_at(s: &[u8], at: usize) -> usize
 }
 
 // Where the label of the entry at a position stands.
-fn label_at(s: &[u8], at: usize) -> usize
+pub(crate) fn label_at(s: &[u8], at: usize) -> usize
     requires { ⌜ at ≤ 9223372036855100000 ⌝ }
     ensures is { λ r. ⌜ r ≡ labelAt (now (s .entry)) at ⌝ }
     ensures near { λ r. ⌜ (at + 10 ≤ r) × (r ≤ at + 65580) ⌝ }

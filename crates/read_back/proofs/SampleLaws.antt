@@ -3,7 +3,7 @@ use mathlib.Core.Path.{refl}
 use Rattle.answer.specs.Refusals.{gate, unlessRefused}
 use Rattle.answer.specs.Values.{valueOf}
 use Rattle.bodies.specs.ListDirectories.{entryCount, fileSpaceAt, freeCount, freeEntryAt, metadataAt, metadataCount, metadataEntryAt, metadataEntryEnd, metadataEntrySize}
-use Rattle.bodies.specs.MetadataRecord.{contentLengthAt, dataType, metadataEnd, metadataLength, metadataName, recordId, recordIdAt}
+use Rattle.bodies.specs.MetadataRecord.{contentLengthAt, dataType, metadataDescriptionAt, metadataEnd, metadataLength, metadataName, recordId, recordIdAt}
 use Rattle.bodies.specs.TileDirectory.{inRectangle, inSpan, numberOf, referenceAt, referenceFrom, referenceOf, referenceSize, referencesEnd, tileDirectoryAt}
 use Rattle.bodies.specs.TileRecord.{elementContentAt, sectionAt, sectionEnd, sectionLength, tileEnd, tileIndex}
 use Rattle.check_directory.specs.References.{noOther, refersOrZero, refersTo}
@@ -24,6 +24,8 @@ use Rattle.geometry.specs.Tiles.{insideOf, tileCount, tileIn, tileOf, tilesAcro
 use Rattle.header.specs.Element.{blockAt, blockSize, cellSize, descriptionAt, element, elementName, entriesRead, entryAt, entryEnd, entryStart, fillBits, fillOffset, labelAt, stringEnd, stringSize, unitAt}
 use Rattle.header.specs.Names.{fiveRules, identifier, lastByte, letter, nameByte, nameBytes, within}
 use Rattle.header.specs.Tail.{fieldsEnd, methodCount, methodsAt, productLabelAt}
+use Rattle.header.specs.Texts.{entryTexts, stringText, textRight}
+use Rattle.utf8.specs.Utf8.{following, goesOn, never, octet, rows, tail, utf8}
 use Rattle.lay_down.specs.Answer.{ascending, fitsIn, inputRight, inputVerdict, laid, layDownVerdict, lengthAllowed}
 use Rattle.lay_down.specs.Page.{compactFrom, directoryBody, directoryForm, directoryRecord, directoryStart, fieldsSet, fileLength, laidFile, laidFront, references, sections, tileRecord, tileRecords}
 use Rattle.lay_down.specs.Pieces.{checksumFor, recordHead, recordLength, recordOf, sealed, section, unclosed, zeros}
@@ -37,5 +39,5 @@ use Rattle.wire.specs.Tests.{allBelow, passes, sumBelow}
 use Rattle.read_back.specs.Sample.{SampleLaid}
 
 pub sample-laid : SampleLaid
-unfolding advance allBelow ascending blockAt blockSize byteAt bytesOf cellOffset cellSize checkFront checkHeader checksumFor closed compactFrom contentLengthAt countBelow crcBit crcByte crcOf crcOver crcPart dataType descriptionAt directoryBody directoryForm directoryRecord directoryStart element elementBytes elementContentAt elementName elementPacking elementRight elementsRight endOf entriesRead entryAt entryCount entryEnd entryStart every fieldsEnd fieldsSet fileLength fileSpaceAt fileSpaceRight fillBits fillOffset find findNot firstTwo fitsIn fiveRules formRight frameRight freeCount freeEntryAt freeEntryIs freeEntryOf freeFits freeListed freeOnly frontRight gate givesTile headerEnd headerRight identified identifier inRectangle inSpan indexRight inputRight inputVerdict insideOf keysDistinct labelAt laid laidFile laidFront lastByte layDownVerdict leastLength lengthAllowed lengthRight letter listedOnce mark metadataAt metadataCount metadataDirectoryRight metadataEnd metadataEntryAt metadataEntryEnd metadataEntryIs metadataEntryOf metadataEntrySize metadataFits metadataLength metadataListed metadataName metadataOnly metadataRight methodCount methodsAt nameByte nameBytes namesDiffer nextTwo noOther nothingElse number numberAt numberOf oneIf optionsRight packingOf padded part passes plainTileLength positive productLabelAt put recordHead recordId recordIdAt recordLength recordLimit recordOf recordOk records recordsEnd recordsOf rectangleRight referenceAt referenceFrom referenceOf referenceSize references referencesEnd refersOrZero refersTo sameBytes sameKey sealed section sectionAt sectionEnd sectionLength sectionPacking sectionRight sections select sidesRight sidesWithin some spanRight stages starts startsGo storedSize stringEnd stringSize sumBelow summedBytes tailRight tileBytes tileCount tileDirectoryAt tileDirectoryRight tileEnd tileIn tileIndex tileLength tileOf tileRecord tileRecords tileRight tilesAcross tilesAlong tilesDown tilesIn tilesListed tilesOnly unclosed uncompressed unitAt unless unlessRefused valueOf versionRight within withinCeilings zeros
+unfolding advance allBelow ascending blockAt blockSize byteAt bytesOf cellOffset cellSize checkFront checkHeader checksumFor closed compactFrom contentLengthAt countBelow crcBit crcByte crcOf crcOver crcPart dataType descriptionAt directoryBody directoryForm directoryRecord directoryStart element elementBytes elementContentAt elementName elementPacking elementRight elementsRight endOf entriesRead entryAt entryCount entryEnd entryStart entryTexts every fieldsEnd fieldsSet fileLength fileSpaceAt fileSpaceRight fillBits fillOffset find findNot firstTwo fitsIn fiveRules following formRight frameRight freeCount freeEntryAt freeEntryIs freeEntryOf freeFits freeListed freeOnly frontRight gate givesTile goesOn headerEnd headerRight identified identifier inRectangle inSpan indexRight inputRight inputVerdict insideOf keysDistinct labelAt laid laidFile laidFront lastByte layDownVerdict leastLength lengthAllowed lengthRight letter listedOnce mark metadataAt metadataCount metadataDescriptionAt metadataDirectoryRight metadataEnd metadataEntryAt metadataEntryEnd metadataEntryIs metadataEntryOf metadataEntrySize metadataFits metadataLength metadataListed metadataName metadataOnly metadataRight methodCount methodsAt nameByte nameBytes namesDiffer never nextTwo noOther nothingElse number numberAt numberOf octet oneIf optionsRight packingOf padded part passes plainTileLength positive productLabelAt put recordHead recordId recordIdAt recordLength recordLimit recordOf recordOk records recordsEnd recordsOf rectangleRight referenceAt referenceFrom referenceOf referenceSize references referencesEnd refersOrZero refersTo rows sameBytes sameKey sealed section sectionAt sectionEnd sectionLength sectionPacking sectionRight sections select sidesRight sidesWithin some spanRight stages starts startsGo storedSize stringEnd stringSize stringText sumBelow summedBytes tail tailRight textRight tileBytes tileCount tileDirectoryAt tileDirectoryRight tileEnd tileIn tileIndex tileLength tileOf tileRecord tileRecords tileRight tilesAcross tilesAlong tilesDown tilesIn tilesListed tilesOnly unclosed uncompressed unitAt unless unlessRefused utf8 valueOf versionRight within withinCeilings zeros
 sample-laid = record { answer = refl; bytes = refl }

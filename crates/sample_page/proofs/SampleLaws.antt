@@ -3,7 +3,7 @@ use mathlib.Core.Path.{refl}
 use Rattle.answer.specs.Refusals.{gate, unlessRefused}
 use Rattle.answer.specs.Values.{valueOf}
 use Rattle.bodies.specs.ListDirectories.{entryCount, fileSpaceAt, freeCount, freeEntryAt, metadataAt, metadataCount, metadataEntryAt, metadataEntryEnd, metadataEntrySize}
-use Rattle.bodies.specs.MetadataRecord.{contentLengthAt, dataType, metadataEnd, metadataLength, metadataName, recordId, recordIdAt}
+use Rattle.bodies.specs.MetadataRecord.{contentLengthAt, dataType, metadataDescriptionAt, metadataEnd, metadataLength, metadataName, recordId, recordIdAt}
 use Rattle.bodies.specs.TileDirectory.{inRectangle, inSpan, numberOf, referenceAt, referenceFrom, referenceOf, referenceSize, referencesEnd, tileDirectoryAt}
 use Rattle.bodies.specs.TileRecord.{elementContentAt, sectionAt, sectionEnd, sectionLength, tileEnd, tileIndex}
 use Rattle.cells.specs.Asked.{inGrid}
@@ -31,6 +31,8 @@ use Rattle.geometry.specs.Tiles.{cellInside, cellTile, insideOf, tileCount, til
 use Rattle.header.specs.Element.{blockAt, blockSize, cellSize, descriptionAt, element, elementName, entriesRead, entryAt, entryEnd, entryStart, fillBits, fillOffset, labelAt, stringEnd, stringSize, unitAt}
 use Rattle.header.specs.Names.{fiveRules, identifier, lastByte, letter, nameByte, nameBytes, within}
 use Rattle.header.specs.Tail.{fieldsEnd, methodCount, methodsAt, productLabelAt}
+use Rattle.header.specs.Texts.{entryTexts, stringText, textRight}
+use Rattle.utf8.specs.Utf8.{following, goesOn, never, octet, rows, tail, utf8}
 use Rattle.page_check.specs.Stages.{check, checkDirectories, checkFromRecords, checkRecords, unless}
 use Rattle.record.specs.Chain.{endOf, find, findNot, headerEnd, records, recordsEnd, recordsOf, starts, startsGo}
 use Rattle.record.specs.Record.{padded, recordLimit, recordOk}
@@ -41,5 +43,5 @@ use Rattle.wire.specs.Tests.{allBelow, passes, sumBelow}
 use Rattle.sample_page.specs.Reads.{SampleRead}
 
 pub sample-read : SampleRead
-unfolding advance allBelow blockAt blockSize bodyFault bodyRight byteAt bytesOf carries cellBy cellIn cellInside cellOffset cellSize cellTile chainFault check checkDirectories checkFromRecords checkHeader checkRecords checksumAt checksumFault checksumOf checksumRight closed contentLengthAt countBelow crcBit crcByte crcOf crcOver crcPart dataType descriptionAt directoriesRight element elementBytes elementContentAt elementName elementPacking elementRight elementsRight endOf endRight entriesRead entryAt entryCount entryEnd entryStart every fieldsEnd fileSpaceAt fileSpaceRight fillBits fillOf fillOffset find findNot firstTwo firstWrong fiveRules formRight frameRight freeCount freeEntryAt freeEntryIs freeEntryOf freeFits freeListed freeOnly gate givesTile headerEnd headerRight identified identifier inGrid inRectangle inSpan indexRight insideOf keysDistinct labelAt lastByte leastLength lengthRight letter listedOnce mark meaning meant metadataAt metadataCount metadataDirectoryRight metadataEnd metadataEntryAt metadataEntryEnd metadataEntryIs metadataEntryOf metadataEntrySize metadataFits metadataLength metadataListed metadataName metadataOnly metadataRight methodCount methodsAt nameByte nameBytes namesDiffer nextTwo noOther nothingElse number numberAt numberOf offsetIn oneIf optionsRight packed packingOf padded part passes placeIn positive productLabelAt recordId recordIdAt recordLimit recordOk records recordsEnd recordsOf recordsWith rectangleRight referenceAt referenceFrom referenceOf referenceSize referencesEnd refersOrZero refersTo rightOf sameBytes sameKey sectionAt sectionEnd sectionLength sectionPacking sectionRight select sidesRight sidesWithin some spanRight stages starts startsGo storedAt storedSize stringEnd stringSize sumBelow summedBytes tailRight tileBytes tileCount tileDirectoryAt tileDirectoryRight tileEnd tileIn tileIndex tileOf tileRight tilesAcross tilesAlong tilesDown tilesIn tilesListed tilesOnly uncompressed unitAt unless unlessRefused valueOf versionRight within withinCeilings
+unfolding advance allBelow blockAt blockSize bodyFault bodyRight byteAt bytesOf carries cellBy cellIn cellInside cellOffset cellSize cellTile chainFault check checkDirectories checkFromRecords checkHeader checkRecords checksumAt checksumFault checksumOf checksumRight closed contentLengthAt countBelow crcBit crcByte crcOf crcOver crcPart dataType descriptionAt directoriesRight element elementBytes elementContentAt elementName elementPacking elementRight elementsRight endOf endRight entriesRead entryAt entryCount entryEnd entryStart entryTexts every fieldsEnd fileSpaceAt fileSpaceRight fillBits fillOf fillOffset find findNot firstTwo firstWrong fiveRules following formRight frameRight freeCount freeEntryAt freeEntryIs freeEntryOf freeFits freeListed freeOnly gate givesTile goesOn headerEnd headerRight identified identifier inGrid inRectangle inSpan indexRight insideOf keysDistinct labelAt lastByte leastLength lengthRight letter listedOnce mark meaning meant metadataAt metadataCount metadataDescriptionAt metadataDirectoryRight metadataEnd metadataEntryAt metadataEntryEnd metadataEntryIs metadataEntryOf metadataEntrySize metadataFits metadataLength metadataListed metadataName metadataOnly metadataRight methodCount methodsAt nameByte nameBytes namesDiffer never nextTwo noOther nothingElse number numberAt numberOf octet offsetIn oneIf optionsRight packed packingOf padded part passes placeIn positive productLabelAt recordId recordIdAt recordLimit recordOk records recordsEnd recordsOf recordsWith rectangleRight referenceAt referenceFrom referenceOf referenceSize referencesEnd refersOrZero refersTo rightOf rows sameBytes sameKey sectionAt sectionEnd sectionLength sectionPacking sectionRight select sidesRight sidesWithin some spanRight stages starts startsGo storedAt storedSize stringEnd stringSize stringText sumBelow summedBytes tail tailRight textRight tileBytes tileCount tileDirectoryAt tileDirectoryRight tileEnd tileIn tileIndex tileOf tileRight tilesAcross tilesAlong tilesDown tilesIn tilesListed tilesOnly uncompressed unitAt unless unlessRefused utf8 valueOf versionRight within withinCeilings
 sample-read = record { accepted = refl; stored = refl; fill = refl }

@@ -4,6 +4,7 @@ use super::chain::{Record, METADATA, TILE};
 use super::geometry::{least_record_length, tile_count, uncompressed_size};
 use super::header::Header;
 use super::names::{is_identifier, LONGEST_NAME};
+use super::utf8::is_utf8;
 
 /// What a metadata record says that its directory repeats.
 pub struct Metadata<'a> {
@@ -59,7 +60,7 @@ fn has_least_length(record: &Record, without_checksum: usize) -> bool {
 
 /// Document 01, stage 8: "A metadata record has the fields of Table 14, a name that is an
 /// identifier of at most 32 characters, a data type from 0 to 9, a content length not negative, and
-/// the least such length too."
+/// the least such length too." The description is UTF-8, and the content anything (Req 06).
 pub fn metadata_body<'a>(record: &Record<'a>) -> Option<Metadata<'a>> {
     let mut reader = record.reader();
     let name = reader.string()?;
@@ -67,9 +68,10 @@ pub fn metadata_body<'a>(record: &Record<'a>) -> Option<Metadata<'a>> {
     let data_type = reader.byte()?;
     let content_length = reader.count()?;
     let _content = reader.take(content_length)?;
-    let _description = reader.string()?;
+    let description = reader.string()?;
     let good = is_identifier(name, LONGEST_NAME)
         && data_type <= 9
+        && is_utf8(description)
         && has_least_length(record, reader.at());
     good.then_some(Metadata { name, id, data_type })
 }

@@ -3,6 +3,7 @@
 use super::fields::{count_at, integer_at, long_at, short_at, Reader};
 use super::geometry::{tile_bytes, tile_count};
 use super::names::{is_identifier, LONGEST_NAME};
+use super::utf8::is_utf8;
 
 /// Document 01, stage 3: the header record starts at 16.
 pub const HEADER_START: usize = 16;
@@ -73,7 +74,7 @@ pub fn header_of(file: &[u8]) -> Option<Header> {
     let mut reader = Reader::new(fields, ELEMENTS_OFFSET);
     let elements = elements(&mut reader, element_count)?;
     if element_count <= ELEMENT_CEILING {
-        rest_fits(&mut reader)?;
+        rest_is_good(&mut reader)?;
     }
     Some(Header {
         end: HEADER_START + record.len(),
@@ -133,18 +134,21 @@ fn elements(reader: &mut Reader, count: usize) -> Option<Vec<Element>> {
 }
 
 /// G Table 8. The record starts at a multiple of 8, so a position from its start is aligned as the
-/// file position is (reading 2).
+/// file position is (reading 2). Label, description and unit of measure are UTF-8 (Req 06).
 fn element(reader: &mut Reader) -> Option<Element> {
     let type_code = reader.byte()?;
     let _continuous_and_reserved = reader.take(7)?;
     let name = reader.string()?;
     let fill = fill(type_code, reader.take(range_block_length(type_code)?)?)?;
     reader.fill_to_four()?;
-    let _label = reader.string()?;
-    let _description = reader.string()?;
-    let _unit_of_measure = reader.string()?;
+    let label = reader.string()?;
+    let description = reader.string()?;
+    let unit_of_measure = reader.string()?;
     reader.fill_to_four()?;
-    let good = is_identifier(name, LONGEST_NAME);
+    let good = is_identifier(name, LONGEST_NAME)
+        && is_utf8(label)
+        && is_utf8(description)
+        && is_utf8(unit_of_measure);
     good.then(|| Element { type_code, name: name.to_vec(), fill })
 }
 
@@ -175,15 +179,16 @@ fn names_distinct(elements: &[Element]) -> bool {
 }
 
 /// Document 01, stage 3: "its fields fit with 0 to 7 padding bytes before the checksum". What
-/// stands behind the elements: methods, label, eight reserved bytes (G Table 7).
-fn rest_fits(reader: &mut Reader) -> Option<()> {
+/// stands behind the elements: methods, label, eight reserved bytes (G Table 7). The label is UTF-8
+/// (Req 06); the methods' names are identifiers by G's word, and no rule looks into them.
+fn rest_is_good(reader: &mut Reader) -> Option<()> {
     let methods = reader.count()?;
     for _ in 0..methods {
         reader.string()?;
     }
-    let _label = reader.string()?;
+    let label = reader.string()?;
     let _reserved = reader.take(8)?;
-    (reader.left() <= 7).then_some(())
+    (is_utf8(label) && reader.left() <= 7).then_some(())
 }
 
 /// Document 01, house ceilings: refusal 4. "Each ceiling itself is allowed."

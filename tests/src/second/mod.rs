@@ -13,3 +13,4 @@ pub mod header;
 pub mod lay_down;
 pub mod listing;
 pub mod names;
+pub mod utf8;

@@ -70,8 +70,8 @@ fn met(functions: &[Function], number: u32) -> usize {
 }
 
 impl Run {
-    /// The six functions. Of names no answer is a refusal.
-    pub fn functions(&self) -> [Function; 6] {
+    /// The seven functions. Of names and texts no answer is a refusal.
+    pub fn functions(&self) -> [Function; 7] {
         [
             Function::new("gvrs_check", self.answers()),
             Function::new("gvrs_cell", self.reads.cell_answers()),
@@ -79,6 +79,7 @@ impl Run {
             Function::new("gvrs_lay_down", self.lay_downs.answers()),
             Function::new("gvrs_list", self.listings.answers()),
             Function::new("gvrs_is_identifier", [(0, self.names)].into_iter()),
+            Function::new("gvrs_is_utf8", [(0, self.texts)].into_iter()),
         ]
     }
 }

@@ -21,6 +21,7 @@ mod reads;
 mod run;
 mod sample_sums;
 mod stack;
+mod texts;
 
 use std::env;
 use std::process::ExitCode;
@@ -53,7 +54,7 @@ fn main() -> ExitCode {
 
 /// Every section. Each has a generator of its own, so that one can change without the others.
 fn whole_run(seed: u64, small: bool) -> bool {
-    let sections: [fn(&mut Run, &mut Prng); 13] = [
+    let sections: [fn(&mut Run, &mut Prng); 14] = [
         sample_sums::section,
         made::section,
         allowed::section,
@@ -67,6 +68,7 @@ fn whole_run(seed: u64, small: bool) -> bool {
         listings::section,
         stack::section,
         names::section,
+        texts::section,
     ];
     let mut run = Run::new(small);
     for (number, section) in sections.into_iter().enumerate() {

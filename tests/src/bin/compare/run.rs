@@ -28,6 +28,8 @@ pub struct Run {
     pub listings: listings::tally::Tally,
     /// Names asked about.
     pub names: usize,
+    /// Texts asked about.
+    pub texts: usize,
     faults: usize,
 }
 
@@ -57,6 +59,7 @@ impl Run {
             lay_downs: lay_downs::tally::Tally::new(),
             listings: listings::tally::Tally::new(),
             names: 0,
+            texts: 0,
             faults: 0,
         }
     }

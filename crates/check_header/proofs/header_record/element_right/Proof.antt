@@ -1,5 +1,5 @@
 -- `check_header::header_record::element_right` meets its contract. Assumes nothing.
-use Rattle.check_header.proofs.HeaderLaws.{kind-not, name-not, element-last}
+use Rattle.check_header.proofs.HeaderLaws.{kind-not, name-not, new-not, element-last}
 use borrow.Author.Needs.{needs}
 use Rattle.check_header.proofs.header_record.element_right.Statement.{statement}
 use Rattle.check_header.proofs.header_record.element_right.Tie as tie
@@ -12,5 +12,7 @@ element-right-spec =
     (λ c. search (needs, kind-not))
     (λ c κs. search needs)
     (λ c κs. search needs)
+    (λ c κs. search needs)
     (λ c. search (needs, element-last))
+    (λ c. search (needs, new-not))
     (λ c. search (needs, name-not)))

@@ -16,4 +16,6 @@ tail-right-spec =
     (λ c κs. search needs)
     (λ c. search (needs, tail-past))
     (λ c. search (needs, tail-loose))
+    (λ c κs. search needs)
+    (λ c κs. search needs)
     (λ c. search (needs, tail-fits)))

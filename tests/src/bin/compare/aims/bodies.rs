@@ -6,6 +6,7 @@ use gvrs_tests::prng::Prng;
 use gvrs_tests::second::chain;
 
 use super::bad_names::{bad_name, BadName};
+use super::bad_texts::any_bad_text;
 use super::changes;
 use crate::damage::{Aim, At};
 
@@ -183,6 +184,11 @@ fn metadata_aims() -> Vec<Aim> {
         Aim::bytes(8, "metadata content fits", metadata_content_too_long),
         Aim::bytes(8, "a metadata description fits", |built, random| {
             string_too_long(built, "metadata description length", random)
+        }),
+        Aim::description(8, "a metadata description is UTF-8", |page, random| {
+            let (number, metadata) = any_metadata(page, random)?;
+            metadata.description = any_bad_text(&metadata.description, random);
+            Some(At::Record(number))
         }),
         Aim::bytes(8, "a metadata name fits", |built, random| {
             string_too_long(built, "metadata name length", random)

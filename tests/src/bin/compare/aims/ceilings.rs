@@ -4,7 +4,8 @@ use gvrs_tests::build::Built;
 use gvrs_tests::page::Page;
 use gvrs_tests::prng::Prng;
 
-use super::header::more_than_16;
+use super::bad_texts::any_bad_text;
+use super::header::{more_than_16, spoil_text_of};
 use crate::damage::{Aim, At};
 
 pub fn aims() -> Vec<Aim> {
@@ -63,6 +64,15 @@ fn count_aims() -> Vec<Aim> {
         Aim::description(4, "elements above 16", many_elements),
         Aim::description(4, "elements above 16, faults behind the 16th", faults_behind_16),
         Aim::description(4, "elements above 16, the 17th named z_", named_z_behind_16),
+        Aim::description(4, "elements above 16, a text of the 17th not UTF-8", |page, random| {
+            more_than_16(page, random);
+            spoil_text_of(&mut page.elements[16], random)
+        }),
+        Aim::description(4, "elements above 16, the product label not UTF-8", |page, random| {
+            more_than_16(page, random);
+            page.label = any_bad_text(&page.label, random);
+            Some(At::Zero)
+        }),
         Aim::bytes(4, "elements above 16, the record ends there", record_ends_behind_16),
         Aim::bytes(4, "tile bytes above 1,048,576", many_tile_bytes),
     ]

@@ -6,6 +6,7 @@ use gvrs_tests::prng::Prng;
 use gvrs_tests::random_page::name;
 
 use super::bad_names::{bad_name, BadName};
+use super::bad_texts::any_bad_text;
 use super::changes;
 use crate::damage::{Aim, At};
 
@@ -14,6 +15,7 @@ pub fn aims() -> Vec<Aim> {
     aims.extend(value_aims());
     aims.extend(element_aims());
     aims.extend(name_aims());
+    aims.extend(text_aims());
     aims.extend(rest_aims());
     aims.extend(many_element_aims());
     aims
@@ -250,6 +252,43 @@ fn equal_names(page: &mut Page, random: &mut Prng) -> Option<At> {
     (from != to).then_some(At::Zero)
 }
 
+// Texts.
+
+fn text_aims() -> Vec<Aim> {
+    vec![
+        Aim::description(3, "an element's label is UTF-8", |page, random| {
+            let element = random.below(page.elements.len());
+            spoil_text(&mut page.elements[element].label, random)
+        }),
+        Aim::description(3, "an element's description is UTF-8", |page, random| {
+            let element = random.below(page.elements.len());
+            spoil_text(&mut page.elements[element].description, random)
+        }),
+        Aim::description(3, "an element's unit is UTF-8", |page, random| {
+            let element = random.below(page.elements.len());
+            spoil_text(&mut page.elements[element].unit, random)
+        }),
+        Aim::description(3, "the product label is UTF-8", |page, random| {
+            spoil_text(&mut page.label, random)
+        }),
+    ]
+}
+
+fn spoil_text(text: &mut Vec<u8>, random: &mut Prng) -> Option<At> {
+    *text = any_bad_text(text, random);
+    Some(At::Zero)
+}
+
+/// The label, the description or the unit of an element.
+pub fn spoil_text_of(element: &mut Element, random: &mut Prng) -> Option<At> {
+    let text = match random.below(3) {
+        0 => &mut element.label,
+        1 => &mut element.description,
+        _ => &mut element.unit,
+    };
+    spoil_text(text, random)
+}
+
 // What stands behind the elements.
 
 fn rest_aims() -> Vec<Aim> {
@@ -277,10 +316,14 @@ fn too_many_methods(built: &mut Built, random: &mut Prng) -> Option<At> {
     Some(At::Zero)
 }
 
-/// The label takes the padding and up to eight bytes more, which the reserved bytes lack.
+/// The label takes the padding and up to eight bytes more, which the reserved bytes lack. Zeros are
+/// good text.
 fn label_into_reserved(built: &mut Built, random: &mut Prng) -> Option<At> {
     let field = built.only("product label length");
     let longer = header_padding(built) + random.between(1, 8);
+    let label_end = field.at + 2 + built.value(&field) as usize;
+    let fields_end = header_end(built) - 4;
+    built.bytes[label_end..fields_end].fill(0);
     built.set(&field, built.value(&field) + longer as u64);
     Some(At::Zero)
 }
@@ -288,6 +331,8 @@ fn label_into_reserved(built: &mut Built, random: &mut Prng) -> Option<At> {
 fn label_shorter(built: &mut Built, _: &mut Prng) -> Option<At> {
     let field = built.only("product label length");
     let length = built.value(&field).checked_sub(8)?;
+    // No character is cut.
+    built.bytes[field.at + 2..][..length as usize].fill(b'l');
     built.set(&field, length);
     Some(At::Zero)
 }
@@ -299,6 +344,7 @@ fn many_element_aims() -> Vec<Aim> {
         Aim::description(3, "17 elements, a bad type among the first 16", bad_type_of_many),
         Aim::description(3, "17 elements, a bad name among the first 16", bad_name_of_many),
         Aim::description(3, "17 elements, equal names among the first 16", equal_names_of_many),
+        Aim::description(3, "17 elements, a text not UTF-8 among the first 16", bad_text_of_many),
         Aim::bytes(3, "17 elements said, the 16th does not fit", sixteenth_does_not_fit),
     ]
 }
@@ -339,6 +385,11 @@ fn equal_names_of_many(page: &mut Page, random: &mut Prng) -> Option<At> {
     let (from, to) = (one_of_16(random), one_of_16(random));
     page.elements[to].name = page.elements[from].name.clone();
     (from != to).then_some(At::Zero)
+}
+
+fn bad_text_of_many(page: &mut Page, random: &mut Prng) -> Option<At> {
+    more_than_16(page, random);
+    spoil_text_of(&mut page.elements[one_of_16(random)], random)
 }
 
 /// The record ends behind the elements that are there, fewer than 16, and the count says more.

@@ -1,6 +1,7 @@
 //! Every damage, by stage.
 
 mod bad_names;
+pub mod bad_texts;
 mod bodies;
 mod ceilings;
 mod chain;

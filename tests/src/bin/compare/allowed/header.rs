@@ -3,6 +3,7 @@
 use gvrs_tests::build::{build, bytes_of};
 use gvrs_tests::page::{Element, Page, FLOAT, INTEGER, INTEGER_CODED, SHORT};
 use gvrs_tests::prng::Prng;
+use gvrs_tests::random_page::text_of;
 
 use super::UNDERSCORES_INSIDE;
 use crate::run::Run;
@@ -16,7 +17,7 @@ pub fn section(run: &mut Run, random: &mut Prng) {
     near_names(run);
     printed_values(run);
     methods(run);
-    long_strings(run);
+    long_strings(run, random);
     header_padding(run);
 }
 
@@ -43,11 +44,11 @@ fn name_alignments(run: &mut Run, random: &mut Prng) {
             let mut page = Page::plain();
             let mut element = Element::new(type_code, &vec![b'n'; length]);
             element.range_and_fill = random.bytes(element.range_and_fill.len());
-            element.label = random.bytes(5);
-            element.description = random.bytes(6);
-            element.unit = random.bytes(length % 4);
+            element.label = text_of(5, random);
+            element.description = text_of(6, random);
+            element.unit = text_of(length % 4, random);
             page.elements = vec![element, Element::new(SHORT, b"other")];
-            page.label = random.bytes(9);
+            page.label = text_of(9, random);
             run.accept("element names of 1 to 32 bytes, each type", &bytes_of(&page));
         }
     }
@@ -135,8 +136,8 @@ fn methods(run: &mut Run) {
     }
 }
 
-fn long_strings(run: &mut Run) {
-    let long = vec![0xa5; 65_535];
+fn long_strings(run: &mut Run, random: &mut Prng) {
+    let long = text_of(65_535, random);
     for field in 0..4 {
         let mut page = Page::plain();
         let element = &mut page.elements[0];

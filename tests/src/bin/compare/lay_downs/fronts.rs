@@ -3,6 +3,7 @@
 use gvrs_tests::build::{build, Field};
 use gvrs_tests::page::{Element, Page, FLOAT, INTEGER, INTEGER_CODED, SHORT};
 use gvrs_tests::prng::Prng;
+use gvrs_tests::random_page::text_of;
 
 use super::draft::{Draft, SET_FIELDS};
 use super::read_back::{done, laid_as_built};
@@ -19,7 +20,7 @@ const EQUAL_TO_FILL: &str = "a page of cells whose bits equal the fill, stored a
 const NO_TILE: &str = "a page of fills only, the fill outside its range";
 
 /// Names of the fields that no rule looks at and no lay-down sets, but for ranges and fills.
-const KEPT_FIELDS: [&str; 12] = [
+const KEPT_FIELDS: [&str; 8] = [
     "reserved",
     "padding",
     "UUID",
@@ -27,12 +28,12 @@ const KEPT_FIELDS: [&str; 12] = [
     "coordinate",
     "continuous",
     "element padding",
-    "element label",
-    "element description",
-    "element unit",
     "method name",
-    "product label",
 ];
+
+/// Names of the fields that hold any UTF-8, which is kept.
+const KEPT_TEXTS: [&str; 4] =
+    ["element label", "element description", "element unit", "product label"];
 
 pub fn section(run: &mut Run, random: &mut Prng) {
     for thing in [EQUAL_TO_FILL, NO_TILE] {
@@ -41,7 +42,7 @@ pub fn section(run: &mut Run, random: &mut Prng) {
     for name in SET_FIELDS.iter().chain(&["checksum"]) {
         run.lay_downs.want(&set_anew(name));
     }
-    for name in KEPT_FIELDS {
+    for name in KEPT_FIELDS.into_iter().chain(KEPT_TEXTS) {
         run.lay_downs.want(&kept(name));
     }
     for _ in 0..run.times(100) {
@@ -66,17 +67,20 @@ fn with_bytes(draft: &Draft, field: &Field, bytes: &[u8]) -> Draft {
     Draft { page: draft.page.clone(), given }
 }
 
-/// Anything in one field of each name that is kept: the file has it there.
+/// Anything, or any text, in one field of each name that is kept: the file has it there.
 fn fields_kept(run: &mut Run, draft: &Draft, random: &mut Prng) {
     let mut fields = build(&draft.page).fields;
     fields.retain(|field| field.owner.is_none());
-    for name in KEPT_FIELDS {
+    for name in KEPT_FIELDS.into_iter().chain(KEPT_TEXTS) {
         let named: Vec<Field> = fields.iter().filter(|field| field.name == name).copied().collect();
         let Some(field) = random.pick_any(&named) else {
             continue;
         };
-        let junk = random.bytes(field.width);
-        if laid_as_built(run, KEPT, &with_bytes(draft, &field, &junk), 0).is_some() {
+        let any = match KEPT_TEXTS.contains(&name) {
+            true => text_of(field.width, random),
+            false => random.bytes(field.width),
+        };
+        if laid_as_built(run, KEPT, &with_bytes(draft, &field, &any), 0).is_some() {
             run.lay_downs.reached(&kept(name));
         }
     }

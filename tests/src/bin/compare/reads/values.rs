@@ -3,6 +3,7 @@
 use gvrs_tests::build::build;
 use gvrs_tests::page::{Body, Element, Page, Tile, FLOAT, INTEGER, INTEGER_CODED, SHORT};
 use gvrs_tests::prng::Prng;
+use gvrs_tests::random_page::text_of;
 use gvrs_tests::second::cells::{Cell, Spot};
 
 use super::ask::Asked;
@@ -94,7 +95,7 @@ fn behind_names(run: &mut Run, random: &mut Prng) {
         for length in (1..=32).step_by(step) {
             let mut first = Element::new(type_code, &vec![b'n'; length]);
             first.range_and_fill = random.bytes(first.range_and_fill.len());
-            first.label = random.bytes(length % 5);
+            first.label = text_of(length % 5, random);
             let mut second = Element::new(random.below(4) as u8, b"second");
             second.range_and_fill = random.bytes(second.range_and_fill.len());
             let contents = vec![vec![0; 4 * first.cell_size()], vec![0; 4 * second.cell_size()]];

@@ -1,0 +1,2 @@
+-- Definitions for private functions alone; no public contract names them.
+pub mod Wanted
