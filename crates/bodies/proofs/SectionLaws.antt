@@ -10,9 +10,9 @@ use Rattle.wire.specs.Bytes.{u32At}
 use Rattle.wire.proofs.ItemLaws.{advance-grows, advance-mono, advance-more, advance-none}
 use Rattle.wire.specs.Tests.{sumBelow}
 use Rattle.wire.specs.Items.{advance}
-use Rattle.geometry.specs.Sizes.{storedSize}
+use Rattle.geometry.specs.Sizes.{storedSize, cap}
 use Rattle.record.specs.Record.{recordLimit, lengthAt}
-use Rattle.bodies.specs.TileRecord.{sectionEnd, sectionAt, sectionStart, sectionLength}
+use Rattle.bodies.specs.TileRecord.{sectionEnd, sectionAt, sectionStart, sectionLength, longestSection}
 
 pub section-is : (s : List ℕ) (p l n : ℕ) → l ≡ u32At s p → n ≡ storedSize l → p + n ≡ sectionEnd s p
 unfolding sectionEnd
@@ -22,7 +22,7 @@ stored-grows : (l : ℕ) → 4 ≤ storedSize l
 unfolding storedSize
 stored-grows l = omega arith
 
-pub stored-most : (l n : ℕ) → n ≡ storedSize l → l < 4294967296 → (4 ≤ n) × (n ≤ 4294967300)
+pub stored-most : (l n : ℕ) → n ≡ storedSize l → l < cap → (4 ≤ n) × (n ≤ longestSection)
 unfolding storedSize
 stored-most l n e h = (omega arith, omega arith)
 

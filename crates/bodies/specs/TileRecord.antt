@@ -8,7 +8,7 @@ use Rattle.wire.specs.Bytes.{u32At}
 use Rattle.wire.specs.Items.{advance}
 use Rattle.header.specs.Fields.{elementCount}
 use Rattle.record.specs.Record.{recordLimit}
-use Rattle.geometry.specs.Sizes.{storedSize}
+use Rattle.geometry.specs.Sizes.{storedSize, cap}
 
 -- G Table 15: the tile index
 unfoldable pub tileIndex : List ℕ → ℕ → ℕ
@@ -17,6 +17,10 @@ tileIndex s at = u32At s (at + 8)
 -- G Table 16: behind an element's length of four bytes come that many bytes and 0 to 3 more
 unfoldable pub sectionEnd : List ℕ → ℕ → ℕ
 sectionEnd s p = p + storedSize (u32At s p)
+
+-- it has at most that length field and the bytes of the greatest length, brought to a multiple of 4
+abbrev pub longestSection : ℕ
+longestSection = 4 + cap
 
 -- where the section of element e of the tile record at `at` starts, its length field; a section that starts past the
 -- start of the record's checksum is not read; one that starts there, or overlaps it, ends past it

@@ -2,7 +2,8 @@
 use header::fields;
 use record::frame;
 ghost use mathlib.Core.Path.{_≡_};
-ghost use Prim.Native.Nat.{_≤_};
+ghost use Prim.Native.Nat.{_≤_, _+_};
+ghost use Rattle.header.specs.Element.{longestString};
 ghost use Rattle.bodies.specs.ListDirectories.{entryCount, fileSpaceAt, freeCount, metadataAt, metadataCount, metadataEntrySize};
 
 // How many entries the file-space or metadata directory lists.
@@ -46,7 +47,7 @@ pub fn metadata_count(s: &[u8]) -> u32
 // The size of the entry at a position.
 pub fn metadata_entry_size(s: &[u8], p: usize) -> usize
     ensures is { λ r. ⌜ r ≡ metadataEntrySize (now (s .entry)) p ⌝ }
-    ensures near { λ r. ⌜ r ≤ 65550 ⌝ }
+    ensures near { λ r. ⌜ r ≤ 13 + longestString ⌝ }
 {
     15 + wire::u16_off(s, p, 8) as usize
 }

@@ -4,13 +4,14 @@ ghost use mathlib.Core.Path.{_≡_};
 ghost use Prim.Native.Nat.{_+_, _≤_, _<_};
 ghost use lib.ListN.{length};
 ghost use Rattle.wire.specs.Bytes.{u16At, partAt};
+ghost use Rattle.header.specs.Element.{longestString};
 ghost use Rattle.bodies.specs.MetadataRecord.{metadataName, recordIdAt, recordIdStart, recordId, dataType};
 
 // Where the record ID stands.
 fn record_id_at(s: &[u8], at: usize) -> usize
     requires { ⌜ at < length (now s) ⌝ }
     ensures is { λ r. ⌜ r ≡ recordIdAt (now (s .entry)) at ⌝ }
-    ensures near { λ r. ⌜ r ≤ at + 65545 ⌝ }
+    ensures near { λ r. ⌜ r ≤ at + 8 + longestString ⌝ }
 {
     at + 8 + entries::string_size(s, at + 8)
 }
@@ -18,7 +19,7 @@ fn record_id_at(s: &[u8], at: usize) -> usize
 // The same for any position; 0 where it is past the file.
 pub fn record_id_start(s: &[u8], at: usize) -> usize
     ensures is { λ r. ⌜ r ≡ recordIdStart (now (s .entry)) at ⌝ }
-    ensures near { λ r. ⌜ r ≤ at + 65545 ⌝ }
+    ensures near { λ r. ⌜ r ≤ at + 8 + longestString ⌝ }
 {
     if s.len() <= at {
         return 0;

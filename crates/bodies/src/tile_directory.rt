@@ -6,6 +6,11 @@ ghost use mathlib.Core.Path.{_≡_};
 ghost use Prim.Native.Nat.{_-_, _≤_};
 ghost use Rattle.bodies.specs.TileDirectory.{tileDirectoryAt, directoryFormat, standardReferences, firstRow, firstColumn, listedRows, listedColumns, referenceCount, referenceSize, referenceAt, inSpan, inRectangle, numberOf, referenceOf, referenceFrom, tileReference};
 
+// A slice has less than 2^63 bytes: less than 2^60 references of eight bytes, and less than 2^61 of four.
+const STANDARD_PAST: u64 = 1152921504606846976;
+
+const COMPACT_PAST: u64 = 2305843009213693952;
+
 // The start of the record that the header refers to.
 pub fn tile_directory_at(s: &[u8]) -> usize
     ensures { λ r. ⌜ r ≡ tileDirectoryAt (now (s .entry)) ⌝ }
@@ -68,12 +73,12 @@ pub fn reference_at(s: &[u8], at: usize, k: u64) -> u64
     ensures { λ r. ⌜ r ≡ referenceAt (now (s .entry)) at k ⌝ }
 {
     if standard_references(s, at) == 1 {
-        if 1152921504606846976 <= k {
+        if STANDARD_PAST <= k {
             return 0;
         }
         return wire::u64_off(s, at, 32 + 8 * (k as usize));
     }
-    if 2305843009213693952 <= k {
+    if COMPACT_PAST <= k {
         return 0;
     }
     wire::u32_off(s, at, 32 + 4 * (k as usize)) as u64 * 8

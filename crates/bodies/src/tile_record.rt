@@ -4,13 +4,13 @@ use record::frame;
 ghost use mathlib.Core.Path.{_≡_};
 ghost use Prim.Native.Nat.{_+_, _≤_, _<_};
 ghost use lib.ListN.{length};
-ghost use Rattle.bodies.specs.TileRecord.{sectionEnd, sectionAt, sectionStart};
+ghost use Rattle.bodies.specs.TileRecord.{sectionEnd, sectionAt, sectionStart, longestSection};
 
-// Where the section at a position ends; it has at most 4 + 4294967296 bytes.
+// Where the section at a position ends.
 fn section_end(s: &[u8], p: usize) -> usize
-    requires { ⌜ p ≤ 9223372036854775820 ⌝ }
+    requires { ⌜ p ≤ length (now s) ⌝ }
     ensures is { λ r. ⌜ r ≡ sectionEnd (now (s .entry)) p ⌝ }
-    ensures near { λ r. ⌜ (p + 4 ≤ r) × (r ≤ p + 4294967300) ⌝ }
+    ensures near { λ r. ⌜ (p + 4 ≤ r) × (r ≤ p + longestSection) ⌝ }
 {
     p + sizes::stored_size(wire::u32_at(s, p)) as usize
 }
@@ -19,7 +19,7 @@ fn section_end(s: &[u8], p: usize) -> usize
 fn section_at(s: &[u8], at: usize, e: u32) -> usize
     requires { ⌜ at < length (now s) ⌝ }
     ensures is { λ r. ⌜ r ≡ sectionAt (now (s .entry)) at e ⌝ }
-    ensures near { λ r. ⌜ r ≤ length (now (s .entry)) + 4294967312 ⌝ }
+    ensures near { λ r. ⌜ r ≤ length (now (s .entry)) + 12 + longestSection ⌝ }
 {
     let limit = frame::record_limit(s, at);
     let mut p = at + 12;
@@ -37,7 +37,7 @@ fn section_at(s: &[u8], at: usize, e: u32) -> usize
 // The same for any position; 0 where it is past the file.
 pub fn section_start(s: &[u8], at: usize, e: u32) -> usize
     ensures is { λ r. ⌜ r ≡ sectionStart (now (s .entry)) at e ⌝ }
-    ensures near { λ r. ⌜ r ≤ length (now (s .entry)) + 4294967312 ⌝ }
+    ensures near { λ r. ⌜ r ≤ length (now (s .entry)) + 12 + longestSection ⌝ }
 {
     if s.len() <= at {
         return 0;

@@ -16,6 +16,7 @@ use Rattle.record.specs.declared.Found.{Found}
 use Rattle.record.specs.declared.Found.the-variants.{At, Nothing}
 use Rattle.record.specs.Record.{typeAt}
 use Rattle.record.specs.Chain.{records, firstRecord}
+use Rattle.record.specs.Types.{tileType}
 use Rattle.geometry.specs.Tiles.{cellTile}
 use Rattle.bodies.specs.TileDirectory.{referenceFrom}
 use Rattle.bodies.specs.TileRecord.{tileIndex}
@@ -26,7 +27,7 @@ use Rattle.cells.specs.TileCells.{cellOf, contentOf}
 
 -- a tile record that carries the index i
 unfoldable pub carries : List ℕ → ℕ → ℕ → Bool
-carries s i x = passes ((typeAt s x ≡? 2) ∷ (tileIndex s x ≡? i) ∷ [])
+carries s i x = passes ((typeAt s x ≡? tileType) ∷ (tileIndex s x ≡? i) ∷ [])
 
 -- by meaning: of the records after the header those that are tile records with index i. An accepted file has one at most; the first
 -- counts where a file that stage 9 refuses has several

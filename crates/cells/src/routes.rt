@@ -34,7 +34,7 @@ fn walked_to(s: &[u8], at: usize, tile: u32) -> Found
         else {
             return Found::Nothing;
         };
-        if kind == 2 {
+        if kind == record::TILE {
             if wire::u32_off(s, start, 8) == tile {
                 break 'walk start;
             }

@@ -9,11 +9,12 @@ use header::entries;
 use record::Found;
 ghost use mathlib.Core.Path.{_≡_};
 ghost use mathlib.Core.Bool.{true};
-ghost use Prim.Native.Nat.{_+_, _≤_, _<_};
+ghost use Prim.Native.Nat.{_+_, _≤_, _<_, _*_};
 ghost use lib.ListN.{length};
 ghost use Rattle.wire.specs.Bytes.{numberAt};
 ghost use Rattle.header.specs.Element.{cellSize};
-ghost use Rattle.bodies.specs.TileRecord.{sectionAt};
+ghost use Rattle.bodies.specs.TileRecord.{sectionAt, longestSection};
+ghost use Rattle.check_header.specs.Ceilings.{mostTileSide};
 ghost use Rattle.cells.specs.TileCells.{packed, offsetIn, placeIn, storedAt, cellIn, fillOf, contentIn};
 ghost use Rattle.cells.specs.inner.Lookups.{sidesLawful, cellReached, contentReached};
 
@@ -21,7 +22,7 @@ ghost use Rattle.cells.specs.inner.Lookups.{sidesLawful, cellReached, co
 fn section(s: &[u8], x: usize, e: u32) -> usize
     requires { ⌜ x < length (now s) ⌝ }
     ensures is { λ r. ⌜ r ≡ sectionAt (now (s .entry)) x e ⌝ }
-    ensures near { λ r. ⌜ r ≤ length (now (s .entry)) + 4294967312 ⌝ }
+    ensures near { λ r. ⌜ r ≤ length (now (s .entry)) + 12 + longestSection ⌝ }
 {
     tile_record::section_start(s, x, e)
 }
@@ -42,7 +43,7 @@ fn is_packed(s: &[u8], x: usize, e: u32) -> bool
 fn offset_in(s: &[u8], row: u32, column: u32, e: u32) -> u64
     requires { ⌜ sidesLawful (now s) ≡ true ⌝ }
     ensures is { λ r. ⌜ r ≡ offsetIn (now (s .entry)) row column e ⌝ }
-    ensures near { λ r. ⌜ r ≤ 67108864 ⌝ }
+    ensures near { λ r. ⌜ r ≤ mostTileSide * mostTileSide * 4 ⌝ }
 {
     let x = entries::element(s, e as usize);
     let kind = x.kind;
@@ -62,7 +63,7 @@ fn place_in(s: &[u8], x: usize, row: u32, column: u32, e: u32) -> usize
 fn bits_at(s: &[u8], kind: u32, place: usize) -> u32
     ensures { λ r. ⌜ r ≡ numberAt (cellSize kind) (now (s .entry)) place ⌝ }
 {
-    if kind == 3 {
+    if kind == entries::SHORT {
         return wire::u16_at(s, place);
     }
     wire::u32_at(s, place)

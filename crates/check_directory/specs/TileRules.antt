@@ -11,6 +11,7 @@ use Rattle.geometry.specs.Tiles.{tilesAcross, tilesDown, tileCount}
 use Rattle.bodies.specs.TileRecord.{tileIndex}
 use Rattle.bodies.specs.TileDirectory.{directoryFormat, firstRow, referenceAt, tileReference, tileDirectoryAt, standardReferences, listedRows, referencesEnd, firstColumn, listedColumns}
 use Rattle.record.specs.Chain.{recordsOf}
+use Rattle.record.specs.Types.{tileType, tileDirectoryType}
 use Rattle.wire.specs.Lists.{every, some}
 use Rattle.check_directory.specs.References.{refersTo, noOther}
 
@@ -35,12 +36,12 @@ gives s k = not (eqb (referenceAt s (tileDirectoryAt s) k) 0)
 
 -- every tile record is listed at its own index; so no two have one index
 unfoldable pub tilesListed : List ℕ → Bool
-tilesListed s = every (λ x. eqb (tileReference s (tileIndex s x)) (contentAt x)) (recordsOf s 2)
+tilesListed s = every (λ x. eqb (tileReference s (tileIndex s x)) (contentAt x)) (recordsOf s tileType)
 
 -- a reference is the content of a tile record with that index
 unfoldable pub givesTile : List ℕ → ℕ → Bool
 givesTile s i =
-    some (λ x. passes ((contentAt x ≡? tileReference s i) ∷ (tileIndex s x ≡? i) ∷ [])) (recordsOf s 2)
+    some (λ x. passes ((contentAt x ≡? tileReference s i) ∷ (tileIndex s x ≡? i) ∷ [])) (recordsOf s tileType)
 
 -- every reference that is not zero is one. The rectangle lies in the tile grid, so each reference belongs to exactly one index
 -- below the tile count
@@ -50,5 +51,6 @@ tilesOnly s = allBelow (tileCount s) (λ i. eqb (tileReference s i) 0 || givesTi
 unfoldable pub tileDirectoryRight : List ℕ → Bool
 tileDirectoryRight s =
     passes
-    (is (refersTo s 5 (tileDirectoryReference s)) ∷ is (noOther s 5 (tileDirectoryReference s)) ∷ is (formRight s)
-    ∷ is (rectangleRight s) ∷ is (padded s (tileDirectoryAt s) (referencesEnd s)) ∷ is (tilesListed s) ∷ is (tilesOnly s) ∷ [])
+    (is (refersTo s tileDirectoryType (tileDirectoryReference s))
+    ∷ is (noOther s tileDirectoryType (tileDirectoryReference s)) ∷ is (formRight s) ∷ is (rectangleRight s)
+    ∷ is (padded s (tileDirectoryAt s) (referencesEnd s)) ∷ is (tilesListed s) ∷ is (tilesOnly s) ∷ [])

@@ -28,7 +28,7 @@ fn unlisted(s: &[u8], own: u32, at: usize) -> bool
     requires { ⌜ (own ≡ typeAt (now s) at) × (at < length (now s)) ⌝ }
     ensures { λ r. ⌜ r ≡ wants (now (s .entry)) Want.Unlisted at ⌝ }
 {
-    if own != 2 {
+    if own != record::TILE {
         return false;
     }
     if own_reference(s, at) == (at as u64) + 8 {

@@ -31,10 +31,10 @@ fn form_right(s: &[u8]) -> bool
 fn span_right(start: u32, side: u32, tiles: u32) -> bool
     ensures { λ r. ⌜ r ≡ spanRight start side tiles ⌝ }
 {
-    if 2147483647 < start {
+    if wire::LARGEST_INTEGER < start {
         return false;
     }
-    if 2147483647 < side {
+    if wire::LARGEST_INTEGER < side {
         return false;
     }
     if tiles < start {
@@ -123,10 +123,10 @@ pub fn tile_directory_right(s: &[u8]) -> bool
     ensures { λ r. ⌜ r ≡ tileDirectoryRight (now (s .entry)) ⌝ }
 {
     let reference = fields::tile_directory_reference(s);
-    if !references::refers_to(s, 5, reference) {
+    if !references::refers_to(s, record::TILE_DIRECTORY, reference) {
         return false;
     }
-    if !references::no_other(s, 5, reference) {
+    if !references::no_other(s, record::TILE_DIRECTORY, reference) {
         return false;
     }
     if !form_right(s) {
@@ -141,7 +141,7 @@ pub fn tile_directory_right(s: &[u8]) -> bool
     if !references::tiles_listed(s) {
         return false;
     }
-    let tiles = chain::record_count(s, 2) as u64;
+    let tiles = chain::record_count(s, record::TILE) as u64;
     if references_given(s) != tiles {
         return false;
     }

@@ -7,10 +7,11 @@ use lib.Dec.{leb}
 use Rattle.wire.specs.Pick.{pick}
 use Rattle.wire.specs.Tests.{_≤?_, _≡?_, is, isNot, passes, allBelow}
 use Rattle.wire.specs.Bytes.{sameBytes, largestInteger}
-use Rattle.header.specs.Names.{identifier}
+use Rattle.header.specs.Names.{identifier, longestName}
 use Rattle.header.specs.Fields.{headerLength, headerType, gridRows, gridColumns, tileRows, tileColumns, checksumEnabled, rasterSpace, coordinateSystem, elementCount, headerLimit}
 use Rattle.record.specs.Chain.{headerEnd}
-use Rattle.header.specs.Element.{entryStart, element, elementName, entriesRead}
+use Rattle.record.specs.Types.{headerRecordType}
+use Rattle.header.specs.Element.{entryStart, element, elementName, entriesRead, shortKind, mostElements}
 use Rattle.header.specs.Texts.{textRight, entryTexts}
 use Rattle.header.specs.Tail.{methodCount, productLabelAt, fieldsEnd}
 
@@ -20,7 +21,7 @@ lengthRight s n = passes ((headerLength s % 8 ≡? 0) ∷ (headerLength s ≤? l
 
 -- and all of it is among the bytes; its type is 6
 unfoldable pub frameRight : List ℕ → ℕ → Bool
-frameRight s n = passes (is (lengthRight s n) ∷ (headerEnd s ≤? length s) ∷ (headerType s ≡? 6) ∷ [])
+frameRight s n = passes (is (lengthRight s n) ∷ (headerEnd s ≤? length s) ∷ (headerType s ≡? headerRecordType) ∷ [])
 
 -- a count or side is at least 1, and not negative
 unfoldable pub positive : ℕ → Bool
@@ -45,7 +46,7 @@ namesDiffer s e d = passes (isNot (sameBytes (elementName s d) (elementName s e)
 unfoldable pub elementRight : List ℕ → ℕ → Bool
 elementRight s e =
     passes
-    ((element s e .kind ≤? 3) ∷ is (identifier 32 (elementName s e)) ∷ is (allBelow e (namesDiffer s e))
+    ((element s e .kind ≤? shortKind) ∷ is (identifier longestName (elementName s e)) ∷ is (allBelow e (namesDiffer s e))
     ∷ is (entryTexts s (entryStart s e)) ∷ [])
 
 -- there is at least one element; the entries read fit before the checksum, each is right, and no two names are equal.
@@ -60,7 +61,7 @@ elementsRight s =
 -- 0 to 7 padding bytes before the checksum, and a product label that is UTF-8 (Req 06)
 unfoldable pub tailRight : List ℕ → Bool
 tailRight s =
-    pick (leb (elementCount s) 16)
+    pick (leb (elementCount s) mostElements)
     (passes ((methodCount s ≤? largestInteger) ∷ (fieldsEnd s ≤? headerLimit s) ∷ (headerLimit s ≤? fieldsEnd s + 7)
     ∷ is (textRight s (productLabelAt s)) ∷ []))
     true

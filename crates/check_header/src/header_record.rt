@@ -17,7 +17,7 @@ pub fn length_right(s: &[u8], length: usize) -> bool
     if n % 8 != 0 {
         return false;
     }
-    if 2147483647 < n {
+    if wire::LARGEST_INTEGER < n {
         return false;
     }
     if length < chain::header_end(s) {
@@ -34,7 +34,7 @@ fn frame_right(s: &[u8], length: usize) -> bool
         if s.len() < chain::header_end(s) {
             return false;
         }
-        if fields::header_type(s) != 6 {
+        if fields::header_type(s) != record::HEADER {
             return false;
         }
         return true;
@@ -49,7 +49,7 @@ fn is_positive(x: u32) -> bool
     if x < 1 {
         return false;
     }
-    if 2147483647 < x {
+    if wire::LARGEST_INTEGER < x {
         return false;
     }
     true
@@ -115,10 +115,10 @@ fn element_right(s: &[u8], e: usize) -> bool
     ensures { λ r. ⌜ r ≡ elementRight (now (s .entry)) e ⌝ }
 {
     let x = entries::element(s, e);
-    if 3 < x.kind {
+    if entries::SHORT < x.kind {
         return false;
     }
-    if names::identifier_at(s, x.name, x.name_length, 32) {
+    if names::identifier_at(s, x.name, x.name_length, names::LONGEST) {
         if name_new(s, e) {
             return texts::element_texts(s, e);
         }
@@ -158,10 +158,10 @@ fn elements_right(s: &[u8]) -> bool
 fn tail_right(s: &[u8]) -> bool
     ensures { λ r. ⌜ r ≡ tailRight (now (s .entry)) ⌝ }
 {
-    if 16 < fields::element_count(s) {
+    if entries::MOST_ELEMENTS < fields::element_count(s) {
         return true;
     }
-    if 2147483647 < tail::method_count(s) {
+    if wire::LARGEST_INTEGER < tail::method_count(s) {
         return false;
     }
     let end = tail::fields_end(s);

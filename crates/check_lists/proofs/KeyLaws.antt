@@ -26,10 +26,11 @@ use Rattle.record.proofs.SeekLaws.{over, seek-type}
 use Rattle.record.proofs.Step.{the-type}
 use Rattle.bodies.specs.MetadataRecord.{metadataName, recordId}
 use Rattle.record.proofs.FindLaws.{of-type, type-of}
+use Rattle.record.specs.Types.{metadataType}
 use Rattle.wire.proofs.ListLaws.{every-member, member-every, member-some}
 use Rattle.wire.specs.Lists.{some}
 use Rattle.check_lists.specs.Metadata.{sameKey, keysDistinct}
-use Rattle.check_lists.specs.inner.Keys.{keyHash, keySlot, keyFine, keySeen, allFine, partDistinct}
+use Rattle.check_lists.specs.inner.Keys.{keyHash, keySlot, keyFine, keySeen, allFine, partDistinct, partPlaces}
 use Rattle.check_lists.specs.inner.Search.{hasTwin}
 use Rattle.check_lists.proofs.FindLaws.{twin-not}
 
@@ -41,19 +42,19 @@ hash-is s x n i name p q e = rw (p, q, e)
 
 module _ (s : List ℕ) (parts part x : ℕ) where
   module _ (k : ℕ) (p : k ≡ typeAt s x) where
-    pub place-type : (k ≡ 1 → ⊥) → 131072 ≡ keySlot s parts part x
+    pub place-type : (k ≡ 1 → ⊥) → partPlaces ≡ keySlot s parts part x
     unfolding keySlot
-    place-type h = rw (← no ((typeAt s x ≡? 1) ∷ (keyHash s x % parts ≡? part) ∷ []) (λ z. h (p ∙ z .0)))
+    place-type h = rw (← no ((typeAt s x ≡? metadataType) ∷ (keyHash s x % parts ≡? part) ∷ []) (λ z. h (p ∙ z .0)))
 
     module _ (h : ℕ) (q : h ≡ keyHash s x) where
-      pub place-part : (h % parts ≡ part → ⊥) → 131072 ≡ keySlot s parts part x
+      pub place-part : (h % parts ≡ part → ⊥) → partPlaces ≡ keySlot s parts part x
       unfolding keySlot
-      place-part f = rw (← no ((typeAt s x ≡? 1) ∷ (keyHash s x % parts ≡? part) ∷ []) (λ z. f (rw q (z .1 .0))))
+      place-part f = rw (← no ((typeAt s x ≡? metadataType) ∷ (keyHash s x % parts ≡? part) ∷ []) (λ z. f (rw q (z .1 .0))))
 
-      pub place-is : k ≡ 1 → h % parts ≡ part → h / parts % 131072 ≡ keySlot s parts part x
+      pub place-is : k ≡ 1 → h % parts ≡ part → h / parts % partPlaces ≡ keySlot s parts part x
       unfolding keySlot
       place-is f g =
-          rw (← yes ((typeAt s x ≡? 1) ∷ (keyHash s x % parts ≡? part) ∷ []) (sym p ∙ f, (rw (← q) g, tt))) (rw q)
+          rw (← yes ((typeAt s x ≡? metadataType) ∷ (keyHash s x % parts ≡? part) ∷ []) (sym p ∙ f, (rw (← q) g, tt))) (rw q)
 
 -- a record takes its place
 
@@ -200,7 +201,7 @@ module _ (s : List ℕ) (parts part j : ℕ) where
 -- and where no metadata record has a twin, each is fine
 
 alone-fine :
-    (s : List ℕ) (parts part : ℕ) (seen : List ℕ) (x : ℕ) → length seen ≤ 131072 → (typeAt s x ≡ 1 → hasTwin s x ≡ false) → true ≡ keyFine s parts part seen x
+    (s : List ℕ) (parts part : ℕ) (seen : List ℕ) (x : ℕ) → length seen ≤ partPlaces → (typeAt s x ≡ 1 → hasTwin s x ≡ false) → true ≡ keyFine s parts part seen x
 alone-fine s parts part seen x h f = go (eqb (typeAt s x) 1) refl
   where
     go : (b : Bool) → eqb (typeAt s x) 1 ≡ b → true ≡ keyFine s parts part seen x
@@ -209,7 +210,7 @@ alone-fine s parts part seen x h f = go (eqb (typeAt s x) 1) refl
         fine-out s parts part seen x (keySlot s parts part x) refl (omega (arith, h, place-type s parts part x (typeAt s x) refl (eqb-false _ _ e))) .0
 
 all-alone :
-    (s : List ℕ) (parts part : ℕ) (seen l : List ℕ) → length seen ≤ 131072 → ((x : ℕ) → List·Memᴰ x l → typeAt s x ≡ 1 → hasTwin s x ≡ false) →
+    (s : List ℕ) (parts part : ℕ) (seen l : List ℕ) → length seen ≤ partPlaces → ((x : ℕ) → List·Memᴰ x l → typeAt s x ≡ 1 → hasTwin s x ≡ false) →
     allFine s parts part seen l ≡ true
 unfolding allFine
 all-alone s parts part seen [] h f = refl
@@ -247,8 +248,8 @@ part-apart s parts h e {x} {y} m n d k =
     let p = of-type s 1 n in
     let u = place-is s parts (keyHash s x % parts) x (typeAt s x) refl (keyHash s x) refl (o .1) refl in
     let v = place-is s parts (keyHash s x % parts) y (typeAt s y) refl (keyHash s x) (same-hash s x y k) (p .1) refl in
-    let l = length-replicate {A = ℕ} 131072 0 in
-    all-two s parts (keyHash s x % parts) (keyHash s x / parts % 131072) (replicate 131072 0) (records s)
+    let l = length-replicate {A = ℕ} partPlaces 0 in
+    all-two s parts (keyHash s x % parts) (keyHash s x / parts % partPlaces) (replicate partPlaces 0) (records s)
     (below-each parts (partDistinct s parts) e (keyHash s x % parts) (mod-lt (keyHash s x) h))
     (omega (arith, l)) (o .0) (p .0) d (sym u) (sym v) (twin-from s x y n d k) (twin-from s y x m (λ i. d (sym i)) (same-back s x y k))
 
@@ -272,12 +273,12 @@ part-not : (s : List ℕ) (parts part : ℕ) → partDistinct s parts part ≡ f
 unfolding partDistinct
 part-not s parts part e = no-true _ (λ k. not-both (all k) e)
   where
-    all : keysDistinct s ≡ true → allFine s parts part (replicate 131072 0) (records s) ≡ true
+    all : keysDistinct s ≡ true → allFine s parts part (replicate partPlaces 0) (records s) ≡ true
     all k =
-        all-alone s parts part (replicate 131072 0) (records s) (omega (arith, length-replicate {A = ℕ} 131072 0))
+        all-alone s parts part (replicate partPlaces 0) (records s) (omega (arith, length-replicate {A = ℕ} partPlaces 0))
         (λ x m t. no-twin s k x (type-of s 1 m t))
 
-pub part-is : (s : List ℕ) (parts part : ℕ) (seen : List ℕ) (r : Bool) → r ≡ allFine s parts part seen (records s) → seen ≡ replicate 131072 0 → r ≡ partDistinct s parts part
+pub part-is : (s : List ℕ) (parts part : ℕ) (seen : List ℕ) (r : Bool) → r ≡ allFine s parts part seen (records s) → seen ≡ replicate partPlaces 0 → r ≡ partDistinct s parts part
 unfolding partDistinct
 part-is s parts part seen r e z = e ∙ rw z
 

@@ -11,6 +11,7 @@ use Rattle.wire.specs.Bytes.{u32At, u64At}
 use Rattle.wire.proofs.TestLaws.{means, yes, no}
 use Rattle.wire.proofs.ItemLaws.{advance-none, advance-more, advance-mono}
 use Rattle.header.specs.Fields.{fileSpaceReference, metadataReference}
+use Rattle.header.specs.Element.{longestString}
 use Rattle.record.specs.Record.{lengthAt, recordLimit, padded}
 use Rattle.bodies.specs.ListDirectories.{entryCount, fileSpaceAt, freeCount, freeEntryAt, metadataAt, metadataCount, metadataEntrySize, metadataEntryEnd, metadataEntryAt}
 use Rattle.check_lists.specs.declared.ListKind.{ListKind}
@@ -55,7 +56,7 @@ module _ (s : List ℕ) (l : ListKind) (e : l ≡ FreeSpace) where
   unfolding listFits
   fits-free r q = rw e q
 
-  pub size-free : (p : ℕ) → (12 ≡ listEntrySize s l p) × (12 ≤ 65550)
+  pub size-free : (p : ℕ) → (12 ≡ listEntrySize s l p) × (12 ≤ 13 + longestString)
   unfolding listEntrySize
   size-free p = (rw e, omega arith)
 
@@ -76,7 +77,7 @@ module _ (s : List ℕ) (l : ListKind) (e : l ≡ Metadata) where
   unfolding listFits
   fits-metadata r q = rw e q
 
-  pub size-metadata : (p r : ℕ) → r ≡ metadataEntrySize s p → r ≤ 65550 → (r ≡ listEntrySize s l p) × (r ≤ 65550)
+  pub size-metadata : (p r : ℕ) → r ≡ metadataEntrySize s p → r ≤ 13 + longestString → (r ≡ listEntrySize s l p) × (r ≤ 13 + longestString)
   unfolding listEntrySize
   size-metadata p r q h = (rw e q, h)
 

@@ -29,7 +29,7 @@ use Rattle.check_lists.specs.declared.ListKind.the-variants.{FreeSpace, 
 use Rattle.check_lists.specs.Listed.{listedOnce}
 use Rattle.check_lists.specs.FileSpace.{freeEntryOf}
 use Rattle.check_lists.specs.Metadata.{metadataEntryOf}
-use Rattle.check_lists.specs.inner.Windows.{namedBy, entryIn, slotOf, oneMore, noted, tallied, countNotOne, notOnceIn, windowCounts, windowRight}
+use Rattle.check_lists.specs.inner.Windows.{namedBy, entryIn, slotOf, oneMore, noted, tallied, countNotOne, notOnceIn, windowCounts, windowRight, windowPlaces, windowBytes}
 use Rattle.check_lists.specs.inner.Search.{listedKind, listCount, listFits, listEntryAt, listEntrySize, listEntryOf, listEntryIs}
 use Rattle.check_lists.proofs.ListLaws.{list-room, list-step, entry-is}
 
@@ -51,7 +51,7 @@ named-is s Metadata x p e = omega (arith, means _ e .0)
 
 -- the place of an entry in a window
 
-slot-none : (s : List ℕ) (l : ListKind) (base p : ℕ) → entryIn s l base p (namedBy s l p) ≡ false → 131072 ≡ slotOf s l base p
+slot-none : (s : List ℕ) (l : ListKind) (base p : ℕ) → entryIn s l base p (namedBy s l p) ≡ false → windowPlaces ≡ slotOf s l base p
 unfolding slotOf
 slot-none s l base p e = rw e
 
@@ -60,29 +60,29 @@ unfolding slotOf
 slot-some s l base p e = rw e
 
 module _ (s : List ℕ) (l : ListKind) (base p x : ℕ) (e : x ≡ namedBy s l p) where
-  pub slot-before : x < base → 131072 ≡ slotOf s l base p
+  pub slot-before : x < base → windowPlaces ≡ slotOf s l base p
   unfolding entryIn
   slot-before h = slot-none s l base p (rw (← e) (sym (no _ (λ z. omega (arith, z .0)))))
 
-  pub slot-past : 1048575 < x - base → 131072 ≡ slotOf s l base p
+  pub slot-past : windowBytes ≤ x - base → windowPlaces ≡ slotOf s l base p
   unfolding entryIn
   slot-past h = slot-none s l base p (rw (← e) (sym (no _ (λ z. omega (arith, z .1 .0)))))
 
-  pub slot-between : ((x - base) % 8 ≡ 0 → ⊥) → 131072 ≡ slotOf s l base p
+  pub slot-between : ((x - base) % 8 ≡ 0 → ⊥) → windowPlaces ≡ slotOf s l base p
   unfolding entryIn
   slot-between h = slot-none s l base p (rw (← e) (sym (no _ (λ z. h (z .1 .1 .0)))))
 
   module _ (b : Bool) (q : b ≡ listEntryOf s l x p) where
-    pub slot-other : b ≡ false → 131072 ≡ slotOf s l base p
+    pub slot-other : b ≡ false → windowPlaces ≡ slotOf s l base p
     unfolding entryIn
     slot-other h = slot-none s l base p (rw (← e) (sym (no _ (λ z. not-both (z .1 .1 .1 .0) (sym q ∙ h)))))
 
-    pub slot-is : b ≡ true → base ≤ x → x - base ≤ 1048575 → (x - base) % 8 ≡ 0 → (x - base) / 8 ≡ slotOf s l base p
+    pub slot-is : b ≡ true → base ≤ x → x - base < windowBytes → (x - base) % 8 ≡ 0 → (x - base) / 8 ≡ slotOf s l base p
     unfolding entryIn
-    slot-is h i j k = rw e (slot-some s l base p (rw (← e) (sym (yes _ (i, (j, (k, (sym q ∙ h, tt))))))))
+    slot-is h i j k = rw e (slot-some s l base p (rw (← e) (sym (yes _ (i, (omega arith, (k, (sym q ∙ h, tt))))))))
 
 -- an entry adds to the count of the record that it is of, and to no other
-slot-each : (s : List ℕ) (l : ListKind) (base p j : ℕ) → j < 131072 → eqb (slotOf s l base p) j ≡ listEntryOf s l (base + 8 * j) p
+slot-each : (s : List ℕ) (l : ListKind) (base p j : ℕ) → j < windowPlaces → eqb (slotOf s l base p) j ≡ listEntryOf s l (base + 8 * j) p
 unfolding entryIn
 slot-each s l base p j h = iff _ _ (λ e. to (entryIn s l base p (namedBy s l p)) refl (eqb-true _ _ e)) from
   where
@@ -171,7 +171,7 @@ tallied-length s l base cs zero = refl
 tallied-length s l base cs (suc k) = note-length (tallied s l base cs k) _ ∙ tallied-length s l base cs k
 
 tallied-each :
-    (s : List ℕ) (l : ListKind) (base : ℕ) (cs : List ℕ) (j : ℕ) → j < 131072 → length cs ≡ 131072 → getD cs j 0 ≡ 0 → (k : ℕ) →
+    (s : List ℕ) (l : ListKind) (base : ℕ) (cs : List ℕ) (j : ℕ) → j < windowPlaces → length cs ≡ windowPlaces → getD cs j 0 ≡ 0 → (k : ℕ) →
     getD (tallied s l base cs k) j 0 ≡ upToTwo (countBelow k (listEntryIs s l (base + 8 * j)))
 unfolding tallied
 tallied-each s l base cs j h i z zero = z ∙ sym (ap upToTwo (count-none _) ∙ two-few 0 (omega arith))
@@ -192,15 +192,15 @@ tallied-each s l base cs j h i z (suc k) = go (listEntryOf s l (base + 8 * j) (l
         rw (← add-one k) (count-stay k (listEntryIs s l (base + 8 * j)) (entry-is s l (base + 8 * j) k ∙ e)) in
         rw n (note-other (tallied s l base cs k) (slotOf s l base (listEntryAt s l k)) j (λ g. f (sym g)) ∙ r)
 
-counts-length : (s : List ℕ) (l : ListKind) (base : ℕ) → length (windowCounts s l base) ≡ 131072
+counts-length : (s : List ℕ) (l : ListKind) (base : ℕ) → length (windowCounts s l base) ≡ windowPlaces
 unfolding windowCounts
-counts-length s l base = tallied-length s l base (replicate 131072 0) (listCount s l) ∙ length-replicate {A = ℕ} 131072 0
+counts-length s l base = tallied-length s l base (replicate windowPlaces 0) (listCount s l) ∙ length-replicate {A = ℕ} windowPlaces 0
 
 counts-each :
-    (s : List ℕ) (l : ListKind) (base j : ℕ) → j < 131072 → getD (windowCounts s l base) j 0 ≡ upToTwo (countBelow (listCount s l) (listEntryIs s l (base + 8 * j)))
+    (s : List ℕ) (l : ListKind) (base j : ℕ) → j < windowPlaces → getD (windowCounts s l base) j 0 ≡ upToTwo (countBelow (listCount s l) (listEntryIs s l (base + 8 * j)))
 unfolding windowCounts
 counts-each s l base j h =
-    tallied-each s l base (replicate 131072 0) j h (length-replicate {A = ℕ} 131072 0) (getD-replicate {A = ℕ} 131072 j 0 0 h) (listCount s l)
+    tallied-each s l base (replicate windowPlaces 0) j h (length-replicate {A = ℕ} windowPlaces 0) (getD-replicate {A = ℕ} windowPlaces j 0 0 h) (listCount s l)
 
 -- a loop over the entries that adds them
 
@@ -275,7 +275,7 @@ window-found s l base cs f d e =
     go false b = refl
 
 module _
-    (s : List ℕ) (l : ListKind) (base : ℕ) (zs cs : List ℕ) (f : Found) (z : zs ≡ replicate 131072 0) (q : cs ≡ tallied s l base zs (listCount s l))
+    (s : List ℕ) (l : ListKind) (base : ℕ) (zs cs : List ℕ) (f : Found) (z : zs ≡ replicate windowPlaces 0) (q : cs ≡ tallied s l base zs (listCount s l))
     (e : f ≡ firstRecord s (headerEnd s) (notOnceIn s l base cs))
   where
     whole : cs ≡ windowCounts s l base
@@ -312,7 +312,7 @@ record-placed s kind {x} m = placed s x (headerEnd s) (of-type s kind m .0)
 
 -- in the window, at a place, a record is right just where it is listed once
 
-module _ (s : List ℕ) (l : ListKind) (base x : ℕ) (f : base ≤ x) (h : x < base + 1048576) (e : (x - base) % 8 ≡ 0) where
+module _ (s : List ℕ) (l : ListKind) (base x : ℕ) (f : base ≤ x) (h : x < base + windowBytes) (e : (x - base) % 8 ≡ 0) where
   count-at : getD (windowCounts s l base) ((x - base) / 8) 0 ≡ upToTwo (countBelow (listCount s l) (listEntryIs s l x))
   count-at =
       let j : base + 8 * ((x - base) / 8) ≡ x = omega arith in
@@ -332,7 +332,7 @@ module _ (s : List ℕ) (l : ListKind) (base x : ℕ) (f : base ≤ x) (h : x < 
   unfolding countNotOne
   once-not-one g = sym (no _ (λ z. z .1 .1 .0 (count-at ∙ ap upToTwo g ∙ two-few 1 (omega arith))))
 
-not-one-outside : (s : List ℕ) (l : ListKind) (base x : ℕ) → base + 1048576 ≤ x → countNotOne base (windowCounts s l base) x ≡ false
+not-one-outside : (s : List ℕ) (l : ListKind) (base x : ℕ) → base + windowBytes ≤ x → countNotOne base (windowCounts s l base) x ≡ false
 unfolding countNotOne
 not-one-outside s l base x h = sym (no _ (λ z. let n = counts-length s l base in omega (arith, z .1 .0)))
 
@@ -357,7 +357,7 @@ passed-begin s l base e =
 
 module _ (s : List ℕ) (l : ListKind) (base : ℕ) (g : Passed s l base) where
   module _ (r : Bool) (q : r ≡ windowRight s l base) where
-    pub passed-more : r ≡ true → Passed s l (base + 1048576)
+    pub passed-more : r ≡ true → Passed s l (base + windowBytes)
     unfolding windowRight
     passed-more e =
         record {
@@ -367,7 +367,7 @@ module _ (s : List ℕ) (l : ListKind) (base : ℕ) (g : Passed s l base) where
         }
       where
         go :
-            (x : ℕ) → List·Memᴰ x (recordsOf s (listedKind l)) → x < base + 1048576 → (b : Bool) → leb base x ≡ b →
+            (x : ℕ) → List·Memᴰ x (recordsOf s (listedKind l)) → x < base + windowBytes → (b : Bool) → leb base x ≡ b →
             countBelow (listCount s l) (listEntryIs s l x) ≡ 1
         go x m h true i =
             let p = record-placed s (listedKind l) m in
@@ -377,11 +377,11 @@ module _ (s : List ℕ) (l : ListKind) (base : ℕ) (g : Passed s l base) where
 
     pub passed-not : r ≡ false → false ≡ listedOnce s (listedKind l) (listCount s l) (listEntryIs s l)
     unfolding windowRight listedOnce
-    passed-not e = no-true _ (λ o. not-both (member-every _ (recordsOf s (listedKind l)) (λ x m. all o x m (leb base x) refl (leb (base + 1048576) x) refl)) (sym q ∙ e))
+    passed-not e = no-true _ (λ o. not-both (member-every _ (recordsOf s (listedKind l)) (λ x m. all o x m (leb base x) refl (leb (base + windowBytes) x) refl)) (sym q ∙ e))
       where
         all :
             every (λ x. eqb (countBelow (listCount s l) (listEntryIs s l x)) 1) (recordsOf s (listedKind l)) ≡ true →
-            (x : ℕ) → List·Memᴰ x (recordsOf s (listedKind l)) → (b : Bool) → leb base x ≡ b → (c : Bool) → leb (base + 1048576) x ≡ c →
+            (x : ℕ) → List·Memᴰ x (recordsOf s (listedKind l)) → (b : Bool) → leb base x ≡ b → (c : Bool) → leb (base + windowBytes) x ≡ c →
             not (countNotOne base (windowCounts s l base) x) ≡ true
         all o x m true i false j =
             let p = record-placed s (listedKind l) m in

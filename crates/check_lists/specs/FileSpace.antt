@@ -7,6 +7,7 @@ use Rattle.wire.specs.Tests.{_≤?_, _≡?_, is, passes}
 use Rattle.wire.specs.Bytes.{u32At, u64At, largestInteger}
 use Rattle.header.specs.Fields.{fileSpaceReference}
 use Rattle.record.specs.Record.{lengthAt, padded}
+use Rattle.record.specs.Types.{freeType, fileSpaceDirectoryType}
 use Rattle.check_directory.specs.References.{refersOrZero, noOther}
 use Rattle.bodies.specs.ListDirectories.{freeEntryAt, freeCount, fileSpaceAt}
 use Rattle.check_lists.specs.Listed.{listedOnce, nothingElse}
@@ -20,11 +21,11 @@ freeEntryIs s x k = freeEntryOf s x (freeEntryAt s k)
 
 -- every free record is listed once; where the reference is zero there is no list, so there is no such record
 unfoldable pub freeListed : List ℕ → Bool
-freeListed s = listedOnce s 0 (freeCount s) (freeEntryIs s)
+freeListed s = listedOnce s freeType (freeCount s) (freeEntryIs s)
 
 -- the list has no other entry
 unfoldable pub freeOnly : List ℕ → Bool
-freeOnly s = nothingElse s 0 (freeCount s) (freeEntryIs s)
+freeOnly s = nothingElse s freeType (freeCount s) (freeEntryIs s)
 
 -- a file-space directory has at least one entry
 unfoldable pub freeNotEmpty : List ℕ → Bool
@@ -40,5 +41,5 @@ freeFits s =
 unfoldable pub fileSpaceRight : List ℕ → Bool
 fileSpaceRight s =
     passes
-    (is (refersOrZero s 3 (fileSpaceReference s)) ∷ is (noOther s 3 (fileSpaceReference s)) ∷ is (freeFits s) ∷ is (freeListed s)
-    ∷ is (freeOnly s) ∷ [])
+    (is (refersOrZero s fileSpaceDirectoryType (fileSpaceReference s))
+    ∷ is (noOther s fileSpaceDirectoryType (fileSpaceReference s)) ∷ is (freeFits s) ∷ is (freeListed s) ∷ is (freeOnly s) ∷ [])

@@ -9,6 +9,7 @@ use Rattle.header.specs.Fields.{metadataReference}
 use Rattle.record.specs.Record.{contentAt, padded}
 use Rattle.bodies.specs.MetadataRecord.{metadataName, recordId, dataType}
 use Rattle.record.specs.Chain.{recordsOf}
+use Rattle.record.specs.Types.{metadataType, metadataDirectoryType}
 use Rattle.wire.specs.Lists.{every}
 use Rattle.check_directory.specs.References.{refersOrZero, noOther}
 use Rattle.bodies.specs.ListDirectories.{metadataEntryAt, metadataCount, metadataAt}
@@ -28,15 +29,15 @@ metadataEntryIs s x k = metadataEntryOf s x (metadataEntryAt s k)
 
 -- every metadata record is listed once; where the reference is zero there is no list, so there is no such record
 unfoldable pub metadataListed : List ℕ → Bool
-metadataListed s = listedOnce s 1 (metadataCount s) (metadataEntryIs s)
+metadataListed s = listedOnce s metadataType (metadataCount s) (metadataEntryIs s)
 
 -- and nothing else is
 unfoldable pub metadataOnly : List ℕ → Bool
-metadataOnly s = nothingElse s 1 (metadataCount s) (metadataEntryIs s)
+metadataOnly s = nothingElse s metadataType (metadataCount s) (metadataEntryIs s)
 
 -- no two records have the same pair: of each, it alone has its own
 unfoldable pub keysDistinct : List ℕ → Bool
-keysDistinct s = every (λ x. every (λ y. eqb x y || not (sameKey s x y)) (recordsOf s 1)) (recordsOf s 1)
+keysDistinct s = every (λ x. every (λ y. eqb x y || not (sameKey s x y)) (recordsOf s metadataType)) (recordsOf s metadataType)
 
 -- the count, which is not negative, fits; the directory may be empty
 unfoldable pub metadataFits : List ℕ → Bool
@@ -47,5 +48,6 @@ metadataFits s =
 unfoldable pub metadataDirectoryRight : List ℕ → Bool
 metadataDirectoryRight s =
     passes
-    (is (refersOrZero s 4 (metadataReference s)) ∷ is (noOther s 4 (metadataReference s)) ∷ is (metadataFits s)
-    ∷ is (metadataListed s) ∷ is (metadataOnly s) ∷ is (keysDistinct s) ∷ [])
+    (is (refersOrZero s metadataDirectoryType (metadataReference s))
+    ∷ is (noOther s metadataDirectoryType (metadataReference s)) ∷ is (metadataFits s) ∷ is (metadataListed s)
+    ∷ is (metadataOnly s) ∷ is (keysDistinct s) ∷ [])

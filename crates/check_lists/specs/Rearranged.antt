@@ -7,6 +7,7 @@ use Rattle.wire.specs.Bytes.{u32At, u64At}
 use Rattle.record.specs.Record.{lengthAt, contentAt}
 use Rattle.bodies.specs.MetadataRecord.{metadataName, recordId, dataType}
 use Rattle.record.specs.Chain.{recordsOf}
+use Rattle.record.specs.Types.{freeType, metadataType}
 use Rattle.bodies.specs.ListDirectories.{freeCount, freeEntryAt, metadataCount, metadataEntryAt}
 
 -- stage 9: ys has the members of xs, each as often, in any order. The empty list's only rearrangement is itself; one of x ∷ xs has
@@ -32,7 +33,7 @@ unfoldable pub freeRecord : List ℕ → ℕ → ℕ × ℕ
 freeRecord s x = (x, lengthAt s x)
 
 unfoldable pub freeRecords : List ℕ → List (ℕ × ℕ)
-freeRecords s = map (freeRecord s) (recordsOf s 0)
+freeRecords s = map (freeRecord s) (recordsOf s freeType)
 
 -- stage 9: the free list is a rearrangement of the free-space records
 unfoldable pub FreeRearranged : List ℕ → Type 0
@@ -59,7 +60,7 @@ unfoldable pub metadataRecord : List ℕ → ℕ → Described
 metadataRecord s x = record { content = contentAt x; name = metadataName s x; id = recordId s x; code = dataType s x }
 
 unfoldable pub metadataRecords : List ℕ → List Described
-metadataRecords s = map (metadataRecord s) (recordsOf s 1)
+metadataRecords s = map (metadataRecord s) (recordsOf s metadataType)
 
 -- stage 9: the metadata list is a rearrangement of the metadata records
 unfoldable pub MetadataRearranged : List ℕ → Type 0

@@ -16,7 +16,7 @@ pub fn free_fits(s: &[u8]) -> bool
     if count < 1 {
         return false;
     }
-    if 2147483647 < count {
+    if wire::LARGEST_INTEGER < count {
         return false;
     }
     frame::entries_fit(s, list_directories::file_space_at(s), 12, count as u64, 12)

@@ -32,19 +32,33 @@ ghost use Prim.Native.Nat.{_+_, _≤_, _<_};
 ghost use lib.ListN.{length};
 ghost use Rattle.record.specs.Record.{typeAt};
 ghost use Rattle.record.specs.Chain.{firstRecord, headerEnd, records};
+ghost use Rattle.header.specs.Element.{longestString};
 ghost use Rattle.check_lists.specs.Listed.{listedOnce};
 ghost use Rattle.check_lists.specs.Metadata.{keysDistinct};
 ghost use Rattle.check_lists.specs.inner.Windows.{namedBy, slotOf, oneMore, noted, tallied, notOnceIn, windowRight};
 ghost use Rattle.check_lists.specs.inner.Keys.{keyHash, keySlot, keyFine, keySeen, allFine, partDistinct};
 ghost use Rattle.check_lists.specs.inner.Search.{listedKind, listCount, listFits, listEntryAt, listEntryOf, listEntryIs, listEntrySize, listRight, twinOf, hasTwin};
 
+// A window's places, and the bytes that they lie over.
+const WINDOW_PLACES: usize = 131072;
+
+const WINDOW_BYTES: usize = 8 * WINDOW_PLACES;
+
+// The places of a part of the hashes, and for how many metadata records there is one part more.
+const PART_PLACES: usize = 131072;
+
+const PART_RECORDS: u64 = 2048;
+
+// What IDs are multiplied by: near 2^32 divided by the golden ratio, so that those that follow one another lie far apart.
+const SPREAD: u64 = 2654435761;
+
 // The type of the records that a list is of.
 fn listed_kind(list: ListKind) -> u32
     ensures { λ r. ⌜ r ≡ listedKind list ⌝ }
 {
     match list {
-        ListKind::FreeSpace => 0,
-        ListKind::Metadata => 1,
+        ListKind::FreeSpace => record::FREE,
+        ListKind::Metadata => record::METADATA,
     }
 }
 
@@ -82,7 +96,7 @@ fn first_entry(s: &[u8], list: ListKind) -> usize
 // The size of the entry at a position.
 fn entry_size(s: &[u8], list: ListKind, p: usize) -> usize
     ensures is { λ r. ⌜ r ≡ listEntrySize (now (s .entry)) list p ⌝ }
-    ensures near { λ r. ⌜ r ≤ 65550 ⌝ }
+    ensures near { λ r. ⌜ r ≤ 13 + longestString ⌝ }
 {
     match list {
         ListKind::FreeSpace => 12,
@@ -110,25 +124,26 @@ fn named_by(s: &[u8], list: ListKind, p: usize) -> usize
     }
 }
 
-// Which of a window's counts the entry at a position adds to: that of the record that it is of, or 131072, which is none.
+// Which of a window's counts the entry at a position adds to: that of the record that it is of, or the number of places,
+// which is none.
 fn slot_of(s: &[u8], list: ListKind, base: usize, p: usize) -> usize
     ensures { λ r. ⌜ r ≡ slotOf (now (s .entry)) list base p ⌝ }
 {
     let x = named_by(s, list, p);
     if x < base {
-        return 131072;
+        return WINDOW_PLACES;
     }
     let d = x - base;
-    if 1048575 < d {
-        return 131072;
+    if WINDOW_BYTES <= d {
+        return WINDOW_PLACES;
     }
     if d % 8 != 0 {
-        return 131072;
+        return WINDOW_PLACES;
     }
     if entry_of(s, list, x, p) {
         return d / 8;
     }
-    131072
+    WINDOW_PLACES
 }
 
 // One more, up to 2.
@@ -216,7 +231,7 @@ fn window_right(s: &[u8], list: ListKind, base: usize) -> bool
     requires { ⌜ listFits (now s) list ≡ true ⌝ }
     ensures { λ r. ⌜ r ≡ windowRight (now (s .entry)) list base ⌝ }
 {
-    let mut counts = [0u8; 131072];
+    let mut counts = [0u8; WINDOW_PLACES];
     tally(s, list, base, &mut counts);
     if let Found::At(_) = find_not_once(s, list, base, &counts) {
         return false;
@@ -232,7 +247,7 @@ fn listed_once(s: &[u8], list: ListKind) -> bool
     let mut base = chain::header_end(s);
     while base < s.len() {
         if window_right(s, list, base) {
-            base += 1048576;
+            base += WINDOW_BYTES;
         } else {
             return false;
         }
@@ -263,7 +278,7 @@ fn is_twin(s: &[u8], x: usize, kind: u32, y: usize) -> bool
     requires { ⌜ kind ≡ typeAt (now s) y ⌝ }
     ensures { λ r. ⌜ r ≡ twinOf (now (s .entry)) x y ⌝ }
 {
-    if kind != 1 {
+    if kind != record::METADATA {
         return false;
     }
     if x == y {
@@ -312,22 +327,23 @@ fn key_hash(s: &[u8], x: usize) -> u64
 {
     let name = crc32c::crc_of(metadata_record::metadata_name(s, x));
     let id = metadata_record::record_id(s, x);
-    (name as u64) + (id as u64) * 2654435761
+    (name as u64) + (id as u64) * SPREAD
 }
 
-// The place of a metadata record of a part of the hashes; 131072 where it is of another part, or of another type.
+// The place of a metadata record of a part of the hashes; the number of places where it is of another part, or of
+// another type.
 fn key_slot(s: &[u8], parts: u64, part: u64, kind: u32, x: usize) -> usize
     requires { ⌜ (0 < parts) × (kind ≡ typeAt (now s) x) ⌝ }
     ensures { λ r. ⌜ r ≡ keySlot (now (s .entry)) parts part x ⌝ }
 {
-    if kind != 1 {
-        return 131072;
+    if kind != record::METADATA {
+        return PART_PLACES;
     }
     let h = key_hash(s, x);
     if h % parts != part {
-        return 131072;
+        return PART_PLACES;
     }
-    (h / parts % 131072) as usize
+    (h / parts % PART_PLACES as u64) as usize
 }
 
 // A record takes its place. It is the first there, or no other has its pair.
@@ -382,7 +398,7 @@ fn part_distinct(s: &[u8], parts: u64, part: u64) -> bool
     requires { ⌜ 0 < parts ⌝ }
     ensures { λ r. ⌜ r ≡ partDistinct (now (s .entry)) parts part ⌝ }
 {
-    let mut seen = [0u8; 131072];
+    let mut seen = [0u8; PART_PLACES];
     all_fine(s, parts, part, &mut seen)
 }
 
@@ -391,7 +407,7 @@ fn part_distinct(s: &[u8], parts: u64, part: u64) -> bool
 pub fn keys_distinct(s: &[u8]) -> bool
     ensures { λ r. ⌜ r ≡ keysDistinct (now (s .entry)) ⌝ }
 {
-    let parts = (chain::record_count(s, 1) as u64) / 2048 + 1;
+    let parts = (chain::record_count(s, record::METADATA) as u64) / PART_RECORDS + 1;
     let mut part = 0;
     while part < parts {
         if part_distinct(s, parts, part) {

@@ -68,7 +68,7 @@ pub fn metadata_fits(s: &[u8]) -> bool
     if fields::metadata_reference(s) == 0 {
         return true;
     }
-    if 2147483647 < list_directories::metadata_count(s) {
+    if wire::LARGEST_INTEGER < list_directories::metadata_count(s) {
         return false;
     }
     let at = list_directories::metadata_at(s);

@@ -14,10 +14,10 @@ fn file_space_right(s: &[u8]) -> bool
     ensures { λ r. ⌜ r ≡ fileSpaceRight (now (s .entry)) ⌝ }
 {
     let reference = fields::file_space_reference(s);
-    if !references::refers_or_zero(s, 3, reference) {
+    if !references::refers_or_zero(s, record::FILE_SPACE_DIRECTORY, reference) {
         return false;
     }
-    if !references::no_other(s, 3, reference) {
+    if !references::no_other(s, record::FILE_SPACE_DIRECTORY, reference) {
         return false;
     }
     lists::list_right(s, ListKind::FreeSpace)
@@ -28,10 +28,10 @@ fn metadata_directory_right(s: &[u8]) -> bool
     ensures { λ r. ⌜ r ≡ metadataDirectoryRight (now (s .entry)) ⌝ }
 {
     let reference = fields::metadata_reference(s);
-    if !references::refers_or_zero(s, 4, reference) {
+    if !references::refers_or_zero(s, record::METADATA_DIRECTORY, reference) {
         return false;
     }
-    if !references::no_other(s, 4, reference) {
+    if !references::no_other(s, record::METADATA_DIRECTORY, reference) {
         return false;
     }
     if lists::list_right(s, ListKind::Metadata) {

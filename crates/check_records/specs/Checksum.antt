@@ -9,11 +9,12 @@ use Rattle.wire.specs.Bytes.{u32At}
 use Rattle.crc32c.specs.Crc.{crcPart}
 use Rattle.header.specs.Fields.{checksumEnabled}
 use Rattle.record.specs.Record.{lengthAt, typeAt}
+use Rattle.record.specs.Types.{freeType}
 
 -- how many bytes of a record of a type and a length are summed: all before the last four; of a free-space record the first
 -- eight only
 unfoldable pub summedBytes : ℕ → ℕ → ℕ
-summedBytes kind length = pick (eqb kind 0) 8 (length - 4)
+summedBytes kind length = pick (eqb kind freeType) 8 (length - 4)
 
 -- what the last four bytes have to be: if checksums are on, the CRC32C of those bytes; if off, zero
 unfoldable pub checksumOf : List ℕ → ℕ → ℕ

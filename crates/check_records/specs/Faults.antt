@@ -10,6 +10,7 @@ use Rattle.record.specs.declared.Found.{Found}
 use Rattle.record.specs.declared.Found.the-variants.{At, Nothing}
 use Rattle.record.specs.Record.{typeAt, recordOk}
 use Rattle.record.specs.Chain.{headerEnd, records, recordsEnd, findNot, Stand}
+use Rattle.record.specs.Types.{metadataType, tileType}
 use Rattle.check_records.specs.declared.Rule.{Rule}
 use Rattle.check_records.specs.declared.Rule.the-variants.{Checksum, Body}
 use Rattle.check_records.specs.Checksum.{checksumRight}
@@ -32,7 +33,7 @@ ChainFaultExactly = (s : List ℕ) (x : ℕ) → (chainFault s ≡ At x → Brok
 
 -- stage 8: the body of a tile or metadata record; no other record's body is judged there
 unfoldable pub bodyRight : List ℕ → ℕ → Bool
-bodyRight s at = pick (eqb (typeAt s at) 2) (tileRight s at) (pick (eqb (typeAt s at) 1) (metadataRight s at) true)
+bodyRight s at = pick (eqb (typeAt s at) tileType) (tileRight s at) (pick (eqb (typeAt s at) metadataType) (metadataRight s at) true)
 
 -- what a record has to keep, by the stage
 unfoldable pub rightOf : List ℕ → Rule → ℕ → Bool

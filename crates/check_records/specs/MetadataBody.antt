@@ -4,7 +4,7 @@ use mathlib.Core.List.{List, [], _∷_}
 use mathlib.Core.Bool.{Bool}
 use Rattle.wire.specs.Tests.{_≤?_, is, passes}
 use Rattle.wire.specs.Bytes.{largestInteger}
-use Rattle.header.specs.Names.{identifier}
+use Rattle.header.specs.Names.{identifier, longestName}
 use Rattle.header.specs.Texts.{textRight}
 use Rattle.bodies.specs.MetadataRecord.{metadataLength, metadataDescriptionAt, metadataEnd, metadataName, dataType}
 use Rattle.check_records.specs.Frame.{endRight}
@@ -14,5 +14,5 @@ use Rattle.check_records.specs.Frame.{endRight}
 unfoldable pub metadataRight : List ℕ → ℕ → Bool
 metadataRight s at =
     passes
-    ((metadataLength s at ≤? largestInteger) ∷ is (endRight s at (metadataEnd s at)) ∷ is (identifier 32 (metadataName s at))
-    ∷ (dataType s at ≤? 9) ∷ is (textRight s (metadataDescriptionAt s at)) ∷ [])
+    ((metadataLength s at ≤? largestInteger) ∷ is (endRight s at (metadataEnd s at))
+    ∷ is (identifier longestName (metadataName s at)) ∷ (dataType s at ≤? 9) ∷ is (textRight s (metadataDescriptionAt s at)) ∷ [])

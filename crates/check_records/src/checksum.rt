@@ -19,7 +19,7 @@ fn before_last_four(length: usize) -> usize
 fn summed_bytes(kind: u32, length: usize) -> usize
     ensures { λ r. ⌜ r ≡ summedBytes kind length ⌝ }
 {
-    if kind == 0 {
+    if kind == record::FREE {
         return 8;
     }
     before_last_four(length)

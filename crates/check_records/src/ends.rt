@@ -5,6 +5,9 @@ ghost use mathlib.Core.Path.{_≡_};
 ghost use Prim.Native.Nat.{_-_};
 ghost use Rattle.check_records.specs.Frame.{endRight};
 
+// The largest number of a length field of four bytes.
+const LARGEST_LENGTH: usize = 4294967295;
+
 // How far behind a position another lies.
 fn distance(at: usize, end: usize) -> usize
     ensures { λ r. ⌜ r ≡ end - at ⌝ }
@@ -24,7 +27,7 @@ pub fn end_right(s: &[u8], at: usize, end: usize) -> bool
         return false;
     }
     let n = distance(at, end);
-    if 4294967295 < n {
+    if LARGEST_LENGTH < n {
         return false;
     }
     if sizes::least_length(n as u32) != (length as u64) {

@@ -28,10 +28,10 @@ fn body_right(s: &[u8], kind: u32, at: usize, length: usize) -> bool
     requires { ⌜ Told (now s) kind at length ⌝ }
     ensures { λ r. ⌜ r ≡ bodyRight (now (s .entry)) at ⌝ }
 {
-    if kind == 2 {
+    if kind == record::TILE {
         return tile_body::tile_right(s, at);
     }
-    if kind == 1 {
+    if kind == record::METADATA {
         return metadata_body::metadata_right(s, at);
     }
     true

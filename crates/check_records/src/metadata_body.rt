@@ -7,7 +7,9 @@ use header::texts;
 ghost use mathlib.Core.Path.{_≡_};
 ghost use Prim.Native.Nat.{_+_, _≤_, _<_};
 ghost use lib.ListN.{length};
-ghost use Rattle.header.specs.Names.{identifier};
+ghost use Rattle.header.specs.Names.{identifier, longestName};
+ghost use Rattle.header.specs.Element.{longestString};
+ghost use Rattle.geometry.specs.Sizes.{cap};
 ghost use Rattle.check_records.specs.MetadataBody.{metadataRight};
 ghost use Rattle.bodies.specs.MetadataRecord.{metadataName, metadataLength, metadataDescriptionAt, metadataEnd};
 
@@ -23,7 +25,7 @@ fn metadata_length(s: &[u8], at: usize) -> u32
 fn description_at(s: &[u8], at: usize) -> usize
     requires { ⌜ at < length (now s) ⌝ }
     ensures is { λ r. ⌜ r ≡ metadataDescriptionAt (now (s .entry)) at ⌝ }
-    ensures near { λ r. ⌜ r ≤ at + 4295032849 ⌝ }
+    ensures near { λ r. ⌜ r < at + 17 + longestString + cap ⌝ }
 {
     metadata_record::record_id_start(s, at) + 9 + metadata_length(s, at) as usize
 }
@@ -38,9 +40,9 @@ fn metadata_end(s: &[u8], at: usize) -> usize
 }
 
 fn name_right(s: &[u8], at: usize) -> bool
-    ensures { λ r. ⌜ r ≡ identifier 32 (metadataName (now (s .entry)) at) ⌝ }
+    ensures { λ r. ⌜ r ≡ identifier longestName (metadataName (now (s .entry)) at) ⌝ }
 {
-    names::is_identifier(metadata_record::metadata_name(s, at), 32)
+    names::is_identifier(metadata_record::metadata_name(s, at), names::LONGEST)
 }
 
 pub fn metadata_right(s: &[u8], at: usize) -> bool
@@ -49,7 +51,7 @@ pub fn metadata_right(s: &[u8], at: usize) -> bool
     if s.len() <= at {
         return false;
     }
-    if 2147483647 < metadata_length(s, at) {
+    if wire::LARGEST_INTEGER < metadata_length(s, at) {
         return false;
     }
     if ends::end_right(s, at, metadata_end(s, at)) {

@@ -47,7 +47,7 @@ fn index_right(s: &[u8], at: usize) -> bool
     ensures { λ r. ⌜ r ≡ indexRight (now (s .entry)) at ⌝ }
 {
     let i = wire::u32_off(s, at, 8);
-    if 2147483647 < i {
+    if wire::LARGEST_INTEGER < i {
         return false;
     }
     if tiles::tile_count(s) <= (i as u64) {

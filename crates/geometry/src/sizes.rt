@@ -6,20 +6,23 @@ ghost use mathlib.Core.Path.{_≡_};
 ghost use Prim.Native.Nat.{_+_, _≤_, min};
 ghost use Rattle.geometry.specs.Sizes.{uncompressed, packingOf, cellOffset, storedSize, leastLength, elementBytes, elementPacking, tileBytes, cap};
 
-// U, or 4294967296 where U is more: no four-byte length tells the difference.
+// Above every length of four bytes, so none of them tells it from a greater U.
+const CAP: u64 = 4294967296;
+
+// U, or the cap where U is more.
 fn uncompressed(h: u32, w: u32, kind: u32) -> u64
     ensures { λ r. ⌜ r ≡ min (uncompressed h w kind) cap ⌝ }
 {
     let cells = h as u64 * (w as u64);
     let size = entries::cell_size(kind) as u64;
-    if 4294967296 < cells {
-        return 4294967296;
+    if CAP < cells {
+        return CAP;
     }
     let u = cells * size;
-    if u <= 4294967296 {
+    if u <= CAP {
         return u;
     }
-    4294967296
+    CAP
 }
 
 // A length L against U.
@@ -60,7 +63,7 @@ pub fn least_length(n: u32) -> u64
     (n as u64 + 4 + 7) / 8 * 8
 }
 
-// U of a file's element, or 4294967296 where U is more.
+// U of a file's element, or the cap where U is more.
 pub fn element_bytes(s: &[u8], e: usize) -> u64
     ensures { λ r. ⌜ r ≡ min (elementBytes (now (s .entry)) e) cap ⌝ }
 {
@@ -78,7 +81,7 @@ pub fn element_packing(s: &[u8], e: usize, l: u32) -> Packing
     packing_of(l, element_bytes(s, e))
 }
 
-// The uncompressed bytes of one tile, or 4294967296 where there are more.
+// The uncompressed bytes of one tile, or the cap where there are more.
 pub fn tile_bytes(s: &[u8]) -> u64
     ensures { λ r. ⌜ r ≡ min (tileBytes (now (s .entry))) cap ⌝ }
 {
@@ -92,13 +95,13 @@ pub fn tile_bytes(s: &[u8]) -> u64
     sum
 }
 
-// A sum, or 4294967296 where it is more.
+// A sum, or the cap where it is more.
 fn capped(a: u64, b: u64) -> u64
     requires { ⌜ (a ≤ cap) × (b ≤ cap) ⌝ }
     ensures { λ r. ⌜ r ≡ min (a + b) cap ⌝ }
 {
-    if a + b <= 4294967296 {
+    if a + b <= CAP {
         return a + b;
     }
-    4294967296
+    CAP
 }

@@ -9,7 +9,7 @@ ghost use lib.ListN.{length, set};
 ghost use Rattle.answer.specs.Refusals.{verdictNumber, verdictPlace};
 ghost use Rattle.answer.specs.Answers.{cellKind, contentKind, laidNumber};
 ghost use Rattle.wire.specs.Pick.{pick};
-ghost use Rattle.header.specs.Names.{identifier};
+ghost use Rattle.header.specs.Names.{identifier, longestName};
 ghost use Rattle.utf8.specs.Utf8.{utf8};
 ghost use Rattle.page_check.specs.Stages.{check};
 ghost use Rattle.cells.specs.Reads.{readContent};
@@ -129,9 +129,9 @@ pub extern "C" fn gvrs_list(file: &[u8], text: &mut [u8]) -> u64
 // 1 if the bytes are a name that an element or a metadata record may have, else 0.
 #[no_mangle]
 pub extern "C" fn gvrs_is_identifier(name: &[u8]) -> u32
-    ensures { λ r. ⌜ r ≡ pick (identifier 32 (now (name .entry))) 1 0 ⌝ }
+    ensures { λ r. ⌜ r ≡ pick (identifier longestName (now (name .entry))) 1 0 ⌝ }
 {
-    if names::is_identifier(name, 32) {
+    if names::is_identifier(name, names::LONGEST) {
         return 1;
     }
     0

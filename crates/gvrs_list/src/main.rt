@@ -6,9 +6,17 @@
 // them have less than 200.
 use libc::STDOUT_FILENO;
 
+// Room for a file that is listed and one byte more, and for its text.
+const FILE_ROOM: usize = listing::MOST_LISTED + 1;
+
+const TEXT_ROOM: usize = 32768;
+
 // What a failed read answers: more than any buffer here holds. Every number up to 65,537 is a count that can come about, so one number
 // goes round the loop. A failed read is told apart before anything is listed: a part of a file is never listed as the file.
-const FAILED: usize = 65538;
+const FAILED: usize = FILE_ROOM + 1;
+
+// Each read but the last adds a byte at least, so a full buffer is reached before these are used up.
+const TURNS: usize = FILE_ROOM + 1;
 
 // Reads once, behind the bytes that are there, and answers how many are there then: no more at the end of the file.
 fn read_some(fd: i32, buf: &mut [u8], done: usize) -> usize {
@@ -26,7 +34,7 @@ fn read_some(fd: i32, buf: &mut [u8], done: usize) -> usize {
 // Reads to the end of the file or of the buffer.
 fn read_all(fd: i32, buf: &mut [u8]) -> usize {
     let mut done = 0;
-    let mut turns: u32 = 65538;
+    let mut turns = TURNS;
     while turns > 0 {
         let now = read_some(fd, buf, done);
         if now == done {
@@ -40,9 +48,9 @@ fn read_all(fd: i32, buf: &mut [u8]) -> usize {
 
 // Prints the listing of the bytes.
 fn print_listing(file: &[u8]) {
-    let mut text = [0u8; 32768];
+    let mut text = [0u8; TEXT_ROOM];
     let n = listing::list(file, &mut text);
-    if 32768 < n {
+    if TEXT_ROOM < n {
         return;
     }
     io::write_all(STDOUT_FILENO, &text[..n]);
@@ -60,9 +68,9 @@ fn main() {
         os::fail(&path[..length]);
         return;
     }
-    let mut file = [0u8; 65537];
+    let mut file = [0u8; FILE_ROOM];
     let n = read_all(fd, &mut file);
-    if 65537 < n {
+    if FILE_ROOM < n {
         os::fail(&path[..length]);
         return;
     }

@@ -1,5 +1,5 @@
 -- G Tables 5 and 8 to 12: strings and element specification entries, for any bytes.
-use Prim.Native.Nat.{ℕ, _+_, _-_, min}
+use Prim.Native.Nat.{ℕ, _+_, _-_, min, _*_}
 use mathlib.Core.List.{List}
 use lib.Dec.{eqb}
 use Rattle.wire.specs.Pick.{pick, roundUp}
@@ -15,18 +15,29 @@ stringSize s at = 2 + u16At s at
 unfoldable pub stringEnd : List ℕ → ℕ → ℕ
 stringEnd s at = at + stringSize s at
 
+-- it has at most 2 + 65535 bytes
+abbrev pub longestString : ℕ
+longestString = 65537
+
+-- G Table 8: type codes, 0 Integer, 1 integer-coded, 2 Float, 3 Short; none is above a Short's
+abbrev pub integerCodedKind : ℕ
+integerCodedKind = 1
+
+abbrev pub shortKind : ℕ
+shortKind = 3
+
 -- the size of the range and fill block, by type code: 32 bytes integer-coded (Table 11), else 12 (Tables 9, 10; a Short's by
 -- document 01, 'Where G disagrees with itself', its three fields of two bytes standing at 0, 4 and 8 as Table 12 prints)
 unfoldable pub blockSize : ℕ → ℕ
-blockSize kind = pick (eqb kind 1) 32 12
+blockSize kind = pick (eqb kind integerCodedKind) 32 12
 
 -- where the fill value stands in the block: at 28 integer-coded, its integer fill (Table 11), else at 8
 unfoldable pub fillOffset : ℕ → ℕ
-fillOffset kind = pick (eqb kind 1) 28 8
+fillOffset kind = pick (eqb kind integerCodedKind) 28 8
 
 -- G Table 2: the bytes of a value, 2 of a Short, else 4
 unfoldable pub cellSize : ℕ → ℕ
-cellSize kind = pick (eqb kind 3) 2 4
+cellSize kind = pick (eqb kind shortKind) 2 4
 
 -- G Table 8, of the entry at `at`: the type code at 0, the name at 8, and behind it the range and fill block
 abbrev pub entryKind : List ℕ → ℕ → ℕ
@@ -49,6 +60,10 @@ unitAt s at = stringEnd s (descriptionAt s at)
 -- then zero to three bytes that bring the entry's size to a multiple of 4
 unfoldable pub entryEnd : List ℕ → ℕ → ℕ
 entryEnd s at = at + roundUp 4 (stringEnd s (unitAt s at) - at)
+
+-- it has at most eight bytes before the name, four strings, a block of 32, and twice three bytes
+abbrev pub longestEntry : ℕ
+longestEntry = 8 + 4 * longestString + 32 + 3 + 3
 
 -- the bit pattern of the fill value, not clamped to anything
 unfoldable pub fillBits : List ℕ → ℕ → ℕ
@@ -78,6 +93,9 @@ element s e = entryAt s (entryStart s e)
 unfoldable pub elementName : List ℕ → ℕ → List ℕ
 elementName s e = part s (element s e .name) (element s e .«name_length»)
 
--- document 01, stage 3: at most the first 16 element entries are read
+-- document 01, 'House ceilings' and stage 3: a page has at most 16 elements, and at most the first 16 entries are read
+abbrev pub mostElements : ℕ
+mostElements = 16
+
 unfoldable pub entriesRead : List ℕ → ℕ
-entriesRead s = min (elementCount s) 16
+entriesRead s = min (elementCount s) mostElements

@@ -39,6 +39,10 @@ lastByte l = byteAt l (length l - 1)
 unfoldable pub identifier : ℕ → List ℕ → Bool
 identifier most l = passes (is (fiveRules most l) ∷ (lastByte l ≢? 95) ∷ [])
 
+-- the most characters of an element's name (G Table 8) and of a metadata record's (document 01, stage 8)
+abbrev pub longestName : ℕ
+longestName = 32
+
 -- Req 02: a name that ends or begins with an underscore is refused, any other is judged by the five rules
 pub record Underscores : Type 0 where
   pub last : (m : ℕ) (l : List ℕ) → identifier m (l ++ 95 ∷ []) ≡ false

@@ -1,25 +1,33 @@
-// G Tables 5 and 8 to 12: strings and element entries. A string has at most 2 + 65535 bytes, so an entry has at most 262200;
-// the bounds beside the equations say that positions stay far below 2^64.
+// G Tables 5 and 8 to 12: strings and element entries. A slice has less than 2^63 bytes, and no position here lies further behind
+// its end than two of the longest entries do, so positions stay far below 2^64.
 use crate::Element;
 use crate::fields;
 ghost use mathlib.Core.Path.{_≡_};
-ghost use Prim.Native.Nat.{_+_, _≤_, _<_};
+ghost use Prim.Native.Nat.{_+_, _≤_, _<_, _*_};
 ghost use lib.ListN.{length};
-ghost use Rattle.header.specs.Element.{stringSize, stringEnd, blockSize, cellSize, blockAt, labelAt, entryEnd, fillBits, entryAt, entryStart, element, entriesRead};
+ghost use Rattle.header.specs.Element.{stringSize, stringEnd, blockSize, cellSize, blockAt, labelAt, entryEnd, fillBits, entryAt, entryStart, element, entriesRead, longestString, longestEntry, mostElements};
+
+// Type codes of elements (G Table 8), of those that a size depends on; none is above a Short's.
+pub const INTEGER_CODED: u32 = 1;
+
+pub const SHORT: u32 = 3;
+
+// The most elements that a page has.
+pub const MOST_ELEMENTS: u32 = 16;
 
 // The size of the string at a position.
 pub fn string_size(s: &[u8], at: usize) -> usize
     ensures is { λ r. ⌜ r ≡ stringSize (now (s .entry)) at ⌝ }
-    ensures near { λ r. ⌜ (2 ≤ r) × (r ≤ 65537) ⌝ }
+    ensures near { λ r. ⌜ (2 ≤ r) × (r ≤ longestString) ⌝ }
 {
     2 + wire::u16_at(s, at) as usize
 }
 
 // Where the string at a position ends.
 pub(crate) fn string_end(s: &[u8], at: usize) -> usize
-    requires { ⌜ at ≤ 9223372036856000000 ⌝ }
+    requires { ⌜ at ≤ length (now s) + 2 * longestEntry ⌝ }
     ensures is { λ r. ⌜ r ≡ stringEnd (now (s .entry)) at ⌝ }
-    ensures near { λ r. ⌜ (at + 2 ≤ r) × (r ≤ at + 65537) ⌝ }
+    ensures near { λ r. ⌜ (at + 2 ≤ r) × (r ≤ at + longestString) ⌝ }
 {
     at + string_size(s, at)
 }
@@ -29,7 +37,7 @@ fn block_size(kind: u32) -> usize
     ensures is { λ r. ⌜ r ≡ blockSize kind ⌝ }
     ensures near { λ r. ⌜ r ≤ 32 ⌝ }
 {
-    if kind == 1 {
+    if kind == INTEGER_CODED {
         return 32;
     }
     12
@@ -39,7 +47,7 @@ fn block_size(kind: u32) -> usize
 pub fn cell_size(kind: u32) -> u32
     ensures { λ r. ⌜ r ≡ cellSize kind ⌝ }
 {
-    if kind == 3 {
+    if kind == SHORT {
         return 2;
     }
     4
@@ -47,18 +55,18 @@ pub fn cell_size(kind: u32) -> u32
 
 // Where the range and fill block of the entry at a position stands.
 fn block_at(s: &[u8], at: usize) -> usize
-    requires { ⌜ at ≤ 9223372036855100000 ⌝ }
+    requires { ⌜ at ≤ length (now s) + longestEntry ⌝ }
     ensures is { λ r. ⌜ r ≡ blockAt (now (s .entry)) at ⌝ }
-    ensures near { λ r. ⌜ (at + 10 ≤ r) × (r ≤ at + 65545) ⌝ }
+    ensures near { λ r. ⌜ (at + 10 ≤ r) × (r ≤ at + 8 + longestString) ⌝ }
 {
     string_end(s, at + 8)
 }
 
 // Where the label of the entry at a position stands.
 pub(crate) fn label_at(s: &[u8], at: usize) -> usize
-    requires { ⌜ at ≤ 9223372036855100000 ⌝ }
+    requires { ⌜ at ≤ length (now s) + longestEntry ⌝ }
     ensures is { λ r. ⌜ r ≡ labelAt (now (s .entry)) at ⌝ }
-    ensures near { λ r. ⌜ (at + 10 ≤ r) × (r ≤ at + 65580) ⌝ }
+    ensures near { λ r. ⌜ (at + 10 ≤ r) × (r ≤ at + 43 + longestString) ⌝ }
 {
     let block = block_at(s, at);
     let size = block_size(wire::byte_at(s, at));
@@ -67,9 +75,9 @@ pub(crate) fn label_at(s: &[u8], at: usize) -> usize
 
 // Where the entry at a position ends.
 fn entry_end(s: &[u8], at: usize) -> usize
-    requires { ⌜ at ≤ 9223372036855100000 ⌝ }
+    requires { ⌜ at ≤ length (now s) + longestEntry ⌝ }
     ensures is { λ r. ⌜ r ≡ entryEnd (now (s .entry)) at ⌝ }
-    ensures near { λ r. ⌜ (at + 10 ≤ r) × (r ≤ at + 262200) ⌝ }
+    ensures near { λ r. ⌜ (at + 10 ≤ r) × (r ≤ at + longestEntry) ⌝ }
 {
     let label = label_at(s, at);
     let description = string_end(s, label);
@@ -80,15 +88,15 @@ fn entry_end(s: &[u8], at: usize) -> usize
 
 // The bit pattern of its fill value, of the entry at a position.
 fn fill_bits(s: &[u8], at: usize) -> u32
-    requires { ⌜ at ≤ 9223372036855100000 ⌝ }
+    requires { ⌜ at ≤ length (now s) + longestEntry ⌝ }
     ensures { λ r. ⌜ r ≡ fillBits (now (s .entry)) at ⌝ }
 {
     let kind = wire::byte_at(s, at);
     let block = block_at(s, at);
-    if kind == 1 {
+    if kind == INTEGER_CODED {
         return wire::u32_off(s, block, 28);
     }
-    if kind == 3 {
+    if kind == SHORT {
         return wire::u16_off(s, block, 8);
     }
     wire::u32_off(s, block, 8)
@@ -96,7 +104,7 @@ fn fill_bits(s: &[u8], at: usize) -> u32
 
 // The specification of the entry at a position.
 fn entry_at(s: &[u8], at: usize) -> Element
-    requires { ⌜ at ≤ 9223372036855100000 ⌝ }
+    requires { ⌜ at ≤ length (now s) + longestEntry ⌝ }
     ensures { λ r. ⌜ r ≡ entryAt (now (s .entry)) at ⌝ }
 {
     let kind = wire::byte_at(s, at);
@@ -115,7 +123,7 @@ fn entry_at(s: &[u8], at: usize) -> Element
 // Where entry e starts; an entry that starts past the start of the header's last four bytes is not read.
 pub fn entry_start(s: &[u8], e: usize) -> usize
     ensures is { λ r. ⌜ r ≡ entryStart (now (s .entry)) e ⌝ }
-    ensures near { λ r. ⌜ r ≤ length (now (s .entry)) + 262200 ⌝ }
+    ensures near { λ r. ⌜ r ≤ length (now (s .entry)) + longestEntry ⌝ }
 {
     let limit = fields::header_limit(s);
     let mut at = 284;
@@ -137,14 +145,14 @@ pub fn element(s: &[u8], e: usize) -> Element
     entry_at(s, entry_start(s, e))
 }
 
-// The number of entries that are read: at most 16.
+// The number of entries that are read.
 pub fn entries_read(s: &[u8]) -> usize
     ensures is { λ r. ⌜ r ≡ entriesRead (now (s .entry)) ⌝ }
-    ensures few { λ r. ⌜ r ≤ 16 ⌝ }
+    ensures few { λ r. ⌜ r ≤ mostElements ⌝ }
 {
     let n = fields::element_count(s);
-    if n <= 16 {
+    if n <= MOST_ELEMENTS {
         return n as usize;
     }
-    16
+    MOST_ELEMENTS as usize
 }

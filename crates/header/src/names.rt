@@ -39,6 +39,9 @@ fn is_name_byte(b: u8) -> bool
     false
 }
 
+// The most characters of an element's or a metadata record's name.
+pub const LONGEST: usize = 32;
+
 // Whether a slice holds letters, numbers and underscores only.
 fn are_name_bytes(name: &[u8]) -> bool
     ensures { λ r. ⌜ r ≡ nameBytes (now (name .entry)) ⌝ }

@@ -5,11 +5,12 @@ ghost use mathlib.Core.Path.{_≡_};
 ghost use Prim.Native.Nat.{_+_, _≤_};
 ghost use lib.ListN.{length};
 ghost use Rattle.header.specs.Tail.{methodsAt, methodCount, productLabelAt, fieldsEnd};
+ghost use Rattle.header.specs.Element.{longestEntry};
 
 // Where the number of compression methods stands.
 fn methods_at(s: &[u8]) -> usize
     ensures is { λ r. ⌜ r ≡ methodsAt (now (s .entry)) ⌝ }
-    ensures near { λ r. ⌜ r ≤ length (now (s .entry)) + 262200 ⌝ }
+    ensures near { λ r. ⌜ r ≤ length (now (s .entry)) + longestEntry ⌝ }
 {
     entries::entry_start(s, fields::element_count(s) as usize)
 }
@@ -24,7 +25,7 @@ pub fn method_count(s: &[u8]) -> u32
 // Where the product label stands; no method name is read that starts past the start of the header's last four bytes.
 pub fn product_label_at(s: &[u8]) -> usize
     ensures is { λ r. ⌜ r ≡ productLabelAt (now (s .entry)) ⌝ }
-    ensures near { λ r. ⌜ r ≤ length (now (s .entry)) + 262204 ⌝ }
+    ensures near { λ r. ⌜ r ≤ length (now (s .entry)) + longestEntry + 4 ⌝ }
 {
     let limit = fields::header_limit(s);
     let mut at = methods_at(s) + 4;

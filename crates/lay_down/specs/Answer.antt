@@ -13,6 +13,7 @@ use Rattle.answer.specs.Refusals.{gate, unlessRefused}
 use Rattle.geometry.specs.Tiles.{tileCount}
 use Rattle.geometry.specs.Sizes.{tileBytes}
 use Rattle.check_header.specs.Stages.{checkFront}
+use Rattle.check_header.specs.Ceilings.{mostFileBytes}
 use Rattle.lay_down.specs.Page.{fileLength, laidFile}
 
 -- the indexes are strictly ascending, the first of them at least `least`, and each is below n
@@ -27,7 +28,7 @@ inputRight f t ix c = passes ((t ≢? 0) ∷ is (ascending (tileCount f) 0 ix) �
 
 -- the file does not pass its ceiling; a buffer of so many bytes is not shorter than it
 unfoldable pub lengthAllowed : List ℕ → List ℕ → Bool
-lengthAllowed f ix = passes ((fileLength f ix ≤? 16777216) ∷ [])
+lengthAllowed f ix = passes ((fileLength f ix ≤? mostFileBytes) ∷ [])
 
 unfoldable pub fitsIn : List ℕ → List ℕ → ℕ → Bool
 fitsIn f ix room = passes ((fileLength f ix ≤? room) ∷ [])

@@ -12,6 +12,7 @@ use Rattle.wire.specs.Bytes.{bytesOf, part, put}
 use Rattle.header.specs.Fields.{checksumEnabled, elementCount, timeModified, timeOpened, fileSpaceReference, metadataReference, tileDirectoryReference}
 use Rattle.record.specs.Record.{contentAt}
 use Rattle.record.specs.Chain.{joined}
+use Rattle.record.specs.Types.{tileType, tileDirectoryType}
 use Rattle.geometry.specs.Tiles.{tilesAcross, tilesDown, tileCount}
 use Rattle.geometry.specs.Sizes.{elementBytes, tileBytes, plainTileLength}
 use Rattle.lay_down.specs.Pieces.{zeros, recordLength, recordOf, section, sealed}
@@ -24,7 +25,7 @@ sections f (suc n) c = sections f n c ++ section (part c (sumBelow n (elementByt
 -- G Tables 15 and 16: the tile index, then each element's section; a front that passes stage 4 has at most the 16 elements that
 -- `tileBytes` counts
 unfoldable pub tileRecord : List ℕ → ℕ → List ℕ → List ℕ
-tileRecord f i c = recordOf (checksumEnabled f) 2 (bytesOf 4 i ++ sections f (elementCount f) c)
+tileRecord f i c = recordOf (checksumEnabled f) tileType (bytesOf 4 i ++ sections f (elementCount f) c)
 
 -- one tile record for each index in order
 unfoldable pub tileRecords : List ℕ → List ℕ → List ℕ → List (List ℕ)
@@ -52,7 +53,7 @@ unfoldable pub directoryBody : List ℕ → List ℕ → List ℕ
 directoryBody f ix = directoryForm (tilesDown f) (tilesAcross f) ++ references f ix (tileCount f)
 
 unfoldable pub directoryRecord : List ℕ → List ℕ → List ℕ
-directoryRecord f ix = recordOf (checksumEnabled f) 5 (directoryBody f ix)
+directoryRecord f ix = recordOf (checksumEnabled f) tileDirectoryType (directoryBody f ix)
 
 -- where the directory starts, and how long the file is
 unfoldable pub directoryStart : List ℕ → List ℕ → ℕ

@@ -16,6 +16,7 @@ pub mod pieces;
 use answer::Laid;
 use answer::Refusal;
 use answer::Verdict;
+use check_header::ceilings;
 use check_header::stages;
 use geometry::sizes;
 use geometry::tiles;
@@ -29,15 +30,22 @@ ghost use lib.ListN.{length};
 ghost use Rattle.wire.specs.Tests.{sumBelow};
 ghost use Rattle.wire.specs.Bytes.{put};
 ghost use Rattle.header.specs.Fields.{elementCount};
+ghost use Rattle.header.specs.Element.{mostElements};
 ghost use Rattle.record.specs.Chain.{joined};
 ghost use Rattle.geometry.specs.Tiles.{tileCount};
 ghost use Rattle.geometry.specs.Sizes.{storedSize, elementBytes, plainTileLength};
 ghost use Rattle.check_header.specs.Stages.{checkFront};
+ghost use Rattle.check_header.specs.Ceilings.{mostTiles};
 ghost use Rattle.answer.specs.declared.Verdict.the-variants.{Accepted};
 ghost use Rattle.lay_down.specs.Pieces.{recordLength};
 ghost use Rattle.lay_down.specs.Page.{sections, tileRecord, tileRecords, references, directoryRecord, laidFront, laidFile};
 ghost use Rattle.lay_down.specs.Answer.{ascending, inputRight, inputVerdict, layDownVerdict, laid, laidOut};
 ghost use Rattle.lay_down.specs.Ready.{SizesOf, TileReady, TilesReady, IndexesReady};
+
+// The types of the records that are written, each as the byte that it is.
+const TILE: u8 = record::TILE as u8;
+
+const TILE_DIRECTORY: u8 = record::TILE_DIRECTORY as u8;
 
 // Whether the indexes are strictly ascending, each below n.
 fn is_ascending(indexes: &[u32], n: u64) -> bool
@@ -80,7 +88,7 @@ fn input_right(front: &[u8], time: u64, indexes: &[u32], cells: &[u8]) -> bool
 
 // The uncompressed bytes of each element of a tile.
 fn element_sizes(front: &[u8], sizes: &mut [u32])
-    requires { ⌜ (checkFront (now front) ≡ Accepted) × (length (now sizes) ≡ 16) ⌝ }
+    requires { ⌜ (checkFront (now front) ≡ Accepted) × (length (now sizes) ≡ mostElements) ⌝ }
     ensures { λ _. ⌜ SizesOf (now (front .entry)) (now (sizes .exit)) ⌝ }
 {
     let n = entries::entries_read(front);
@@ -118,7 +126,7 @@ fn directory_length(front: &[u8]) -> usize
 
 // Where the tile directory starts, behind the records of k tiles.
 fn directory_start(front: &[u8], k: usize) -> usize
-    requires { ⌜ (checkFront (now front) ≡ Accepted) × (k ≤ 65536) ⌝ }
+    requires { ⌜ (checkFront (now front) ≡ Accepted) × (k ≤ mostTiles) ⌝ }
     ensures { λ r. ⌜ r ≡ length (now (front .entry)) + k * plainTileLength (now (front .entry)) ⌝ }
 {
     let n = tile_length(front);
@@ -127,7 +135,7 @@ fn directory_start(front: &[u8], k: usize) -> usize
 
 // The file's length.
 fn file_length(front: &[u8], k: usize) -> usize
-    requires { ⌜ (checkFront (now front) ≡ Accepted) × (k ≤ 65536) ⌝ }
+    requires { ⌜ (checkFront (now front) ≡ Accepted) × (k ≤ mostTiles) ⌝ }
     ensures { λ r. ⌜ r ≡ length (now (front .entry)) + k * plainTileLength (now (front .entry)) + recordLength (24 + 4 * tileCount (now (front .entry))) ⌝ }
 {
     directory_start(front, k) + directory_length(front)
@@ -140,7 +148,7 @@ fn input_verdict(front: &[u8], time: u64, indexes: &[u32], cells: &[u8], room: u
 {
     if input_right(front, time, indexes, cells) {
         let n = file_length(front, indexes.len());
-        if 16777216 < n {
+        if ceilings::MOST_FILE_BYTES < n {
             return Verdict::Refused(Refusal::Ceiling);
         }
         if room < n {
@@ -207,7 +215,7 @@ fn put_tile(
     ensures { λ _. ⌜ now (out .exit) ≡ put (now (out .entry)) at (tileRecord (now (front .entry)) index (now (cells .entry))) ⌝ }
 {
     let flag = fields::checksum_enabled(front);
-    pieces::put_head(out, at, n as u32, 2);
+    pieces::put_head(out, at, n as u32, TILE);
     writing::put_u32(out, at + 8, index);
     let end = put_sections(out, at + 12, front, sizes, cells);
     pieces::close(out, at, end, n, flag);
@@ -264,7 +272,7 @@ fn put_directory(out: &mut [u8], at: usize, n: usize, front: &[u8], indexes: &[u
     let across = tiles::tiles_across(front);
     let count = tiles::tile_count(front) as usize;
     let long = directory_length(front);
-    pieces::put_head(out, at, long as u32, 5);
+    pieces::put_head(out, at, long as u32, TILE_DIRECTORY);
     directory::put_form(out, at + 8, down, across);
     put_references(out, at + 32, n, front, indexes);
     pieces::close(out, at, at + 32 + 4 * count, long, flag);
@@ -275,7 +283,7 @@ fn put_page(front: &[u8], time: u64, indexes: &[u32], cells: &[u8], file: &mut [
     requires { ⌜ layDownVerdict (now front) time (now indexes) (now cells) (length (now file)) ≡ Accepted ⌝ }
     ensures { λ _. ⌜ now (file .exit) ≡ put (now (file .entry)) 0 (laidFile (now (front .entry)) time (now (indexes .entry)) (now (cells .entry))) ⌝ }
 {
-    let mut sizes = [0u32; 16];
+    let mut sizes = [0u32; entries::MOST_ELEMENTS as usize];
     element_sizes(front, &mut sizes);
     let n = tile_length(front);
     let at = directory_start(front, indexes.len());

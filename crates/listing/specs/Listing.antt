@@ -12,13 +12,14 @@ use Rattle.header.specs.Fields.{gridRows, gridColumns, tileRows, tileColumns, e
 use Rattle.geometry.specs.Tiles.{tileCount}
 use Rattle.wire.specs.Lists.{some, countBelow}
 use Rattle.record.specs.Chain.{records, recordsOf}
+use Rattle.record.specs.Types.{tileType}
 use Rattle.page_check.specs.Stages.{check}
 use Rattle.cells.specs.Routes.{carries}
 use Rattle.listing.specs.Text.{decimal, space, newline, gridWord, tileWord, elementsWord, writtenWord, ofWord, refusedWord, atWord, tooLong, line}
 
 -- `written` is the number of tile records in the chain
 unfoldable pub written : List ℕ → ℕ
-written s = length (recordsOf s 2)
+written s = length (recordsOf s tileType)
 
 -- one number line for each tile record in index order: the indexes below n that a tile record carries; in an accepted file no two
 -- carry one
@@ -42,6 +43,10 @@ unfoldable pub listedBy : Verdict → List ℕ → List ℕ
 listedBy Accepted s = listed s
 listedBy (Refused r) s = line refusedWord (refusalNumber r) atWord (refusalPlace r)
 
--- a file over 65,536 bytes is the single line `too long`, before any check
+-- the most bytes of a file that is listed
+abbrev pub mostListed : ℕ
+mostListed = 65536
+
+-- a longer file is the single line `too long`, before any check
 unfoldable pub listing : List ℕ → List ℕ
-listing s = pick (leb (length s) 65536) (listedBy (check s) s) tooLong
+listing s = pick (leb (length s) mostListed) (listedBy (check s) s) tooLong

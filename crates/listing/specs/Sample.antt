@@ -7,7 +7,7 @@ use Rattle.answer.specs.declared.Refusal.the-variants.{Version}
 use Rattle.answer.specs.declared.Verdict.the-variants.{Refused}
 use Rattle.page_check.specs.Stages.{check}
 use Rattle.sample_page.specs.Page.{file}
-use Rattle.listing.specs.Listing.{listing}
+use Rattle.listing.specs.Listing.{listing, mostListed}
 
 -- `grid 3 3`, `tile 2 2`, `elements 1`, `written 1 of 4`, `2`
 abbrev pub pageText : List ℕ
@@ -30,5 +30,5 @@ pub record SampleListed : Type 0 where
   -- the sample page, a 3 by 3 grid with 2 by 2 tiles, one element, tile 2 alone stored
   pub page : listing file ≡ pageText
   -- any file with a wrong version, and any that is too long
-  pub version : (s : List ℕ) → length s ≤ 65536 → check s ≡ Refused Version → listing s ≡ versionText
-  pub long : (s : List ℕ) → 65536 < length s → listing s ≡ longText
+  pub version : (s : List ℕ) → length s ≤ mostListed → check s ≡ Refused Version → listing s ≡ versionText
+  pub long : (s : List ℕ) → mostListed < length s → listing s ≡ longText

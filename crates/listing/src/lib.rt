@@ -18,7 +18,7 @@ use record::chain;
 use wire::writing;
 ghost use mathlib.Core.Path.{_≡_};
 ghost use mathlib.Core.List.{[], _++_};
-ghost use Prim.Native.Nat.{_+_, _≤_, _<_};
+ghost use Prim.Native.Nat.{_+_, _≤_, _<_, _*_};
 ghost use lib.ListN.{length};
 ghost use Rattle.wire.specs.Pick.{pick};
 ghost use Rattle.wire.specs.Bytes.{put};
@@ -31,11 +31,14 @@ ghost use Rattle.page_check.specs.Stages.{check};
 ghost use Rattle.cells.specs.Routes.{carries};
 ghost use Rattle.listing.specs.Text.{decimal, space, newline, gridWord, tileWord, elementsWord, writtenWord, ofWord, line};
 ghost use Rattle.listing.specs.Listing.{written, indexLines, listed, listedBy, listing};
-ghost use Rattle.listing.specs.Puts.{Puts};
+ghost use Rattle.listing.specs.Puts.{Puts, mostLine, mostText};
+
+// The most bytes of a file that is listed.
+pub const MOST_LISTED: usize = 65536;
 
 // A number that ends a line.
 fn put_last(out: &mut [u8], at: usize, n: u64) -> usize
-    requires { ⌜ at ≤ 4294967296 ⌝ }
+    requires { ⌜ at ≤ mostText ⌝ }
     ensures text { λ r. ⌜ Puts (now (out .entry)) at (decimal n ++ newline) r (now (out .exit)) ⌝ }
     ensures few { λ r. ⌜ r ≤ at + 21 ⌝ }
 {
@@ -46,9 +49,9 @@ fn put_last(out: &mut [u8], at: usize, n: u64) -> usize
 
 // A line of a word and two numbers with a text between them.
 fn put_line(out: &mut [u8], at: usize, word: &[u8], a: u64, between: &[u8], b: u64) -> usize
-    requires { ⌜ (at ≤ 65536) × ((length (now word) ≤ 9) × (length (now between) ≤ 4)) ⌝ }
+    requires { ⌜ (at ≤ 4 * mostLine) × ((length (now word) ≤ 9) × (length (now between) ≤ 4)) ⌝ }
     ensures text { λ r. ⌜ Puts (now (out .entry)) at (line (now (word .entry)) a (now (between .entry)) b) r (now (out .exit)) ⌝ }
-    ensures few { λ r. ⌜ r ≤ at + 54 ⌝ }
+    ensures few { λ r. ⌜ r ≤ at + mostLine ⌝ }
 {
     writing::put_bytes(out, at, word);
     let p = at + word.len();
@@ -60,7 +63,7 @@ fn put_line(out: &mut [u8], at: usize, word: &[u8], a: u64, between: &[u8], b: u
 // The lines of the sides.
 fn put_sides(out: &mut [u8], s: &[u8]) -> usize
     ensures text { λ r. ⌜ Puts (now (out .entry)) 0 (line gridWord (gridRows (now (s .entry))) space (gridColumns (now (s .entry))) ++ line tileWord (tileRows (now (s .entry))) space (tileColumns (now (s .entry)))) r (now (out .exit)) ⌝ }
-    ensures few { λ r. ⌜ r ≤ 108 ⌝ }
+    ensures few { λ r. ⌜ r ≤ 2 * mostLine ⌝ }
 {
     let rows = fields::grid_rows(s) as u64;
     let columns = fields::grid_columns(s) as u64;
@@ -72,9 +75,9 @@ fn put_sides(out: &mut [u8], s: &[u8]) -> usize
 
 // The line of the elements.
 fn put_elements(out: &mut [u8], at: usize, s: &[u8]) -> usize
-    requires { ⌜ at ≤ 108 ⌝ }
+    requires { ⌜ at ≤ 2 * mostLine ⌝ }
     ensures text { λ r. ⌜ Puts (now (out .entry)) at (elementsWord ++ decimal (elementCount (now (s .entry))) ++ newline) r (now (out .exit)) ⌝ }
-    ensures few { λ r. ⌜ r ≤ at + 30 ⌝ }
+    ensures few { λ r. ⌜ r ≤ at + mostLine ⌝ }
 {
     let n = fields::element_count(s) as u64;
     writing::put_bytes(out, at, b"elements ");
@@ -83,18 +86,18 @@ fn put_elements(out: &mut [u8], at: usize, s: &[u8]) -> usize
 
 // The line of the tile records in the chain, and of the tiles in the grid.
 fn put_written(out: &mut [u8], at: usize, s: &[u8]) -> usize
-    requires { ⌜ at ≤ 138 ⌝ }
+    requires { ⌜ at ≤ 3 * mostLine ⌝ }
     ensures text { λ r. ⌜ Puts (now (out .entry)) at (line writtenWord (written (now (s .entry))) ofWord (tileCount (now (s .entry)))) r (now (out .exit)) ⌝ }
-    ensures few { λ r. ⌜ r ≤ at + 54 ⌝ }
+    ensures few { λ r. ⌜ r ≤ at + mostLine ⌝ }
 {
-    let count = chain::record_count(s, 2) as u64;
+    let count = chain::record_count(s, record::TILE) as u64;
     let all = tiles::tile_count(s);
     put_line(out, at, b"written ", count, b" of ", all)
 }
 
 // The line of an index, where a tile record carries it.
 fn put_index(out: &mut [u8], at: usize, s: &[u8], i: u32) -> usize
-    requires { ⌜ (check (now s) ≡ Accepted) × ((i < tileCount (now s)) × (at ≤ 4294967296)) ⌝ }
+    requires { ⌜ (check (now s) ≡ Accepted) × ((i < tileCount (now s)) × (at ≤ mostText)) ⌝ }
     ensures text { λ r. ⌜ Puts (now (out .entry)) at (pick (some (carries (now (s .entry)) i) (records (now (s .entry)))) (decimal i ++ newline) []) r (now (out .exit)) ⌝ }
     ensures few { λ r. ⌜ r ≤ at + 21 ⌝ }
 {
@@ -106,7 +109,7 @@ fn put_index(out: &mut [u8], at: usize, s: &[u8], i: u32) -> usize
 
 // The lines of all indexes, in their order.
 fn put_indexes(out: &mut [u8], at: usize, s: &[u8]) -> usize
-    requires { ⌜ (check (now s) ≡ Accepted) × (at ≤ 192) ⌝ }
+    requires { ⌜ (check (now s) ≡ Accepted) × (at ≤ 4 * mostLine) ⌝ }
     ensures { λ r. ⌜ Puts (now (out .entry)) at (indexLines (now (s .entry)) (tileCount (now (s .entry)))) r (now (out .exit)) ⌝ }
 {
     let n = tiles::tile_count(s) as u32;
@@ -151,7 +154,7 @@ pub fn list(file: &[u8], text: &mut [u8]) -> usize
     ensures long { λ r. ⌜ r ≡ length (listing (now (file .entry))) ⌝ }
     ensures holds { λ _. ⌜ now (text .exit) ≡ put (now (text .entry)) 0 (listing (now (file .entry))) ⌝ }
 {
-    if 65536 < file.len() {
+    if MOST_LISTED < file.len() {
         writing::put_bytes(text, 0, b"too long\n");
         return 9;
     }

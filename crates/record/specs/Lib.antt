@@ -5,5 +5,6 @@
 -- Items only move forward, so one test of the last one's end shows that all fit. An item that starts exactly at the limit is still
 -- read, which decides nothing: its end lies past it.
 -- The pages stand in the order in which to read them.
+pub mod Types
 pub mod Record
 pub mod Chain

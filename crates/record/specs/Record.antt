@@ -10,12 +10,13 @@ use Rattle.wire.specs.Tests.{_≤?_, _≡?_, passes}
 use Rattle.wire.specs.Bytes.{byteAt, u32At, largestInteger}
 use Rattle.record.specs.declared.Step.{Step}
 use Rattle.record.specs.declared.Step.the-variants.{Record, Bad, End}
+use Rattle.record.specs.Types.{tileDirectoryType}
 
 -- G 3.3.1: a record begins with its length, in bytes
 abbrev pub lengthAt : List ℕ → ℕ → ℕ
 lengthAt s at = u32At s at
 
--- and its type (G Table 1: 0 free space, 1 metadata, 2 tile, 3 to 5 directories of file space, metadata, tiles)
+-- and its type
 abbrev pub typeAt : List ℕ → ℕ → ℕ
 typeAt s at = byteAt s (at + 4)
 
@@ -28,7 +29,7 @@ unfoldable pub recordOk : List ℕ → ℕ → Bool
 recordOk s at =
     passes
     ((16 ≤? lengthAt s at) ∷ (lengthAt s at ≤? largestInteger) ∷ (lengthAt s at % 8 ≡? 0)
-    ∷ (at + lengthAt s at ≤? length s) ∷ (typeAt s at ≤? 5) ∷ [])
+    ∷ (at + lengthAt s at ≤? length s) ∷ (typeAt s at ≤? tileDirectoryType) ∷ [])
 
 -- where the checksum of the record at `at` starts, its last four bytes, if it ends inside the file; otherwise four before the
 -- file's end, which only bounds the reading

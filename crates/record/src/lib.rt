@@ -5,6 +5,21 @@ pub mod frame;
 ghost use mathlib.Core.Path.{_≡_};
 ghost use Rattle.record.specs.Record.{recordOk, stepAt};
 
+// The types of records (G Table 1).
+pub const FREE: u32 = 0;
+
+pub const METADATA: u32 = 1;
+
+pub const TILE: u32 = 2;
+
+pub const FILE_SPACE_DIRECTORY: u32 = 3;
+
+pub const METADATA_DIRECTORY: u32 = 4;
+
+pub const TILE_DIRECTORY: u32 = 5;
+
+pub const HEADER: u32 = 6;
+
 // A position in a file at which a record starts, or which is its end.
 pub struct Cursor {
     pub at: usize,
@@ -40,7 +55,7 @@ fn record_ok(s: &[u8], at: usize) -> bool
     if n < 16 {
         return false;
     }
-    if 2147483647 < n {
+    if wire::LARGEST_INTEGER < n {
         return false;
     }
     if n % 8 != 0 {
@@ -53,7 +68,7 @@ fn record_ok(s: &[u8], at: usize) -> bool
     if s.len() - length < at {
         return false;
     }
-    if 5 < wire::byte_off(s, at, 4) {
+    if TILE_DIRECTORY < wire::byte_off(s, at, 4) {
         return false;
     }
     true

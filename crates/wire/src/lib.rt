@@ -6,6 +6,9 @@ ghost use Prim.Native.Nat.{_+_, _<_, min};
 ghost use lib.ListN.{length};
 ghost use Rattle.wire.specs.Bytes.{byteAt, part, numberAt, partAt, sameBytes};
 
+// The largest Integer (G Table 4): a four-byte number above it is a negative one.
+pub const LARGEST_INTEGER: u32 = 2147483647;
+
 // The byte at a position, 0 past the end.
 pub fn byte_at(s: &[u8], at: usize) -> u32
     ensures is { λ r. ⌜ r ≡ byteAt (now (s .entry)) at ⌝ }

@@ -4,6 +4,7 @@ use mathlib.Core.List.{List, [], _∷_}
 use mathlib.Core.Bool.{Bool}
 use Rattle.wire.specs.Tests.{_≡?_, _≢?_, passes}
 use Rattle.record.specs.Record.{typeAt, contentAt}
+use Rattle.record.specs.Types.{tileType}
 use Rattle.bodies.specs.TileRecord.{tileIndex}
 use Rattle.check_directory.specs.declared.Want.{Want}
 use Rattle.check_directory.specs.declared.Want.the-variants.{Referred, Other, Unlisted}
@@ -14,4 +15,4 @@ use Rattle.bodies.specs.TileDirectory.{tileReference}
 unfoldable pub wants : List ℕ → Want → ℕ → Bool
 wants s (Referred kind reference) x = passes ((typeAt s x ≡? kind) ∷ (contentAt x ≡? reference) ∷ [])
 wants s (Other kind reference) x = passes ((typeAt s x ≡? kind) ∷ (contentAt x ≢? reference) ∷ [])
-wants s Unlisted x = passes ((typeAt s x ≡? 2) ∷ (tileReference s (tileIndex s x) ≢? contentAt x) ∷ [])
+wants s Unlisted x = passes ((typeAt s x ≡? tileType) ∷ (tileReference s (tileIndex s x) ≢? contentAt x) ∷ [])

@@ -6,6 +6,7 @@ use mathlib.Core.Bool.{Bool}
 use Rattle.wire.specs.Tests.{_≡?_, _≢?_, is, passes}
 use Rattle.record.specs.Record.{typeAt}
 use Rattle.record.specs.Chain.{recordsOf}
+use Rattle.record.specs.Types.{freeType, metadataType}
 use Rattle.wire.specs.Lists.{some}
 use Rattle.check_lists.specs.declared.ListKind.{ListKind}
 use Rattle.check_lists.specs.declared.ListKind.the-variants.{FreeSpace, Metadata}
@@ -16,8 +17,8 @@ use Rattle.check_lists.specs.Metadata.{metadataEntryOf, metadataEntryIs,
 
 -- the type of the records that a list is of
 unfoldable pub listedKind : ListKind → ℕ
-listedKind FreeSpace = 0
-listedKind Metadata = 1
+listedKind FreeSpace = freeType
+listedKind Metadata = metadataType
 
 -- how many entries it has, whether they fit, where each starts, the size of the one at p, and whether it is that of the record at x
 unfoldable pub listCount : List ℕ → ListKind → ℕ
@@ -46,10 +47,10 @@ listEntryIs s Metadata = metadataEntryIs s
 
 -- a metadata record that is not the one at x and has its pair of name and ID
 unfoldable pub twinOf : List ℕ → ℕ → ℕ → Bool
-twinOf s x y = passes ((typeAt s y ≡? 1) ∷ (x ≢? y) ∷ is (sameKey s x y) ∷ [])
+twinOf s x y = passes ((typeAt s y ≡? metadataType) ∷ (x ≢? y) ∷ is (sameKey s x y) ∷ [])
 
 unfoldable pub hasTwin : List ℕ → ℕ → Bool
-hasTwin s x = some (λ y. passes ((x ≢? y) ∷ is (sameKey s x y) ∷ [])) (recordsOf s 1)
+hasTwin s x = some (λ y. passes ((x ≢? y) ∷ is (sameKey s x y) ∷ [])) (recordsOf s metadataType)
 
 -- a list fits its record, every record of its type is listed once, and nothing else is
 unfoldable pub listRight : List ℕ → ListKind → Bool

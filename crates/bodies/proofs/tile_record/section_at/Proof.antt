@@ -6,13 +6,13 @@ use mathlib.Core.Path.{_≡_}
 use lib.ListN.{length}
 use Rattle.wire.specs.Items.{advance}
 use Rattle.wire.proofs.ItemLaws.{items-step, items-stop, items-end}
-use Rattle.bodies.specs.TileRecord.{sectionEnd, sectionAt}
+use Rattle.bodies.specs.TileRecord.{sectionEnd, sectionAt, longestSection}
 use Rattle.bodies.proofs.SectionLaws.{sections-begin}
 use Rattle.bodies.proofs.tile_record.section_at.Statement.{statement}
 use Rattle.bodies.proofs.tile_record.section_at.Tie as tie
 
 abbrev Inv-loop : tie.InvT-loop
-Inv-loop s at e limit p₀ left₀ p left = (advance (sectionEnd s) limit left p ≡ sectionAt s at e) × ((p ≤ length s + 4294967312) × (limit ≤ length s))
+Inv-loop s at e limit p₀ left₀ p left = (advance (sectionEnd s) limit left p ≡ sectionAt s at e) × ((p ≤ length s + 12 + longestSection) × (limit ≤ length s))
 
 abbrev μ-loop : tie.MeasureT-loop
 μ-loop s at e limit p₀ left₀ p left = left

@@ -13,4 +13,5 @@ key-slot-spec =
     (λ c. search needs)
     (λ c. search (needs, place-part))
     (λ c. search needs)
+    (λ c. search needs)
     (λ c. search (needs, place-is)))

@@ -12,4 +12,5 @@ entries-read-spec =
     (λ c κs. search needs)
     (λ c. search needs)
     (λ c. (read-all _ _ (c .before .element-count .ensures) (omega arith), omega arith))
+    (λ c. search needs)
     (λ c. (read-some _ _ (c .before .element-count .ensures) (omega arith), omega arith)))

@@ -7,12 +7,12 @@ use Prim.Native.Nat.{_+_, _≤_}
 use mathlib.Core.Path.{_≡_}
 use lib.ListN.{length}
 use Rattle.wire.specs.Items.{advance}
-use Rattle.header.specs.Element.{entryEnd, entryStart}
+use Rattle.header.specs.Element.{entryEnd, entryStart, longestEntry}
 use Rattle.header.proofs.entries.entry_start.Statement.{statement}
 use Rattle.header.proofs.entries.entry_start.Tie as tie
 
 abbrev Inv-loop : tie.InvT-loop
-Inv-loop s e limit at₀ left₀ at left = (advance (entryEnd s) limit left at ≡ entryStart s e) × ((at ≤ length s + 262200) × (limit ≤ length s))
+Inv-loop s e limit at₀ left₀ at left = (advance (entryEnd s) limit left at ≡ entryStart s e) × ((at ≤ length s + longestEntry) × (limit ≤ length s))
 
 abbrev μ-loop : tie.MeasureT-loop
 μ-loop s e limit at₀ left₀ at left = left

@@ -5,7 +5,7 @@ use Prim.Native.Nat.{_+_, _≤_}
 use mathlib.Core.Path.{_≡_}
 use lib.ListN.{length}
 use Rattle.wire.specs.Items.{advance}
-use Rattle.header.specs.Element.{stringEnd}
+use Rattle.header.specs.Element.{stringEnd, longestEntry}
 use Rattle.header.specs.Tail.{productLabelAt}
 use Rattle.wire.proofs.ItemLaws.{items-stop, items-end}
 use Rattle.header.proofs.EntryLaws.{strings-step, methods-begin}
@@ -13,7 +13,7 @@ use Rattle.header.proofs.tail.product_label_at.Statement.{statement}
 use Rattle.header.proofs.tail.product_label_at.Tie as tie
 
 abbrev Inv-loop : tie.InvT-loop
-Inv-loop s limit at₀ left₀ at left = (advance (stringEnd s) limit left at ≡ productLabelAt s) × ((at ≤ length s + 262204) × (limit ≤ length s))
+Inv-loop s limit at₀ left₀ at left = (advance (stringEnd s) limit left at ≡ productLabelAt s) × ((at ≤ length s + longestEntry + 4) × (limit ≤ length s))
 
 abbrev μ-loop : tie.MeasureT-loop
 μ-loop s limit at₀ left₀ at left = left
