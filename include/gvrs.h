@@ -1,8 +1,8 @@
-/* Gridfour Virtual Raster Store files, version 1.4: the check of a file, reads of its cells, the laying down of a new one, and the
+/* Gridfour Virtual Raster Store files, version 1.4: the check of a file, whole or in two halves, reads of its cells, the laying down of a new one, and the
    listing of a file.
 
    Link with libgvrs_c.a, which `rt staticlib gvrs_c` writes to target/staticlib/. A file is the bytes of the whole file, n of
-   them. `out` takes the numbers that a function names, in their order; a shorter one takes those that fit, and the answer is the
+   them, but for gvrs_check_start. `out` takes the numbers that a function names, in their order; a shorter one takes those that fit, and the answer is the
    same. A lay-down also writes the buffer that it is given for the file, a listing the buffer for its text. Nothing else is
    written.
 
@@ -32,8 +32,9 @@ enum {
     GVRS_DIRECTORY = 9,    /* directory at fault */
     GVRS_OUTSIDE = 10,     /* row, column, element or tile asked for not in the grid */
     GVRS_COMPRESSED = 11,  /* content asked for is compressed */
-    GVRS_INPUT = 12,       /* lay-down input wrong */
+    GVRS_INPUT = 12,       /* input wrong: of a lay-down, or more first bytes than the stated length */
     GVRS_ROOM = 13,        /* lay-down output too short */
+    GVRS_INCOMPLETE = 16,  /* a byte that a stage needs is not given */
     GVRS_STORED = 32,      /* the cell is stored, the content is present */
     GVRS_FILL = 33         /* the cell is fill, the tile is absent */
 };
@@ -47,6 +48,15 @@ enum {
 
 /* 0 where the file is accepted, and out[0] is 0; else the refusal's number, and out[0] is its place. */
 uint32_t gvrs_check(const uint8_t *file, uint64_t n, uint64_t *out, uint64_t out_n);
+
+/* Stages 1 to 5, from the first first_n bytes of a file of `length` bytes: 0 where they accept, else the refusal's number; 12 where
+   more bytes are given than the file has, 16 where a stage needs a byte that is not given. out[0] is the place, 0. out[1] is how many
+   first bytes that stage needs where the answer is 16, else 0. Any answer but 12 and 16 is that of stages 1 to 5 on each file of
+   that length which begins so. */
+uint32_t gvrs_check_start(const uint8_t *first, uint64_t first_n, uint64_t length, uint64_t *out, uint64_t out_n);
+
+/* The whole check, of the whole file, which begins by repeating gvrs_check_start; its answers are those of gvrs_check. */
+uint32_t gvrs_check_rest(const uint8_t *file, uint64_t n, uint64_t *out, uint64_t out_n);
 
 /* A cell, by row, column and element number, each counted from 0: 32 stored, 33 fill, else the refusal's number. out[0] is the
    type code (0 Integer, 1 integer-coded, 2 Float, 3 Short), out[1] the bits of the value, out[2] the place of a stored cell's

@@ -2,9 +2,18 @@
 
 use crate::second::cells::Spot;
 use crate::second::check::Answer;
+use crate::second::start::Start;
 
 extern "C" {
     fn gvrs_check(file: *const u8, n: u64, out: *mut u64, out_n: u64) -> u32;
+    fn gvrs_check_start(
+        first: *const u8,
+        first_n: u64,
+        length: u64,
+        out: *mut u64,
+        out_n: u64,
+    ) -> u32;
+    fn gvrs_check_rest(file: *const u8, n: u64, out: *mut u64, out_n: u64) -> u32;
     fn gvrs_cell(
         file: *const u8,
         n: u64,
@@ -57,6 +66,33 @@ pub fn check(file: &[u8]) -> Answer {
 pub fn check_into(file: &[u8], out: &mut [u64]) -> u32 {
     // Both slices are alive for the whole call and do not overlap.
     unsafe { gvrs_check(file.as_ptr(), file.len() as u64, out.as_mut_ptr(), out.len() as u64) }
+}
+
+/// The first half of the check: the answer for the first bytes of a file and its stated length.
+pub fn check_start(first: &[u8], length: u64) -> Start {
+    let mut out = [UNWRITTEN; 2];
+    let number = check_start_into(first, length, &mut out);
+    Start { number, place: out[0], needed: out[1] }
+}
+
+/// The same with the caller's `out`, of any length.
+pub fn check_start_into(first: &[u8], length: u64, out: &mut [u64]) -> u32 {
+    let (bytes, n) = (first.as_ptr(), first.len() as u64);
+    // Both slices are alive for the whole call and do not overlap.
+    unsafe { gvrs_check_start(bytes, n, length, out.as_mut_ptr(), out.len() as u64) }
+}
+
+/// The second half of the check: the answer for the bytes of one file.
+pub fn check_rest(file: &[u8]) -> Answer {
+    let mut place = [UNWRITTEN];
+    let number = check_rest_into(file, &mut place);
+    (number, place[0])
+}
+
+/// The same with the caller's `out`, of any length.
+pub fn check_rest_into(file: &[u8], out: &mut [u64]) -> u32 {
+    // Both slices are alive for the whole call and do not overlap.
+    unsafe { gvrs_check_rest(file.as_ptr(), file.len() as u64, out.as_mut_ptr(), out.len() as u64) }
 }
 
 /// The number and all of `out`.

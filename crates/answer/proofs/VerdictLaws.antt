@@ -12,6 +12,10 @@ use Rattle.answer.specs.Refusals.{gate, unlessRefused}
 pub refused-not : {C : Type 0} {r : Refusal} → Refused r ≡ Accepted → C
 refused-not e = let z : _≡_ {A = ℕ} 0 1 = cc in absurd (omega arith)
 
+-- two refusals are one answer only where they are one
+pub refused-is : {q r : Refusal} → Refused q ≡ Refused r → q ≡ r
+refused-is e = cc
+
 pub gate-passed : (b : Bool) (r : Refusal) (v : Verdict) → gate b r v ≡ Accepted → (b ≡ true) × (v ≡ Accepted)
 unfolding gate
 gate-passed true r v e = (refl, e)

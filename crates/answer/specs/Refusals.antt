@@ -1,8 +1,9 @@
--- Document 01, 'Thirteen refusals': the number and the place of each.
+-- Document 01, 'Thirteen refusals': the number and the place of each. Document 02 adds one, Req 12: 16, place 0, where a stage needs a
+-- byte that is not given.
 use Prim.Native.Nat.{ℕ}
 use mathlib.Core.Bool.{Bool, true, false}
 use Rattle.answer.specs.declared.Refusal.{Refusal}
-use Rattle.answer.specs.declared.Refusal.the-variants.{Identification, Version, Header, Ceiling, Opened, Chain, Checksum, Body, Directory, OutsideGrid, Compressed, Input, Room}
+use Rattle.answer.specs.declared.Refusal.the-variants.{Identification, Version, Header, Ceiling, Opened, Chain, Checksum, Body, Directory, OutsideGrid, Compressed, Input, Room, Incomplete}
 use Rattle.answer.specs.declared.Verdict.{Verdict}
 use Rattle.answer.specs.declared.Verdict.the-variants.{Accepted, Refused}
 
@@ -20,6 +21,7 @@ refusalNumber OutsideGrid = 10
 refusalNumber (Compressed at) = 11
 refusalNumber Input = 12
 refusalNumber Room = 13
+refusalNumber Incomplete = 16
 
 abbrev pub refusalPlace : Refusal → ℕ
 refusalPlace Identification = 0
@@ -35,6 +37,7 @@ refusalPlace OutsideGrid = 0
 refusalPlace (Compressed at) = at
 refusalPlace Input = 0
 refusalPlace Room = 0
+refusalPlace Incomplete = 0
 
 -- a check's answer as a number, 0 where it accepts, and its place
 abbrev pub verdictNumber : Verdict → ℕ

@@ -9,7 +9,8 @@ ghost use Rattle.answer.specs.Refusals.{refusalNumber, refusalPlace, ver
 ghost use Rattle.answer.specs.Values.{valueOf, valueType, valueBits};
 ghost use Rattle.answer.specs.Answers.{cellKind, cellType, cellBits, cellPlace, contentKind, contentPlace, contentLength, laidNumber};
 
-// The thirteen refusals, in their order, with a place where document 01 gives one that varies.
+// Document 01's thirteen refusals, in their order, with a place where it gives one that varies; then document 02's: a byte that a stage
+// needs is not given.
 pub enum Refusal {
     Identification,
     Version,
@@ -24,6 +25,7 @@ pub enum Refusal {
     Compressed(usize),
     Input,
     Room,
+    Incomplete,
 }
 
 // What a check answers.
@@ -61,7 +63,7 @@ pub enum Laid {
     Refused(Refusal),
 }
 
-// Document 01's number of a refusal.
+// The papers' number of a refusal.
 pub fn refusal_number(r: Refusal) -> u32
     ensures { λ n. ⌜ n ≡ refusalNumber r ⌝ }
 {
@@ -79,10 +81,11 @@ pub fn refusal_number(r: Refusal) -> u32
         Refusal::Compressed(_) => 11,
         Refusal::Input => 12,
         Refusal::Room => 13,
+        Refusal::Incomplete => 16,
     }
 }
 
-// Document 01's place of a refusal.
+// The papers' place of a refusal.
 pub fn refusal_place(r: Refusal) -> usize
     ensures { λ n. ⌜ n ≡ refusalPlace r ⌝ }
 {
@@ -100,6 +103,7 @@ pub fn refusal_place(r: Refusal) -> usize
         Refusal::OutsideGrid => 0,
         Refusal::Input => 0,
         Refusal::Room => 0,
+        Refusal::Incomplete => 0,
     }
 }
 

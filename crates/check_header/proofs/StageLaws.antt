@@ -3,40 +3,26 @@ use Prim.Native.Nat.{ℕ}
 use mathlib.Core.Path.{_≡_, sym, _∙_}
 use mathlib.Core.List.{List, [], _∷_}
 use mathlib.Core.Bool.{Bool, true, false}
-use Rattle.answer.specs.declared.Refusal.the-variants.{Identification, Version, Header, Ceiling, Opened}
+use Rattle.answer.specs.declared.Refusal.{Refusal}
+use Rattle.answer.specs.declared.Refusal.the-variants.{Opened}
 use Rattle.answer.specs.declared.Verdict.{Verdict}
 use Rattle.answer.specs.declared.Verdict.the-variants.{Accepted, Refused}
 use Rattle.answer.specs.Refusals.{gate}
 use Rattle.wire.proofs.TestLaws.{yes, no}
 use Rattle.wire.specs.Tests.{_≡?_}
 use Rattle.header.specs.Fields.{timeOpened}
-use Rattle.check_header.specs.Identification.{identified, versionRight}
-use Rattle.check_header.specs.Ceilings.{withinCeilings}
-use Rattle.check_header.specs.Stages.{closed, firstTwo, nextTwo, stages}
+use Rattle.check_header.specs.Stages.{closed}
 
-module _ (s : List ℕ) (n : ℕ) (header : Bool) (behind : Verdict) (a : Bool) (p : a ≡ identified s n) where
-  pub stage-1 : a ≡ false → Refused Identification ≡ stages s n header behind
-  unfolding stages firstTwo nextTwo gate
-  stage-1 e = rw (← p, e)
+-- at a return behind a test: the refusal where it fails, what comes behind it where it passes
 
-  module _ (e : a ≡ true) (b : Bool) (q : b ≡ versionRight s) where
-    pub stage-2 : b ≡ false → Refused Version ≡ stages s n header behind
-    unfolding stages firstTwo nextTwo gate
-    stage-2 f = rw (← p, e, ← q, f)
+module _ (a b : Bool) (r : Refusal) (p : a ≡ b) where
+  pub stopped : (v : Verdict) → a ≡ false → Refused r ≡ gate b r v
+  unfolding gate
+  stopped v e = rw (← p, e)
 
-    module _ (f : b ≡ true) (c : Bool) (r : c ≡ header) where
-      pub stage-3 : c ≡ false → Refused Header ≡ stages s n header behind
-      unfolding stages firstTwo nextTwo gate
-      stage-3 g = rw (← p, e, ← q, f, ← r, g)
-
-      module _ (g : c ≡ true) (d : Bool) (t : d ≡ withinCeilings s n) where
-        pub stage-4 : d ≡ false → Refused Ceiling ≡ stages s n header behind
-        unfolding stages firstTwo nextTwo gate
-        stage-4 h = rw (← p, e, ← q, f, ← r, g, ← t, h)
-
-        pub stage-all : (v : Verdict) → v ≡ behind → d ≡ true → v ≡ stages s n header behind
-        unfolding stages firstTwo nextTwo gate
-        stage-all v k h = rw (← p, e, ← q, f, ← r, g, ← t, h) k
+  pub let-by : (v w : Verdict) → a ≡ true → w ≡ v → w ≡ gate b r v
+  unfolding gate
+  let-by v w e k = rw (← p, e) k
 
 -- stage 5
 
@@ -48,4 +34,4 @@ pub closed-yes : (s : List ℕ) (x : ℕ) → x ≡ timeOpened s → x ≡ 0 →
 unfolding closed gate
 closed-yes s x u m = rw (← yes ((timeOpened s ≡? 0) ∷ []) (sym u ∙ m, tt))
 
-pub ruleset in-order = (stage-1, stage-2, stage-3, stage-4, stage-all, closed-not, closed-yes)
+pub ruleset in-order = (stopped, let-by, closed-not, closed-yes)

@@ -3,3 +3,4 @@ pub mod ceilings;
 pub mod header_record;
 pub mod identification;
 pub mod stages;
+pub mod start;

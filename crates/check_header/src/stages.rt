@@ -7,7 +7,27 @@ use answer::Verdict;
 use header::fields;
 use record::chain;
 ghost use mathlib.Core.Path.{_≡_};
-ghost use Rattle.check_header.specs.Stages.{frontRight, checkHeader, checkFront};
+ghost use Rattle.answer.specs.declared.Refusal.the-variants.{Opened};
+ghost use Rattle.answer.specs.declared.Verdict.the-variants.{Accepted};
+ghost use Rattle.answer.specs.Refusals.{gate};
+ghost use Rattle.check_header.specs.HeaderRecord.{headerRight};
+ghost use Rattle.check_header.specs.Stages.{closed, nextTwo, frontRight, checkHeader, checkFront};
+
+// Stages 3 to 5.
+pub fn last_three(s: &[u8], length: usize) -> Verdict
+    ensures { λ r. ⌜ r ≡ nextTwo (now (s .entry)) length (headerRight (now (s .entry)) length) (gate (closed (now (s .entry))) Opened Accepted) ⌝ }
+{
+    if header_record::header_right(s, length) {
+        if ceilings::within_ceilings(s, length) {
+            if fields::time_opened(s) == 0 {
+                return Verdict::Accepted;
+            }
+            return Verdict::Refused(Refusal::Opened);
+        }
+        return Verdict::Refused(Refusal::Ceiling);
+    }
+    Verdict::Refused(Refusal::Header)
+}
 
 // Stages 1 to 5, of a file's bytes and its length.
 pub fn check_header(s: &[u8], length: usize) -> Verdict
@@ -15,16 +35,7 @@ pub fn check_header(s: &[u8], length: usize) -> Verdict
 {
     if identification::is_identified(s, length) {
         if identification::version_right(s) {
-            if header_record::header_right(s, length) {
-                if ceilings::within_ceilings(s, length) {
-                    if fields::time_opened(s) == 0 {
-                        return Verdict::Accepted;
-                    }
-                    return Verdict::Refused(Refusal::Opened);
-                }
-                return Verdict::Refused(Refusal::Ceiling);
-            }
-            return Verdict::Refused(Refusal::Header);
+            return last_three(s, length);
         }
         return Verdict::Refused(Refusal::Version);
     }

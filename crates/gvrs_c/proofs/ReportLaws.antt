@@ -14,10 +14,11 @@ use Rattle.answer.specs.declared.Content.{Content}
 use Rattle.answer.specs.declared.Laid.{Laid}
 use Rattle.answer.specs.Refusals.{verdictNumber, verdictPlace}
 use Rattle.answer.specs.Answers.{cellKind, cellType, cellBits, cellPlace, contentKind, contentPlace, contentLength, laidNumber}
+use Rattle.check_header.specs.Start.{checkStart, needed}
 use Rattle.page_check.specs.Stages.{check}
 use Rattle.cells.specs.Reads.{readByDirectory, readByWalk, readByRecords, readMeaning, recordsMeaning}
 use Rattle.cells.proofs.ReadLaws.{directory-read, walk-read, records-read}
-use Rattle.gvrs_c.specs.Report.{reported, cellNumbers, contentNumbers, laidReport}
+use Rattle.gvrs_c.specs.Report.{reported, startNumbers, cellNumbers, contentNumbers, laidReport}
 use Rattle.gvrs_c.specs.Route.{readBy, meaningBy, RouteMeans}
 
 one-reported : (out : List ℕ) (a : ℕ) → set out 0 a ≡ reported (a ∷ []) out
@@ -43,6 +44,21 @@ pub checked :
     (s o p : List ℕ) (v : Verdict) (n a : ℕ) → v ≡ check s → a ≡ verdictPlace v → p ≡ set o 0 a → n ≡ verdictNumber v →
     (n ≡ verdictNumber (check s)) × (p ≡ reported (verdictPlace (check s) ∷ []) o)
 checked s o p v n a e f g h = (h ∙ ap verdictNumber e, g ∙ one-reported o a ∙ rw (f, e))
+
+-- the first half's, with what it needs
+
+module _ (s : List ℕ) (k n r : ℕ) where
+  pub needs-yes : n ≡ 16 → r ≡ needed s k → r ≡ pick (eqb n 16) (needed s k) 0
+  needs-yes e q = rw e q
+
+  pub needs-not : (n ≡ 16 → ⊥) → 0 ≡ pick (eqb n 16) (needed s k) 0
+  needs-not e = rw (ne-eqb n 16 e)
+
+pub start-told :
+    (s o p q : List ℕ) (k : ℕ) (v : Verdict) (n a b : ℕ) → v ≡ checkStart s k → n ≡ verdictNumber v → a ≡ verdictPlace v → p ≡ set o 0 a →
+    b ≡ pick (eqb n 16) (needed s k) 0 → q ≡ set p 1 b →
+    (n ≡ verdictNumber (checkStart s k)) × (q ≡ reported (startNumbers s k) o)
+start-told s o p q k v n a b e f g h i j = (f ∙ ap verdictNumber e, j ∙ rw h (two-reported o a b ∙ rw (g, i, f, e)))
 
 -- a cell's, by a route
 

@@ -5,13 +5,20 @@ use Rattle.answer.specs.declared.Cell.{Cell}
 use Rattle.answer.specs.declared.Content.{Content}
 use Rattle.answer.specs.declared.Laid.{Laid}
 use Rattle.answer.specs.declared.Laid.the-variants.{Length, Refused}
-use Rattle.answer.specs.Refusals.{refusalPlace}
+use Rattle.answer.specs.Refusals.{refusalPlace, verdictNumber, verdictPlace}
 use Rattle.answer.specs.Answers.{cellType, cellBits, cellPlace, contentPlace, contentLength}
+use lib.Dec.{eqb}
+use Rattle.wire.specs.Pick.{pick}
+use Rattle.check_header.specs.Start.{checkStart, needed}
 
 unfoldable pub reported : List ℕ → List ℕ → List ℕ
 reported [] out = out
 reported (v ∷ vs) [] = []
 reported (v ∷ vs) (x ∷ xs) = v ∷ reported vs xs
+
+-- the first half's numbers: its place, and how many first bytes the stage needs that answers 16, else 0
+abbrev pub startNumbers : List ℕ → ℕ → List ℕ
+startNumbers s n = verdictPlace (checkStart s n) ∷ pick (eqb (verdictNumber (checkStart s n)) 16) (needed s n) 0 ∷ []
 
 -- a cell's numbers: its type code, its bits and its place
 abbrev pub cellNumbers : Cell → List ℕ

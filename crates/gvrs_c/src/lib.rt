@@ -2,21 +2,24 @@
 use answer::Cell;
 use answer::Laid;
 use cells::reads;
+use check_header::start;
 use header::names;
 ghost use mathlib.Core.Path.{_≡_};
 ghost use mathlib.Core.List.{[], _∷_};
 ghost use lib.ListN.{length, set};
+ghost use lib.Dec.{eqb};
 ghost use Rattle.answer.specs.Refusals.{verdictNumber, verdictPlace};
 ghost use Rattle.answer.specs.Answers.{cellKind, contentKind, laidNumber};
 ghost use Rattle.wire.specs.Pick.{pick};
 ghost use Rattle.header.specs.Names.{identifier, longestName};
 ghost use Rattle.utf8.specs.Utf8.{utf8};
+ghost use Rattle.check_header.specs.Start.{checkStart, needed};
 ghost use Rattle.page_check.specs.Stages.{check};
 ghost use Rattle.cells.specs.Reads.{readContent};
 ghost use Rattle.lay_down.specs.Answer.{laid, laidOut};
 ghost use Rattle.wire.specs.Bytes.{put};
 ghost use Rattle.listing.specs.Listing.{listing};
-ghost use Rattle.gvrs_c.specs.Report.{reported, cellNumbers, contentNumbers, laidReport};
+ghost use Rattle.gvrs_c.specs.Report.{reported, startNumbers, cellNumbers, contentNumbers, laidReport};
 ghost use Rattle.gvrs_c.specs.Route.{readBy, meaningBy};
 
 // A number of an answer at its place in `out`, if `out` is long enough.
@@ -35,6 +38,42 @@ pub extern "C" fn gvrs_check(file: &[u8], out: &mut [u64]) -> u32
     ensures place { λ _. ⌜ now (out .exit) ≡ reported (verdictPlace (check (now (file .entry))) ∷ []) (now (out .entry)) ⌝ }
 {
     let verdict = page_check::check(file);
+    report(out, 0, answer::verdict_place(verdict) as u64);
+    answer::verdict_number(verdict)
+}
+
+// How many first bytes the stage needs that answers 16; 0 of another answer.
+fn start_needs(first: &[u8], length: usize, number: u32) -> usize
+    ensures { λ r. ⌜ r ≡ pick (eqb number 16) (needed (now (first .entry)) length) 0 ⌝ }
+{
+    if number == 16 {
+        return start::bytes_needed(first, length);
+    }
+    0
+}
+
+// Stages 1 to 5, from a file's first bytes and its stated length: 0 where they accept, else the refusal's number; out[0] takes the
+// place, out[1] how many first bytes are needed where the answer is 16, else 0.
+#[no_mangle]
+pub extern "C" fn gvrs_check_start(first: &[u8], length: u64, out: &mut [u64]) -> u32
+    ensures number { λ r. ⌜ r ≡ verdictNumber (checkStart (now (first .entry)) length) ⌝ }
+    ensures place { λ _. ⌜ now (out .exit) ≡ reported (startNumbers (now (first .entry)) length) (now (out .entry)) ⌝ }
+{
+    let n = length as usize;
+    let verdict = start::check_start(first, n);
+    let number = answer::verdict_number(verdict);
+    report(out, 0, answer::verdict_place(verdict) as u64);
+    report(out, 1, start_needs(first, n, number) as u64);
+    number
+}
+
+// The second half of the check, of the whole file; it answers as the check does.
+#[no_mangle]
+pub extern "C" fn gvrs_check_rest(file: &[u8], out: &mut [u64]) -> u32
+    ensures number { λ r. ⌜ r ≡ verdictNumber (check (now (file .entry))) ⌝ }
+    ensures place { λ _. ⌜ now (out .exit) ≡ reported (verdictPlace (check (now (file .entry))) ∷ []) (now (out .entry)) ⌝ }
+{
+    let verdict = page_check::check_rest(file);
     report(out, 0, answer::verdict_place(verdict) as u64);
     answer::verdict_number(verdict)
 }

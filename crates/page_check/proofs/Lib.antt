@@ -1,3 +1,4 @@
 pub mod StageLaws
 pub mod AcceptedLaws
 pub mod GivenLaws
+pub mod HalfLaws

@@ -5,4 +5,5 @@
 -- whole chain is the file's own list (`whole-starts`); with that list it is `Obeys`.
 -- The pages stand in the order in which to read them.
 pub mod Stages
+pub mod Halves
 pub mod Accepted

@@ -2,12 +2,14 @@
 use answer::Refusal;
 use answer::Verdict;
 use check_header::stages;
+use check_header::start;
 use check_lists::stage;
 use check_records::faults;
 use record::Found;
 ghost use mathlib.Core.Path.{_≡_};
 ghost use Rattle.answer.specs.declared.Verdict.the-variants.{Accepted};
 ghost use Rattle.page_check.specs.Stages.{checkRecords, checkToBodies, checkDirectories, checkFromRecords, check};
+ghost use Rattle.page_check.specs.Halves.{checkRest};
 
 // Stages 6 to 8.
 pub fn check_records(s: &[u8]) -> Verdict
@@ -62,5 +64,17 @@ pub fn check(s: &[u8]) -> Verdict
     match check_to_bodies(s) {
         Verdict::Refused(r) => Verdict::Refused(r),
         Verdict::Accepted => check_directories(s),
+    }
+}
+
+// The second half of the check, of the whole file: the first half again, with all bytes given, then stages 6 to 9. It answers as the
+// check does.
+pub fn check_rest(s: &[u8]) -> Verdict
+    ensures { λ r. ⌜ r ≡ checkRest (now (s .entry)) ⌝ }
+    ensures whole { λ r. ⌜ r ≡ check (now (s .entry)) ⌝ }
+{
+    match start::check_start(s, s.len()) {
+        Verdict::Refused(r) => Verdict::Refused(r),
+        Verdict::Accepted => check_from_records(s),
     }
 }

@@ -48,7 +48,7 @@ pub fn stages_1_to_8(file: &[u8]) -> Result<Passed<'_>, Answer> {
     Ok(Passed { header, records })
 }
 
-fn stages_1_to_5(file: &[u8]) -> Result<Header, Answer> {
+pub fn stages_1_to_5(file: &[u8]) -> Result<Header, Answer> {
     let header = stages_1_to_3(file)?;
     stage_4(file, &header)?;
     if is_opened(&header) {
@@ -75,11 +75,11 @@ fn stages_1_to_3(file: &[u8]) -> Result<Header, Answer> {
     if !has_version_1_4(file) {
         return Err((2, 0));
     }
-    header_of(file).ok_or((3, 0))
+    header_of(file, file.len() as u64).ok_or((3, 0))
 }
 
 fn stage_4(file: &[u8], header: &Header) -> Result<(), Answer> {
-    if passes_a_ceiling(file, header) {
+    if passes_a_ceiling(file.len() as u64, header) {
         Err((4, 0))
     } else {
         Ok(())

@@ -65,9 +65,10 @@ pub fn has_version_1_4(file: &[u8]) -> bool {
     file[12] == 1 && file[13] == 4
 }
 
-/// Document 01, stage 3. `None` is refusal 3.
-pub fn header_of(file: &[u8]) -> Option<Header> {
-    let record = header_record(file)?;
+/// Document 01, stage 3, of a file of `length` bytes from as many of its first bytes as hold the
+/// whole header. `None` is refusal 3.
+pub fn header_of(first: &[u8], length: u64) -> Option<Header> {
+    let record = header_record(first, length)?;
     let fields = fields_before_checksum(record)?;
     printed_values(fields)?;
     let element_count = element_count(fields)?;
@@ -92,12 +93,19 @@ pub fn header_of(file: &[u8]) -> Option<Header> {
     })
 }
 
-/// Document 01, stage 3: "Its length is a multiple of 8 and ends inside the file, its type is 6".
-fn header_record(file: &[u8]) -> Option<&[u8]> {
-    let length = count_at(file, HEADER_START)?;
-    let record_type = *file.get(HEADER_START + 4)?;
-    let record = file.get(HEADER_START..HEADER_START + length)?;
-    (length.is_multiple_of(8) && record_type == 6).then_some(record)
+/// Document 01, stage 3: "its type is 6".
+fn header_record(first: &[u8], length: u64) -> Option<&[u8]> {
+    let end = lawful_end(first, length)?;
+    let record_type = *first.get(HEADER_START + 4)?;
+    let record = first.get(HEADER_START..end)?;
+    (record_type == 6).then_some(record)
+}
+
+/// Where the header ends. Document 01, stage 3: "Its length is a multiple of 8 and ends inside the
+/// file", which has `length` bytes.
+pub fn lawful_end(first: &[u8], length: u64) -> Option<usize> {
+    let end = HEADER_START + count_at(first, HEADER_START)?;
+    ((end - HEADER_START).is_multiple_of(8) && end as u64 <= length).then_some(end)
 }
 
 /// A field fits if it ends at or before the record's last four bytes.
@@ -191,9 +199,10 @@ fn rest_is_good(reader: &mut Reader) -> Option<()> {
     (is_utf8(label) && reader.left() <= 7).then_some(())
 }
 
-/// Document 01, house ceilings: refusal 4. "Each ceiling itself is allowed."
-pub fn passes_a_ceiling(file: &[u8], header: &Header) -> bool {
-    file.len() > FILE_CEILING
+/// Document 01, house ceilings: refusal 4, of a file of `length` bytes. "Each ceiling itself is
+/// allowed."
+pub fn passes_a_ceiling(length: u64, header: &Header) -> bool {
+    length > FILE_CEILING as u64
         || header.grid_rows > GRID_SIDE_CEILING
         || header.grid_columns > GRID_SIDE_CEILING
         || header.tile_rows > TILE_SIDE_CEILING

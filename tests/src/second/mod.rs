@@ -13,4 +13,5 @@ pub mod header;
 pub mod lay_down;
 pub mod listing;
 pub mod names;
+pub mod start;
 pub mod utf8;

@@ -6,8 +6,10 @@ use crate::run::Run;
 /// Comparisons that a whole run makes at least, all functions together.
 const LEAST: usize = 200_000;
 
-/// The refusals of document 01.
-const REFUSALS: std::ops::RangeInclusive<u32> = 1..=13;
+/// The refusals of document 01, and that of Req 12.
+const REFUSALS: [u32; 14] = [1, 2, 3, 4, 5, 6, 7, 8, 9, 10, 11, 12, 13, 16];
+/// One more than the greatest of them.
+const NUMBERS: usize = 17;
 
 /// A function of the C interface. A comparison is one question put to both, of a cell by one
 /// route; the same question with another buffer, another `out` or at another address is not counted
@@ -16,13 +18,13 @@ pub struct Function {
     name: &'static str,
     comparisons: usize,
     /// How often each refusal was the answer, at its number.
-    refusals: [usize; 14],
+    refusals: [usize; NUMBERS],
 }
 
 impl Function {
     /// From the answers by number and times.
     pub fn new(name: &'static str, answers: impl Iterator<Item = (u32, usize)>) -> Function {
-        let mut function = Function { name, comparisons: 0, refusals: [0; 14] };
+        let mut function = Function { name, comparisons: 0, refusals: [0; NUMBERS] };
         for (number, times) in answers {
             function.comparisons += times;
             if REFUSALS.contains(&number) {
@@ -55,7 +57,7 @@ pub fn missed(functions: &[Function]) -> Vec<String> {
     for function in functions.iter().filter(|function| function.comparisons == 0) {
         missed.push(format!("{} was never asked", function.name));
     }
-    for number in REFUSALS.filter(|number| met(functions, *number) == 0) {
+    for number in REFUSALS.into_iter().filter(|number| met(functions, *number) == 0) {
         missed.push(format!("refusal {number} was never met"));
     }
     missed
@@ -70,10 +72,12 @@ fn met(functions: &[Function], number: u32) -> usize {
 }
 
 impl Run {
-    /// The seven functions. Of names and texts no answer is a refusal.
-    pub fn functions(&self) -> [Function; 7] {
+    /// The nine functions. Of names and texts no answer is a refusal.
+    pub fn functions(&self) -> [Function; 9] {
         [
             Function::new("gvrs_check", self.answers()),
+            Function::new("gvrs_check_start", self.starts.answers()),
+            Function::new("gvrs_check_rest", (0..).zip(self.rests)),
             Function::new("gvrs_cell", self.reads.cell_answers()),
             Function::new("gvrs_content", self.reads.content_answers()),
             Function::new("gvrs_lay_down", self.lay_downs.answers()),

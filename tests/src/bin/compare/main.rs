@@ -21,6 +21,7 @@ mod reads;
 mod run;
 mod sample_sums;
 mod stack;
+mod starts;
 mod texts;
 
 use std::env;
@@ -54,7 +55,7 @@ fn main() -> ExitCode {
 
 /// Every section. Each has a generator of its own, so that one can change without the others.
 fn whole_run(seed: u64, small: bool) -> bool {
-    let sections: [fn(&mut Run, &mut Prng); 14] = [
+    let sections: [fn(&mut Run, &mut Prng); 15] = [
         sample_sums::section,
         made::section,
         allowed::section,
@@ -69,6 +70,7 @@ fn whole_run(seed: u64, small: bool) -> bool {
         stack::section,
         names::section,
         texts::section,
+        starts::section,
     ];
     let mut run = Run::new(small);
     for (number, section) in sections.into_iter().enumerate() {

@@ -1,7 +1,7 @@
 //! How much of an answer goes into `out`: what fits, and no more.
 
 use gvrs_tests::build::build;
-use gvrs_tests::library::{self, check_into};
+use gvrs_tests::library::{self, check_into, check_rest_into};
 use gvrs_tests::prng::Prng;
 use gvrs_tests::random_page::random_page;
 use gvrs_tests::second::check::check;
@@ -24,19 +24,20 @@ pub fn section(run: &mut Run, random: &mut Prng) {
         }
         run.compare("out of 0, 1 and 3", &file);
         for length in [0, 1, 3] {
-            out_of(run, &file, length);
+            out_of(run, &file, length, check_into);
+            out_of(run, &file, length, check_rest_into);
         }
         at_any_address(run, &file);
     }
 }
 
-/// The number does not depend on `out`; its first holds the place, the others stay; so does the
-/// memory around it.
-fn out_of(run: &mut Run, file: &[u8], length: usize) {
+/// Of the check or of its second half: the number does not depend on `out`; its first holds the
+/// place, the others stay; so does the memory around it.
+fn out_of(run: &mut Run, file: &[u8], length: usize, asked: fn(&[u8], &mut [u64]) -> u32) {
     let before = file.to_vec();
     let (number, place) = check(file);
     let mut memory = [MARK; 6];
-    let answered = check_into(file, &mut memory[1..1 + length]);
+    let answered = asked(file, &mut memory[1..1 + length]);
     let mut expected = [MARK; 6];
     if length > 0 {
         expected[1] = place;
@@ -54,7 +55,8 @@ fn at_any_address(run: &mut Run, file: &[u8]) {
         let mut memory = vec![0xff; before];
         memory.extend(file);
         memory.extend([0xff; 16]);
-        if library::check(&memory[before..before + file.len()]) != answer {
+        let moved = &memory[before..before + file.len()];
+        if library::check(moved) != answer || library::check_rest(moved) != answer {
             run.fault(&format!("another answer {before} bytes further on"), file);
         }
     }

@@ -10,6 +10,7 @@ use crate::closing;
 use crate::lay_downs;
 use crate::listings;
 use crate::reads;
+use crate::starts;
 
 /// Faults printed in full and files kept; the rest is only counted.
 const MOST_SHOWN: usize = 20;
@@ -20,12 +21,15 @@ pub struct Run {
     sorts: Vec<(&'static str, usize)>,
     /// How often each answer 0 to 9 came out of the second implementation.
     answers: [usize; 10],
+    /// The same, where the second half was asked beside the check.
+    pub rests: [usize; 10],
     aims: Vec<AimTally>,
     allowances: Vec<(&'static str, usize)>,
     pairs: Vec<PairTally>,
     pub reads: reads::tally::Tally,
     pub lay_downs: lay_downs::tally::Tally,
     pub listings: listings::tally::Tally,
+    pub starts: starts::tally::Tally,
     /// Names asked about.
     pub names: usize,
     /// Texts asked about.
@@ -52,12 +56,14 @@ impl Run {
             small,
             sorts: Vec::new(),
             answers: [0; 10],
+            rests: [0; 10],
             aims: Vec::new(),
             allowances: Vec::new(),
             pairs: Vec::new(),
             reads: reads::tally::Tally::new(),
             lay_downs: lay_downs::tally::Tally::new(),
             listings: listings::tally::Tally::new(),
+            starts: starts::tally::Tally::new(),
             names: 0,
             texts: 0,
             faults: 0,
@@ -73,7 +79,8 @@ impl Run {
         }
     }
 
-    /// Asks both implementations. They must agree, on the listing of some of the files too.
+    /// Asks both implementations. They must agree, on the check in two halves and on the listing of
+    /// some of the files too.
     pub fn compare(&mut self, sort: &'static str, file: &[u8]) -> Answer {
         // An allocation of exactly the file's length, so that valgrind sees a read behind it.
         let lent: Box<[u8]> = file.into();
@@ -85,6 +92,7 @@ impl Run {
             let text = format!("{sort}: library {from_library:?}, second {from_second:?}");
             self.fault(&text, file);
         }
+        self.halves(sort, &lent, from_second);
         if self.files_compared().is_multiple_of(listings::ONE_IN) {
             self.listing(sort, file);
         }
@@ -184,6 +192,7 @@ impl Run {
         self.reads.report();
         self.lay_downs.report();
         self.listings.report();
+        self.starts.report();
         closing::report(&self.functions());
         if !self.small {
             self.missed();
@@ -239,6 +248,10 @@ impl Run {
         }
         for thing in self.listings.missed() {
             println!("FAULT: listings: never reached: {thing}");
+            self.faults += 1;
+        }
+        for thing in self.starts.missed() {
+            println!("FAULT: first halves: never reached: {thing}");
             self.faults += 1;
         }
         for thing in closing::missed(&self.functions()) {

@@ -32,7 +32,7 @@ pub fn section(run: &mut Run, random: &mut Prng) {
     }
 }
 
-/// Asks all seven; the check's number.
+/// Asks all nine; the check's number.
 fn ask(file: &[u8], given: &Given) -> u32 {
     for route in [DIRECTORY, WALK, WALK_WITHOUT_STAGE_9] {
         library::cell(file, Spot { row: 0, column: 0, element: 0 }, route);
@@ -42,6 +42,8 @@ fn ask(file: &[u8], given: &Given) -> u32 {
     let mut buffer = vec![0; front.len() + 2 * cells.len() + 4096];
     library::lay_down_into(front, *time, indexes, cells, &mut buffer, &mut [0]);
     library::list_into(file, &mut [0; 64]);
+    library::check_start(file, file.len() as u64);
+    library::check_rest(file);
     library::is_identifier(&[b'n'; 32]);
     library::is_utf8("\u{10ffff}".as_bytes());
     library::check(file).0
