@@ -1,6 +1,8 @@
 // G 3.6.1: identifiers, and comparison of names.
+use wire::Compared;
 ghost use mathlib.Core.Path.{_≡_};
 ghost use Rattle.wire.specs.Bytes.{part, sameBytes};
+ghost use Rattle.wire.specs.Compare.{compared};
 ghost use Rattle.header.specs.Names.{letter, nameByte, nameBytes, fiveRules, identifier};
 
 fn is_letter(b: u8) -> bool
@@ -94,10 +96,18 @@ pub fn identifier_at(s: &[u8], at: usize, n: usize, most: usize) -> bool
     is_identifier(wire::part_of(s, at, n), most)
 }
 
-// Whether two names are equal, byte for byte, each a slice with start and length; a name that does not lie whole in its
-// slice is the empty one.
+// Compares two names, each a slice with start and length, up to the first pair of bytes that differs; a name that does not
+// lie whole in its slice is the empty one.
+pub fn compare_names(s: &[u8], at: usize, n: usize, t: &[u8], place: usize, m: usize) -> Compared
+    ensures { λ r. ⌜ r ≡ compared (part (now (s .entry)) at n) (part (now (t .entry)) place m) ⌝ }
+{
+    wire::compare(wire::part_of(s, at, n), wire::part_of(t, place, m))
+}
+
+// Whether two names, given as to `compare_names`, are equal, byte for byte.
 pub fn same_name(s: &[u8], at: usize, n: usize, t: &[u8], place: usize, m: usize) -> bool
     ensures { λ r. ⌜ r ≡ sameBytes (part (now (s .entry)) at n) (part (now (t .entry)) place m) ⌝ }
 {
-    wire::same_bytes(wire::part_of(s, at, n), wire::part_of(t, place, m))
+    let c = compare_names(s, at, n, t, place, m);
+    c.equal
 }

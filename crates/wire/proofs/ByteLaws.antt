@@ -4,18 +4,17 @@ use mathlib.Core.Path.{_≡_, refl, sym, ap, _∙_}
 use mathlib.Core.List.{List, [], _∷_, _++_}
 use mathlib.Core.Bool.{Bool, true, false}
 use native.Mathlib.Omega.{arith}
-use native.Mathlib.Numerals.{add-one}
 use native.Mathlib.Nat.{pow-suc, mul-assoc, mul-comm}
 use mathlib.Core.Logic.{_⊎_, inl, inr, by-cases}
 use native.Mathlib.Decide.{decLe}
-use lib.ListN.{length, getD, take, drop, replicate, length-append, length-take, length-drop, List·getD-eq-default, drop-of-length-le}
+use lib.ListN.{length, getD, take, drop, replicate, length-append, length-take, length-drop, List·getD-eq-default}
 use lib.Seq.{drop-append-add, drop-append-le, take-append-le, getD-take, getD-drop, ext-getD, take-add, drop-drop, length-take-le, drop-cons, take-all, take-length}
 use lib.Dec.{leb, eqb}
-use borrow.Author.Tests.{le-leb, lt-leb, eqb-true, eq-eqb, ne-eqb}
+use borrow.Author.Tests.{le-leb, lt-leb, eqb-true, eq-eqb}
 use Rattle.wire.specs.Pick.{pick}
 use Rattle.wire.specs.Tests.{both}
 use Rattle.wire.specs.Bytes.{byteAt, part, number, numberAt, partAt, bytesOf, sameBytes, Bytes, Same}
-use Rattle.wire.proofs.TestLaws.{not-both, no-true}
+use Rattle.wire.proofs.TestLaws.{not-both}
 
 -- bytes
 
@@ -292,31 +291,6 @@ clipped-number w s at p h e =
 pub clipped-byte : (s : List ℕ) (at p : ℕ) → p ≡ min at (length s) → byteAt s p ≡ byteAt s at
 clipped-byte s at p e = number-one s p ∙ clipped-number 1 s at p (omega arith) e ∙ sym (number-one s at)
 
--- the loop of a comparison: what is still to compare
-
-unfoldable pub sameFrom : List ℕ → List ℕ → ℕ → Bool
-sameFrom a b i = sameBytes (drop i a) (drop i b)
-
-module _ (a b : List ℕ) where
-  pub from-start : sameFrom a b 0 ≡ sameBytes a b
-  unfolding sameFrom
-  from-start = refl
-
-  pub from-other : (i : ℕ) → i < length a → i < length b → (getD a i 0 ≡ getD b i 0 → ⊥) → false ≡ sameFrom a b i
-  unfolding sameFrom sameBytes
-  from-other i h k n = rw (drop-cons a i 0 h, drop-cons b i 0 k, ne-eqb (getD a i 0) (getD b i 0) n)
-
-  pub from-more : (i : ℕ) → i < length a → i < length b → getD a i 0 ≡ getD b i 0 → sameFrom a b (i + 1) ≡ sameFrom a b i
-  unfolding sameFrom sameBytes
-  from-more i h k e = rw (add-one, drop-cons a i 0 h, drop-cons b i 0 k, eq-eqb (getD a i 0) (getD b i 0) e)
-
-  pub from-end : (i : ℕ) → length a ≤ i → length b ≤ i → true ≡ sameFrom a b i
-  unfolding sameFrom sameBytes
-  from-end i h k = rw (drop-of-length-le a h, drop-of-length-le b k)
-
-  pub other-length : (length a ≡ length b → ⊥) → false ≡ sameBytes a b
-  other-length n = no-true _ (λ e. n (ap length (same-is a b e)))
-
 -- lists that begin with the same bytes
 
 each-take : (k : ℕ) (s t : List ℕ) → take k s ≡ take k t → (i : ℕ) → i < k → byteAt s i ≡ byteAt t i
@@ -334,6 +308,19 @@ same-from-take k s t e =
     let p : take k s ≡ s = take-all k s h in
     let q : length (take k t) ≡ length s = ap length (sym e ∙ p) in
     inl (sym p ∙ e ∙ take-all k t (omega (arith, length-take k t))))
+
+pub same-none : (s t : List ℕ) → Same s t 0 0
+same-none s t = record { in-first = omega arith; in-second = omega arith; each = λ i h k. absurd (omega arith) }
+
+pub same-more : {s t : List ℕ} {i : ℕ} → Same s t 0 i → i < length s → i < length t → byteAt s i ≡ byteAt t i → Same s t 0 (i + 1)
+same-more {s} {t} {i} e h k f = record { in-first = omega arith; in-second = omega arith; each = each }
+  where
+    each : (j : ℕ) → 0 ≤ j → j < i + 1 → byteAt s j ≡ byteAt t j
+    each j l m = by-cases (decLe i j) (λ n. let z : j ≡ i = omega arith in rw z f) (λ n. e .each j l (omega arith))
+
+pub same-whole : {s t : List ℕ} {i : ℕ} → Same s t 0 i → length s ≡ length t → length s ≤ i → s ≡ t
+unfolding byteAt
+same-whole {s} {t} e l h = ext-getD 0 s t l (λ j k. e .each j (omega arith) (omega arith))
 
 pub same-part : {s t : List ℕ} {a b : ℕ} → Same s t a b → (c d : ℕ) → a ≤ c → d ≤ b → Same s t c d
 same-part e c d h k =

@@ -1,5 +1,7 @@
 pub mod TestLaws
 pub mod ByteLaws
+pub mod CompareLaws
+pub mod CompareSamples
 pub mod ItemLaws
 pub mod PutLaws
 pub mod PlaceLaws

@@ -6,5 +6,7 @@
 pub mod Pick
 pub mod Tests
 pub mod Bytes
+pub mod Compare
+pub mod CompareSamples
 pub mod Items
 pub mod Lists

@@ -5,6 +5,7 @@ ghost use mathlib.Core.Path.{_≡_};
 ghost use Prim.Native.Nat.{_+_, _<_, min};
 ghost use lib.ListN.{length};
 ghost use Rattle.wire.specs.Bytes.{byteAt, part, numberAt, partAt, sameBytes};
+ghost use Rattle.wire.specs.Compare.{compared};
 
 // The largest Integer (G Table 4): a four-byte number above it is a negative one.
 pub const LARGEST_INTEGER: u32 = 2147483647;
@@ -113,19 +114,42 @@ pub fn part_of(s: &[u8], at: usize, n: usize) -> &[u8]
     &s[at..end]
 }
 
-// Whether two slices hold the same bytes.
-pub fn same_bytes(a: &[u8], b: &[u8]) -> bool
-    ensures { λ r. ⌜ r ≡ sameBytes (now (a .entry)) (now (b .entry)) ⌝ }
+// What a comparison tells: whether the bytes are the same, and how many pairs of them it read.
+pub struct Compared {
+    pub equal: bool,
+    pub pairs: usize,
+}
+
+// Compares two slices, pair by pair, up to the first that differs; none where the lengths differ.
+pub fn compare(a: &[u8], b: &[u8]) -> Compared
+    ensures { λ r. ⌜ r ≡ compared (now (a .entry)) (now (b .entry)) ⌝ }
 {
     if a.len() != b.len() {
-        return false;
+        return Compared {
+            equal: false,
+            pairs: 0,
+        };
     }
     let mut i = 0;
     while i < a.len() {
         if a[i] != b[i] {
-            return false;
+            return Compared {
+                equal: false,
+                pairs: i + 1,
+            };
         }
         i += 1;
     }
-    true
+    Compared {
+        equal: true,
+        pairs: i,
+    }
+}
+
+// Whether two slices hold the same bytes.
+pub fn same_bytes(a: &[u8], b: &[u8]) -> bool
+    ensures { λ r. ⌜ r ≡ sameBytes (now (a .entry)) (now (b .entry)) ⌝ }
+{
+    let c = compare(a, b);
+    c.equal
 }
