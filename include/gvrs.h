@@ -1,10 +1,10 @@
-/* Gridfour Virtual Raster Store files, version 1.4: the check of a file, whole or in two halves, reads of its cells, the laying down of a new one, and the
-   listing of a file.
+/* Gridfour Virtual Raster Store files, version 1.4: the check of a file, whole or in two halves, reads of its cells, its elements by
+   their names, the laying down of a new one, and the listing of a file.
 
    Link with libgvrs_c.a, which `rt staticlib gvrs_c` writes to target/staticlib/. A file is the bytes of the whole file, n of
-   them, but for gvrs_check_start. `out` takes the numbers that a function names, in their order; a shorter one takes those that fit, and the answer is the
-   same. A lay-down also writes the buffer that it is given for the file, a listing the buffer for its text. Nothing else is
-   written.
+   them, but for gvrs_check_start. `out` takes the numbers that a function names, in their order; a shorter one takes those that
+   fit, and the answer is the same. A lay-down also writes the buffer that it is given for the file, a listing the buffer for its
+   text. Nothing else is written.
 
    The caller sees to it that each pointer is that of as many elements as are named, and that none is null, also where it names
    none; that what is written (`out`, the buffer of a lay-down, the text of a listing) overlaps nothing else that is passed; that
@@ -23,7 +23,7 @@ enum {
     GVRS_ACCEPTED = 0,     /* the file is accepted, the page is laid down */
     GVRS_NOT_GVRS = 1,     /* fewer than 16 bytes, or the first twelve differ */
     GVRS_VERSION = 2,      /* not version 1.4 */
-    GVRS_HEADER = 3,       /* header record at fault: also a name or a text, as the last two functions say */
+    GVRS_HEADER = 3,       /* header record at fault: also a name or a text, as gvrs_is_identifier and gvrs_is_utf8 say */
     GVRS_CEILING = 4,      /* a house ceiling is passed */
     GVRS_OPENED = 5,       /* time opened for writing is not zero */
     GVRS_CHAIN = 6,        /* chain at fault */
@@ -35,8 +35,8 @@ enum {
     GVRS_INPUT = 12,       /* input wrong: of a lay-down, or more first bytes than the stated length */
     GVRS_ROOM = 13,        /* lay-down output too short */
     GVRS_INCOMPLETE = 16,  /* a byte that a stage needs is not given */
-    GVRS_STORED = 32,      /* the cell is stored, the content is present */
-    GVRS_FILL = 33         /* the cell is fill, the tile is absent */
+    GVRS_STORED = 32,      /* the cell is stored, the content is present, the name is found */
+    GVRS_FILL = 33         /* the cell is fill, the tile is absent, no element has the name */
 };
 
 /* How a cell is found: every number but 1 and 2 is the directory. */
@@ -91,6 +91,14 @@ uint32_t gvrs_is_identifier(const uint8_t *name, uint64_t n);
 
 /* 1 if the bytes are UTF-8 by RFC 3629, as every label, description and unit has to be, else 0. */
 uint32_t gvrs_is_utf8(const uint8_t *text, uint64_t n);
+
+/* Whether two names are equal, byte for byte: 1 or 0. out[0] is the number of byte pairs read: 0 where the lengths differ, all
+   where the names are equal, else up to and with the first pair that differs. */
+uint32_t gvrs_compare_names(const uint8_t *a, uint64_t a_n, const uint8_t *b, uint64_t b_n, uint64_t *out, uint64_t out_n);
+
+/* The element of a name: 32 and its number in out[0]; 33 and 0 where no element has it; else the refusal's number, and out[0] is
+   its place. */
+uint32_t gvrs_find_element(const uint8_t *file, uint64_t n, const uint8_t *name, uint64_t name_n, uint64_t *out, uint64_t out_n);
 
 #ifdef __cplusplus
 }

@@ -48,6 +48,22 @@ extern "C" {
     fn gvrs_list(file: *const u8, n: u64, text: *mut u8, text_n: u64) -> u64;
     fn gvrs_is_identifier(name: *const u8, n: u64) -> u32;
     fn gvrs_is_utf8(text: *const u8, n: u64) -> u32;
+    fn gvrs_compare_names(
+        a: *const u8,
+        a_n: u64,
+        b: *const u8,
+        b_n: u64,
+        out: *mut u64,
+        out_n: u64,
+    ) -> u32;
+    fn gvrs_find_element(
+        file: *const u8,
+        n: u64,
+        name: *const u8,
+        name_n: u64,
+        out: *mut u64,
+        out_n: u64,
+    ) -> u32;
 }
 
 /// The routes of `gvrs_cell`. Every other number is the directory too.
@@ -166,6 +182,33 @@ pub fn is_identifier(name: &[u8]) -> u32 {
 pub fn is_utf8(text: &[u8]) -> u32 {
     // The slice is alive for the whole call.
     unsafe { gvrs_is_utf8(text.as_ptr(), text.len() as u64) }
+}
+
+/// 1 if two names are equal, else 0, and the byte pairs read.
+pub fn compare_names(a: &[u8], b: &[u8]) -> (u32, u64) {
+    let mut out = [UNWRITTEN];
+    let equal = compare_names_into(a, b, &mut out);
+    (equal, out[0])
+}
+
+pub fn compare_names_into(a: &[u8], b: &[u8], out: &mut [u64]) -> u32 {
+    let (a, a_n, b, b_n) = (a.as_ptr(), a.len() as u64, b.as_ptr(), b.len() as u64);
+    // All slices are alive for the whole call, and `out` overlaps no other.
+    unsafe { gvrs_compare_names(a, a_n, b, b_n, out.as_mut_ptr(), out.len() as u64) }
+}
+
+/// 32 and the number of the element with a name, 33 and 0, or a refusal.
+pub fn find_element(file: &[u8], name: &[u8]) -> Answer {
+    let mut out = [UNWRITTEN];
+    let number = find_element_into(file, name, &mut out);
+    (number, out[0])
+}
+
+pub fn find_element_into(file: &[u8], name: &[u8], out: &mut [u64]) -> u32 {
+    let (file, n, name, name_n) =
+        (file.as_ptr(), file.len() as u64, name.as_ptr(), name.len() as u64);
+    // All slices are alive for the whole call, and `out` overlaps no other.
+    unsafe { gvrs_find_element(file, n, name, name_n, out.as_mut_ptr(), out.len() as u64) }
 }
 
 /// What `out` holds before a call, so that a number left unwritten shows.

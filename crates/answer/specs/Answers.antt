@@ -1,10 +1,12 @@
 -- The kind, value, place and length of each answer. The kind of a refusal is its number; stored or present is 32,
--- fill or absent 33.
+-- fill or absent 33. So a name found is 32, one that no element has 33.
 use Prim.Native.Nat.{ℕ}
 use Rattle.answer.specs.declared.Cell.{Cell}
 use Rattle.answer.specs.declared.Cell.the-variants as cell
 use Rattle.answer.specs.declared.Content.{Content}
 use Rattle.answer.specs.declared.Content.the-variants as content
+use Rattle.answer.specs.declared.Lookup.{Lookup}
+use Rattle.answer.specs.declared.Lookup.the-variants as lookup
 use Rattle.answer.specs.declared.Laid.{Laid}
 use Rattle.answer.specs.declared.Laid.the-variants as laid
 use Rattle.answer.specs.Refusals.{refusalNumber, refusalPlace}
@@ -46,6 +48,17 @@ abbrev pub contentLength : Content → ℕ
 contentLength (content.Present at n) = n
 contentLength content.Absent = 0
 contentLength (content.Refused r) = 0
+
+abbrev pub lookupKind : Lookup → ℕ
+lookupKind (lookup.Number e) = 32
+lookupKind lookup.Absent = 33
+lookupKind (lookup.Refused r) = refusalNumber r
+
+-- the element's number, or the refusal's place
+abbrev pub lookupNumber : Lookup → ℕ
+lookupNumber (lookup.Number e) = e
+lookupNumber lookup.Absent = 0
+lookupNumber (lookup.Refused r) = refusalPlace r
 
 -- 0 where a page was laid down, else the refusal's number
 abbrev pub laidNumber : Laid → ℕ

@@ -7,7 +7,7 @@ ghost use mir.Syntax.{w16, w32};
 ghost use mir.Val.{toZ, ofZ};
 ghost use Rattle.answer.specs.Refusals.{refusalNumber, refusalPlace, verdictNumber, verdictPlace};
 ghost use Rattle.answer.specs.Values.{valueOf, valueType, valueBits};
-ghost use Rattle.answer.specs.Answers.{cellKind, cellType, cellBits, cellPlace, contentKind, contentPlace, contentLength, laidNumber};
+ghost use Rattle.answer.specs.Answers.{cellKind, cellType, cellBits, cellPlace, contentKind, contentPlace, contentLength, lookupKind, lookupNumber, laidNumber};
 
 // Document 01's thirteen refusals, in their order, with a place where it gives one that varies; then document 02's: a byte that a stage
 // needs is not given.
@@ -53,6 +53,13 @@ pub enum Cell {
 // What is said of an element's content in a tile.
 pub enum Content {
     Present { start: usize, length: usize },
+    Absent,
+    Refused(Refusal),
+}
+
+// What is said of an element's name.
+pub enum Lookup {
+    Number(usize),
     Absent,
     Refused(Refusal),
 }
@@ -288,6 +295,27 @@ pub fn content_length(x: Content) -> usize
         Content::Present { start: _, length } => length,
         Content::Absent => 0,
         Content::Refused(_) => 0,
+    }
+}
+
+// A look-up answer's kind, and its number or place.
+pub fn lookup_kind(x: Lookup) -> u32
+    ensures { λ r. ⌜ r ≡ lookupKind x ⌝ }
+{
+    match x {
+        Lookup::Number(_) => 32,
+        Lookup::Absent => 33,
+        Lookup::Refused(r) => refusal_number(r),
+    }
+}
+
+pub fn lookup_number(x: Lookup) -> usize
+    ensures { λ r. ⌜ r ≡ lookupNumber x ⌝ }
+{
+    match x {
+        Lookup::Number(e) => e,
+        Lookup::Absent => 0,
+        Lookup::Refused(r) => refusal_place(r),
     }
 }
 

@@ -11,7 +11,7 @@ use Rattle.wire.proofs.TestLaws.{means, yes, no-true, not-both, below-each, bel
 use Rattle.wire.proofs.ByteLaws.{same-is, is-same}
 use Rattle.record.proofs.FindLaws.{records-behind}
 use Rattle.record.specs.Chain.{recordsOf}
-use Rattle.wire.specs.Lists.{oneIf, countBelow}
+use Rattle.wire.specs.Lists.{below, oneIf, countBelow}
 use Rattle.wire.proofs.ListLaws.{Behind, every-member, member-every, some-member, member-some}
 use Rattle.check_lists.specs.declared.ListKind.the-variants.{FreeSpace, Metadata}
 use Rattle.check_lists.specs.Listed.{listedOnce, nothingElse}
@@ -19,7 +19,7 @@ use Rattle.check_lists.specs.FileSpace.{freeEntryOf, freeEntryIs, freeLi
 use Rattle.bodies.specs.ListDirectories.{freeCount, metadataCount}
 use Rattle.check_lists.specs.Metadata.{metadataEntryOf, metadataEntryIs, metadataListed, metadataOnly, sameKey}
 use Rattle.check_lists.specs.inner.Search.{listEntryIs}
-use Rattle.check_lists.specs.Rearranged.{Rearranged, below, freeEntry, freeEntries, freeRecord, freeRecords, FreeRearranged, Described, metadataEntry, metadataEntries, metadataRecord, metadataRecords, MetadataRearranged}
+use Rattle.check_lists.specs.Rearranged.{Rearranged, freeEntry, freeEntries, freeRecord, freeRecords, FreeRearranged, Described, metadataEntry, metadataEntries, metadataRecord, metadataRecords, MetadataRearranged}
 use Rattle.check_lists.proofs.ListLaws.{entry-alone}
 
 -- members of a list

@@ -1,9 +1,10 @@
 -- Document 01, stage 9, in plain words: the free list is a rearrangement of the free-space records, and the metadata list of the
 -- metadata records. It is what `freeListed` and `freeOnly`, `metadataListed` and `metadataOnly` say.
-use Prim.Native.Nat.{ℕ, zero, suc, _+_}
+use Prim.Native.Nat.{ℕ, _+_}
 use mathlib.Core.Path.{_≡_}
 use mathlib.Core.List.{List, [], _∷_, _++_, map}
 use Rattle.wire.specs.Bytes.{u32At, u64At}
+use Rattle.wire.specs.Lists.{below}
 use Rattle.record.specs.Record.{lengthAt, contentAt}
 use Rattle.bodies.specs.MetadataRecord.{metadataName, recordId, dataType}
 use Rattle.record.specs.Chain.{recordsOf}
@@ -15,11 +16,6 @@ use Rattle.bodies.specs.ListDirectories.{freeCount, freeEntryAt, metadataCount,
 unfoldable pub Rearranged : {A : Type 0} → List A → List A → Type 0
 Rearranged [] ys = ys ≡ []
 Rearranged {A} (x ∷ xs) ys = (front : List A) × (back : List A) × (ys ≡ front ++ (x ∷ back)) × Rearranged xs (front ++ back)
-
--- the numbers below n, in order
-unfoldable pub below : ℕ → List ℕ
-below zero = []
-below (suc n) = below n ++ (n ∷ [])
 
 -- stage 9, G Table 18: what each entry of the free list says, the start and the size of a record
 unfoldable pub freeEntry : List ℕ → ℕ → ℕ × ℕ

@@ -1,9 +1,10 @@
 // crates/example/src/main.rt
 //
-// A product above the store: it prints some cells and contents of the page that its first argument names. It lists the crates `store`
-// and `answer`, and none below them.
+// A product above the store: it prints some elements, cells and contents of the page that its first argument names. It lists the crates
+// `store` and `answer`, and none below them.
 use answer::Cell;
 use answer::Content;
+use answer::Lookup;
 use answer::Refusal;
 use libc::STDOUT_FILENO;
 ghost use mathlib.Core.Path.{_≡_};
@@ -24,6 +25,19 @@ fn print(text: &[u8], number: u64) {
 fn print_refusal(r: Refusal) {
     print(b"refused ", answer::refusal_number(r) as u64);
     print(b" at ", answer::refusal_place(r) as u64);
+}
+
+// The number of the element with a name.
+fn print_element(label: &[u8], file: &[u8], name: &[u8]) {
+    io::write_all(STDOUT_FILENO, label);
+    match store::find_element(file, name) {
+        Lookup::Number(e) => print(b"number ", e as u64),
+        Lookup::Absent => {
+            io::write_all(STDOUT_FILENO, b"absent");
+        }
+        Lookup::Refused(r) => print_refusal(r),
+    }
+    io::write_all(STDOUT_FILENO, b"\n");
 }
 
 // A value by its bits, and a refusal by its number.
@@ -57,6 +71,8 @@ fn print_content(label: &[u8], file: &[u8], tile: u64) {
 }
 
 fn print_page(file: &[u8]) {
+    print_element(b"element z: ", file, b"z");
+    print_element(b"element Z: ", file, b"Z");
     print_cell(b"cell 2 1 by the directory: ", cell(file, 2, 1, false));
     print_cell(b"cell 2 1 by the walk: ", cell(file, 2, 1, true));
     // An opened page may hold any two numbers beside the bytes, as 1 and 2 here. It answers the same.

@@ -7,7 +7,10 @@ use native.Mathlib.Omega.{arith}
 use lib.ListN.{set}
 use lib.Dec.{eqb}
 use borrow.Author.Tests.{eqb-true, ne-eqb}
+use Rattle.wire.specs.declared.Compared.{Compared}
 use Rattle.wire.specs.Pick.{pick}
+use Rattle.wire.specs.Bytes.{sameBytes}
+use Rattle.wire.specs.Compare.{pairsRead, compared}
 use Rattle.answer.specs.declared.Verdict.{Verdict}
 use Rattle.answer.specs.declared.Cell.{Cell}
 use Rattle.answer.specs.declared.Content.{Content}
@@ -39,11 +42,17 @@ three-reported (x ∷ []) a b c = refl
 three-reported (x ∷ y ∷ []) a b c = refl
 three-reported (x ∷ y ∷ z ∷ zs) a b c = refl
 
--- a check's number and place, from what the functions below answer
+-- the number of an answer x, and one number of it in `out`, from what the functions below give
+pub one-told :
+    {A : Type 0} (kind number : A → ℕ) (o p : List ℕ) (x y : A) (n a : ℕ) → x ≡ y → a ≡ number x → p ≡ set o 0 a → n ≡ kind x →
+    (n ≡ kind y) × (p ≡ reported (number y ∷ []) o)
+one-told kind number o p x y n a e f g h = (h ∙ ap kind e, g ∙ one-reported o a ∙ rw (f, e))
+
+-- a check's number and place
 pub checked :
     (s o p : List ℕ) (v : Verdict) (n a : ℕ) → v ≡ check s → a ≡ verdictPlace v → p ≡ set o 0 a → n ≡ verdictNumber v →
     (n ≡ verdictNumber (check s)) × (p ≡ reported (verdictPlace (check s) ∷ []) o)
-checked s o p v n a e f g h = (h ∙ ap verdictNumber e, g ∙ one-reported o a ∙ rw (f, e))
+checked s o p v n a = one-told verdictNumber verdictPlace o p v (check s) n a
 
 -- the first half's, with what it needs
 
@@ -111,4 +120,12 @@ content-told o p q x y n a b e f g h i l = (l ∙ ap contentKind e, i ∙ rw g (
 pub laid-told :
     (o p : List ℕ) (x y : Laid) (n a : ℕ) → x ≡ y → a ≡ laidReport x → p ≡ set o 0 a → n ≡ laidNumber x →
     (n ≡ laidNumber y) × (p ≡ reported (laidReport y ∷ []) o)
-laid-told o p x y n a e f g h = (h ∙ ap laidNumber e, g ∙ one-reported o a ∙ rw (f, e))
+laid-told o p x y n a = one-told laidNumber laidReport o p x y n a
+
+-- names compared
+pub compare-told :
+    (a b o p : List ℕ) (x : Compared) (n : ℕ) → x ≡ compared a b → p ≡ set o 0 (x .pairs) → n ≡ pick (x .equal) 1 0 →
+    (n ≡ pick (sameBytes a b) 1 0) × (p ≡ reported (pairsRead a b ∷ []) o)
+unfolding compared
+compare-told a b o p x n e g h =
+    one-told (λ (c : Compared). pick (c .equal) 1 0) (λ (c : Compared). c .pairs) o p x (compared a b) n (x .pairs) e refl g h

@@ -9,7 +9,7 @@ ghost use mathlib.Core.List.{[], _∷_};
 ghost use lib.ListN.{length, set};
 ghost use lib.Dec.{eqb};
 ghost use Rattle.answer.specs.Refusals.{verdictNumber, verdictPlace};
-ghost use Rattle.answer.specs.Answers.{cellKind, contentKind, laidNumber};
+ghost use Rattle.answer.specs.Answers.{cellKind, contentKind, lookupKind, lookupNumber, laidNumber};
 ghost use Rattle.wire.specs.Pick.{pick};
 ghost use Rattle.header.specs.Names.{identifier, longestName};
 ghost use Rattle.utf8.specs.Utf8.{utf8};
@@ -17,8 +17,10 @@ ghost use Rattle.check_header.specs.Start.{checkStart, needed};
 ghost use Rattle.page_check.specs.Stages.{check};
 ghost use Rattle.cells.specs.Reads.{readContent};
 ghost use Rattle.lay_down.specs.Answer.{laid, laidOut};
-ghost use Rattle.wire.specs.Bytes.{put};
+ghost use Rattle.wire.specs.Bytes.{put, sameBytes};
+ghost use Rattle.wire.specs.Compare.{pairsRead};
 ghost use Rattle.listing.specs.Listing.{listing};
+ghost use Rattle.store.specs.Lookup.{readElementNamed};
 ghost use Rattle.gvrs_c.specs.Report.{reported, startNumbers, cellNumbers, contentNumbers, laidReport};
 ghost use Rattle.gvrs_c.specs.Route.{readBy, meaningBy};
 
@@ -185,4 +187,30 @@ pub extern "C" fn gvrs_is_utf8(text: &[u8]) -> u32
         return 1;
     }
     0
+}
+
+// 1 if two names are equal, byte for byte, else 0; out[0] takes how many byte pairs were read.
+#[no_mangle]
+pub extern "C" fn gvrs_compare_names(a: &[u8], b: &[u8], out: &mut [u64]) -> u32
+    ensures equal { λ r. ⌜ r ≡ pick (sameBytes (now (a .entry)) (now (b .entry))) 1 0 ⌝ }
+    ensures pairs { λ _. ⌜ now (out .exit) ≡ reported (pairsRead (now (a .entry)) (now (b .entry)) ∷ []) (now (out .entry)) ⌝ }
+{
+    let compared = wire::compare(a, b);
+    report(out, 0, compared.pairs as u64);
+    if compared.equal {
+        return 1;
+    }
+    0
+}
+
+// 32 where an element has the name, 33 where none has, else the refusal's number; out[0] takes the element's number, 0, or the
+// refusal's place.
+#[no_mangle]
+pub extern "C" fn gvrs_find_element(file: &[u8], name: &[u8], out: &mut [u64]) -> u32
+    ensures kind { λ r. ⌜ r ≡ lookupKind (readElementNamed (now (file .entry)) (now (name .entry))) ⌝ }
+    ensures number { λ _. ⌜ now (out .exit) ≡ reported (lookupNumber (readElementNamed (now (file .entry)) (now (name .entry))) ∷ []) (now (out .entry)) ⌝ }
+{
+    let found = store::find_element(file, name);
+    report(out, 0, answer::lookup_number(found) as u64);
+    answer::lookup_kind(found)
 }

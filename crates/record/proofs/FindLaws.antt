@@ -1,15 +1,17 @@
 -- Rules over the records of a file, or those of a type, by a search for one that keeps or breaks them. Assumes nothing.
-use Prim.Native.Nat.{ℕ}
-use mathlib.Core.Path.{_≡_, refl, ap, _∙_}
-use mathlib.Core.List.{List, [], _∷_, List·Memᴰ, List·Memᴰ·head, List·Memᴰ·tail, List·Memᴰ·not-nil, List·Memᴰ·cases-cons}
-use mathlib.Core.Logic.{⊎-elim}
+use Prim.Native.Nat.{ℕ, zero, suc, _+_, _≤_, _<_}
+use mathlib.Core.Path.{_≡_, refl, sym, ap, _∙_}
+use mathlib.Core.List.{List, [], _∷_, _++_, List·Memᴰ, List·Memᴰ·head, List·Memᴰ·tail, List·Memᴰ·not-nil, List·Memᴰ·cases-cons}
+use mathlib.Core.Logic.{⊎-elim, by-cases}
 use mathlib.Core.Bool.{Bool, true, false, not}
 use native.Mathlib.Omega.{arith}
+use native.Mathlib.Numerals.{add-one}
+use native.Mathlib.Decide.{decLe}
 use lib.Dec.{eqb}
 use borrow.Author.Tests.{eqb-true, eq-eqb, ne-eqb}
 use Rattle.wire.specs.Pick.{pick}
 use Rattle.wire.specs.Tests.{both, passes}
-use Rattle.wire.specs.Lists.{select, every, some}
+use Rattle.wire.specs.Lists.{select, every, some, below}
 use Rattle.wire.proofs.ListLaws.{Behind, behind-more, behind-select, select-member, member-select, select-none}
 use Rattle.record.specs.declared.Found.{Found}
 use Rattle.record.specs.declared.Found.the-variants.{At, Nothing}
@@ -59,6 +61,9 @@ module _ (p q w : ℕ → Bool) where
 pub found-not : {C : Type 0} {x : ℕ} {f : Found} → At x ≡ f → f ≡ Nothing → C
 found-not p q = let z : _≡_ {A = ℕ} 0 1 = cc in absurd (omega arith)
 
+pub at-is : {x y : ℕ} → At x ≡ At y → x ≡ y
+at-is e = cc
+
 pub none-breaks : (p : ℕ → Bool) (l : List ℕ) → findNot p l ≡ Nothing → {x : ℕ} → List·Memᴰ x l → p x ≡ true
 unfolding find findNot
 none-breaks p [] e m = absurd (List·Memᴰ·not-nil m)
@@ -72,6 +77,68 @@ pub all-keep : (p : ℕ → Bool) (l : List ℕ) → ((x : ℕ) → List·Memᴰ
 unfolding find findNot
 all-keep p [] f = refl
 all-keep p (y ∷ ys) f = rw (f y (List·Memᴰ·head refl)) (all-keep p ys (λ x m. f x (List·Memᴰ·tail m)))
+
+-- the first number below n of which p holds
+
+module _ (p : ℕ → Bool) where
+  find-ahead : (xs ys : List ℕ) {x : ℕ} → find p xs ≡ At x → find p (xs ++ ys) ≡ At x
+  unfolding find
+  find-ahead [] ys e = found-not (sym e) refl
+  find-ahead (y ∷ xs) ys {x} e = go (p y) refl (find-ahead xs ys)
+    where
+      go : (b : Bool) → p y ≡ b → (find p xs ≡ At x → find p (xs ++ ys) ≡ At x) → pick (p y) (At y) (find p (xs ++ ys)) ≡ At x
+      go true f r = rw f (rw f at e)
+      go false f r = rw f (r (rw f at e))
+
+  find-behind : (xs ys : List ℕ) → find p xs ≡ Nothing → find p (xs ++ ys) ≡ find p ys
+  unfolding find
+  find-behind [] ys e = refl
+  find-behind (y ∷ xs) ys e = go (p y) refl (find-behind xs ys)
+    where
+      go : (b : Bool) → p y ≡ b → (find p xs ≡ Nothing → find p (xs ++ ys) ≡ find p ys) → pick (p y) (At y) (find p (xs ++ ys)) ≡ find p ys
+      go true f r = found-not {x = y} refl (rw f at e)
+      go false f r = rw f (r (rw f at e))
+
+  pub first-start : find p (below 0) ≡ Nothing
+  unfolding find below
+  first-start = refl
+
+  first-more : (k : ℕ) → find p (below k) ≡ Nothing → find p (below (suc k)) ≡ pick (p k) (At k) Nothing
+  unfolding find below
+  first-more k e = find-behind (below k) (k ∷ []) e
+
+  pub first-on : (k : ℕ) → find p (below k) ≡ Nothing → p k ≡ false → find p (below (k + 1)) ≡ Nothing
+  first-on k e f = rw add-one (first-more k e ∙ rw f)
+
+  first-stays : (n k : ℕ) {x : ℕ} → k ≤ n → find p (below k) ≡ At x → find p (below n) ≡ At x
+  unfolding below
+  first-stays zero k h e = let z : k ≡ 0 = omega arith in rw z at e
+  first-stays (suc n) k h e =
+      by-cases (decLe k n) (λ l. find-ahead (below n) (n ∷ []) (first-stays n k l e)) (λ l. let z : k ≡ suc n = omega arith in rw z at e)
+
+  pub first-at : (n k : ℕ) → k < n → find p (below k) ≡ Nothing → p k ≡ true → find p (below n) ≡ At k
+  first-at n k h e f = first-stays n (suc k) (omega arith) (first-more k e ∙ rw f)
+
+  -- it is below n, and p holds of it
+  pub first-holds : (n k : ℕ) → find p (below n) ≡ At k → (k < n) × (p k ≡ true)
+  unfolding find below
+  first-holds zero k e = found-not (sym e) refl
+  first-holds (suc n) k e = go (find p (below n)) refl (p n) refl (first-holds n)
+    where
+      go : (f : Found) → find p (below n) ≡ f → (b : Bool) → p n ≡ b → ((j : ℕ) → find p (below n) ≡ At j → (j < n) × (p j ≡ true)) → (k < suc n) × (p k ≡ true)
+      go (At x) g b i r =
+          let z : k ≡ x = at-is (sym e ∙ find-ahead (below n) (n ∷ []) g) in
+          let h = r x g in
+          (omega arith, ap p z ∙ h .1)
+      go Nothing g true i r =
+          let z : k ≡ n = at-is (sym e ∙ find-behind (below n) (n ∷ []) g ∙ rw i) in
+          (omega arith, ap p z ∙ i)
+      go Nothing g false i r = found-not (sym e) (find-behind (below n) (n ∷ []) g ∙ rw i)
+
+  -- none is found where p holds of none
+  pub first-none-below : (n : ℕ) → ((k : ℕ) → k < n → p k ≡ false) → find p (below n) ≡ Nothing
+  first-none-below zero f = first-start
+  first-none-below (suc n) f = rw (← add-one n) (first-on n (first-none-below n (λ k h. f k (omega arith))) (f n (omega arith)))
 
 -- the records of a type
 

@@ -1,2 +1,3 @@
 pub mod OpenedLaws
+pub mod LookupLaws
 pub mod Held

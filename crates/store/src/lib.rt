@@ -9,15 +9,19 @@
 //
 // A function that has a page in a local is proved by hand. `cell_of` and `content_of` ask the same of bytes, without a page, so that
 // no proof of a product above goes through one.
+mod elements;
 pub mod reads;
 
 use answer::Cell;
+use answer::Lookup;
+use answer::Verdict;
 ghost use mathlib.Core.Path.{_≡_};
 ghost use Prim.Native.Nat.{_+_};
 ghost use Rattle.wire.specs.Bytes.{part, partAt};
 ghost use Rattle.answer.specs.Answers.{contentPlace, contentLength};
 ghost use Rattle.cells.specs.Reads.{readMeaning, readContent};
 ghost use Rattle.store.specs.Opened.{heldEnd, heldDirectory, plainRead};
+ghost use Rattle.store.specs.Lookup.{readElementNamed};
 
 pub struct Page<'a> {
     pub file: &'a [u8],
@@ -73,4 +77,15 @@ pub fn content_of(file: &[u8], tile: u64, e: u64) -> &[u8]
     ensures offset { λ r. ⌜ r .ptr .1 ≡ file .entry .ptr .1 + partAt (now (file .entry)) (contentPlace (readContent (now (file .entry)) tile e)) (contentLength (readContent (now (file .entry)) tile e)) ⌝ }
 {
     cells::reads::content_part(file, tile, e)
+}
+
+// The number of the element with a name, which is any bytes. Its time is one check, and a comparison with the names of at most 16
+// elements.
+pub fn find_element(file: &[u8], name: &[u8]) -> Lookup
+    ensures { λ r. ⌜ r ≡ readElementNamed (now (file .entry)) (now (name .entry)) ⌝ }
+{
+    match page_check::check(file) {
+        Verdict::Refused(r) => Lookup::Refused(r),
+        Verdict::Accepted => elements::first_named(file, name),
+    }
 }

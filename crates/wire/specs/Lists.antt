@@ -1,6 +1,6 @@
 -- Rules over a list of numbers, and over the numbers below a bound.
 use Prim.Native.Nat.{ℕ, zero, suc, _+_}
-use mathlib.Core.List.{List, [], _∷_}
+use mathlib.Core.List.{List, [], _∷_, _++_}
 use mathlib.Core.Bool.{Bool, true, false, _||_}
 use Rattle.wire.specs.Pick.{pick}
 use Rattle.wire.specs.Tests.{is, passes}
@@ -18,6 +18,11 @@ every p (x ∷ xs) = passes (is (p x) ∷ is (every p xs) ∷ [])
 unfoldable pub some : (ℕ → Bool) → List ℕ → Bool
 some p [] = false
 some p (x ∷ xs) = p x || some p xs
+
+-- the numbers below n, in order
+unfoldable pub below : ℕ → List ℕ
+below zero = []
+below (suc n) = below n ++ (n ∷ [])
 
 -- 1 where it holds, else 0
 unfoldable pub oneIf : Bool → ℕ

@@ -7,6 +7,7 @@ pub mod check;
 pub mod checksums;
 pub mod crc32c;
 pub mod directories;
+pub mod elements;
 pub mod fields;
 pub mod geometry;
 pub mod header;

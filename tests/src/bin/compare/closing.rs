@@ -72,8 +72,8 @@ fn met(functions: &[Function], number: u32) -> usize {
 }
 
 impl Run {
-    /// The nine functions. Of names and texts no answer is a refusal.
-    pub fn functions(&self) -> [Function; 9] {
+    /// The eleven functions. Of names and texts by themselves no answer is a refusal.
+    pub fn functions(&self) -> [Function; 11] {
         [
             Function::new("gvrs_check", self.answers()),
             Function::new("gvrs_check_start", self.starts.answers()),
@@ -84,6 +84,8 @@ impl Run {
             Function::new("gvrs_list", self.listings.answers()),
             Function::new("gvrs_is_identifier", [(0, self.names)].into_iter()),
             Function::new("gvrs_is_utf8", [(0, self.texts)].into_iter()),
+            Function::new("gvrs_compare_names", [(0, self.name_pairs)].into_iter()),
+            Function::new("gvrs_find_element", (0..).zip(self.look_ups)),
         ]
     }
 }

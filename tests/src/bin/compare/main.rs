@@ -14,7 +14,9 @@ mod hostile;
 mod lay_downs;
 mod lengths;
 mod listings;
+mod look_ups;
 mod made;
+mod name_pairs;
 mod names;
 mod out;
 mod reads;
@@ -55,7 +57,7 @@ fn main() -> ExitCode {
 
 /// Every section. Each has a generator of its own, so that one can change without the others.
 fn whole_run(seed: u64, small: bool) -> bool {
-    let sections: [fn(&mut Run, &mut Prng); 15] = [
+    let sections: [fn(&mut Run, &mut Prng); 17] = [
         sample_sums::section,
         made::section,
         allowed::section,
@@ -71,6 +73,8 @@ fn whole_run(seed: u64, small: bool) -> bool {
         names::section,
         texts::section,
         starts::section,
+        name_pairs::section,
+        look_ups::section,
     ];
     let mut run = Run::new(small);
     for (number, section) in sections.into_iter().enumerate() {

@@ -34,6 +34,10 @@ pub struct Run {
     pub names: usize,
     /// Texts asked about.
     pub texts: usize,
+    /// Pairs of names compared.
+    pub name_pairs: usize,
+    /// Look-ups by name, at the number of the answer.
+    pub look_ups: [usize; 34],
     faults: usize,
 }
 
@@ -66,6 +70,8 @@ impl Run {
             starts: starts::tally::Tally::new(),
             names: 0,
             texts: 0,
+            name_pairs: 0,
+            look_ups: [0; 34],
             faults: 0,
         }
     }
@@ -252,6 +258,10 @@ impl Run {
         }
         for thing in self.starts.missed() {
             println!("FAULT: first halves: never reached: {thing}");
+            self.faults += 1;
+        }
+        for number in self.look_ups_missed() {
+            println!("FAULT: look-ups: never answered {number}");
             self.faults += 1;
         }
         for thing in closing::missed(&self.functions()) {

@@ -46,5 +46,7 @@ fn ask(file: &[u8], given: &Given) -> u32 {
     library::check_rest(file);
     library::is_identifier(&[b'n'; 32]);
     library::is_utf8("\u{10ffff}".as_bytes());
+    library::compare_names(&[b'n'; 32], &[b'n'; 32]);
+    library::find_element(file, b"none");
     library::check(file).0
 }
