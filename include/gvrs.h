@@ -4,11 +4,11 @@
    Link with libgvrs_c.a, which `rt staticlib gvrs_c` writes to target/staticlib/. A file is the bytes of the whole file, n of
    them, but for gvrs_check_start. `out` takes the numbers that a function names, in their order; a shorter one takes those that
    fit, and the answer is the same. A lay-down also writes the buffer that it is given for the file, a listing the buffer for its
-   text. Nothing else is written.
+   text, an unpacking that for the cells, M32 those for bytes and numbers. Nothing else is written.
 
    The caller sees to it that each pointer is that of as many elements as are named, and that none is null, also where it names
-   none; that what is written (`out`, the buffer of a lay-down, the text of a listing) overlaps nothing else that is passed; that
-   `indexes` is aligned to 4 bytes and `out` to 8; and that the calling thread has 320 KiB of stack left. */
+   none; that what is written (`out` and the buffers) overlaps nothing else that is passed; that numbers of 32 bits are aligned to 4
+   bytes and `out` to 8; and that the calling thread has 320 KiB of stack left. */
 #ifndef GVRS_H
 #define GVRS_H
 
@@ -31,12 +31,14 @@ enum {
     GVRS_BODY = 8,         /* body of a tile or metadata record at fault: also its name or description */
     GVRS_DIRECTORY = 9,    /* directory at fault */
     GVRS_OUTSIDE = 10,     /* row, column, element or tile asked for not in the grid */
-    GVRS_COMPRESSED = 11,  /* content asked for is compressed */
+    GVRS_COMPRESSED = 11,  /* content asked for is compressed, and not of the compressor index that is named, or of a Float */
     GVRS_INPUT = 12,       /* input wrong: of a lay-down, or more first bytes than the stated length */
     GVRS_ROOM = 13,        /* lay-down output too short */
+    GVRS_MALFORMED = 14,   /* compressed content malformed, or a Short in it out of range */
     GVRS_INCOMPLETE = 16,  /* a byte that a stage needs is not given */
     GVRS_STORED = 32,      /* the cell is stored, the content is present, the name is found */
-    GVRS_FILL = 33         /* the cell is fill, the tile is absent, no element has the name */
+    GVRS_FILL = 33,        /* the cell is fill, the tile is absent, no element has the name */
+    GVRS_UNPACKED = 34     /* the cell comes out of compressed content */
 };
 
 /* How a cell is found: every number but 1 and 2 is the directory. */
@@ -63,6 +65,27 @@ uint32_t gvrs_check_rest(const uint8_t *file, uint64_t n, uint64_t *out, uint64_
    first byte, 0 of a fill; on a refusal they are 0, 0 and its place. */
 uint32_t gvrs_cell(const uint8_t *file, uint64_t n, uint64_t row, uint64_t column, uint64_t element, uint32_t route,
                    uint64_t *out, uint64_t out_n);
+
+/* The same, where compressed content of an element that is no Float is unpacked if its compressor index is the one named: 34, and
+   out is as for a stored cell, but out[2] is the start of the element's content. Content of that index that is malformed, or has a
+   Short out of range, is 14, at the tile record, for every cell of that element there; of any other index, or of a Float, it is 11.
+   No content has an index above 255; gvrs_cell is this with 256. */
+uint32_t gvrs_cell_with(const uint8_t *file, uint64_t n, uint64_t row, uint64_t column, uint64_t element, uint32_t route,
+                        uint32_t compressor, uint64_t *out, uint64_t out_n);
+
+/* Every cell of an element in a tile, row by row, its bits as gvrs_cell gives them (16 of a Short): 32 stored, 34 unpacked, out[0] the
+   start of their content and out[1] their number; 33 absent, 0 and 0; else the refusal's number, its place and 0. `cells` takes them
+   where they fit whole, and what stands behind them stays; else it is as it was. */
+uint32_t gvrs_unpack(const uint8_t *file, uint64_t n, uint64_t tile, uint64_t element, uint32_t compressor,
+                     uint32_t *cells, uint64_t cells_n, uint64_t *out, uint64_t out_n);
+
+/* The M32 codes of numbers, one behind the other: their length. `bytes` takes them where they fit, and what stands behind them stays;
+   else it is as it was. A number is that of its 32 bits. */
+uint64_t gvrs_m32_write(const uint32_t *numbers, uint64_t numbers_n, uint8_t *bytes, uint64_t bytes_n);
+
+/* As many whole M32 codes from the start as stand there and as `numbers` has room for: how many, and out[0] is the bytes that they take.
+   What stands behind them in `numbers` stays. */
+uint64_t gvrs_m32_read(const uint8_t *bytes, uint64_t n, uint32_t *numbers, uint64_t numbers_n, uint64_t *out, uint64_t out_n);
 
 /* The uncompressed content of an element in a tile: 32 present, out[0] where it starts and out[1] its length; 33 absent, 0 and 0;
    else the refusal's number, its place and 0. */

@@ -1,5 +1,5 @@
-//! Times the library's check, checksum, reads and lay-down against the second implementation's, in one
-//! run.
+//! Times the library's check, checksum, reads, lay-down and unpacking against the second
+//! implementation's, in one run. Fails where unpacking takes longer than its bound.
 
 mod checksum;
 mod descriptions;
@@ -7,8 +7,10 @@ mod lay_downs;
 mod look_up;
 mod reads;
 mod shapes;
+mod unpack;
 
 use std::hint::black_box;
+use std::process::ExitCode;
 use std::time::{Duration, Instant};
 
 use gvrs_tests::library;
@@ -19,7 +21,7 @@ use shapes::{CEILING, MEBIBYTE};
 const ENOUGH: Duration = Duration::from_millis(600);
 const MOST_TIMES: usize = 25;
 
-fn main() {
+fn main() -> ExitCode {
     heading();
     measure("few large tiles", &shapes::few_large_tiles(true));
     measure("few large tiles, checksums off", &shapes::few_large_tiles(false));
@@ -37,6 +39,11 @@ fn main() {
     reads::measure();
     look_up::measure();
     lay_downs::measure();
+    if unpack::measure() {
+        ExitCode::SUCCESS
+    } else {
+        ExitCode::FAILURE
+    }
 }
 
 fn heading() {

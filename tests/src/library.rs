@@ -32,6 +32,37 @@ extern "C" {
         out: *mut u64,
         out_n: u64,
     ) -> u32;
+    fn gvrs_cell_with(
+        file: *const u8,
+        n: u64,
+        row: u64,
+        column: u64,
+        element: u64,
+        route: u32,
+        compressor: u32,
+        out: *mut u64,
+        out_n: u64,
+    ) -> u32;
+    fn gvrs_unpack(
+        file: *const u8,
+        n: u64,
+        tile: u64,
+        element: u64,
+        compressor: u32,
+        cells: *mut u32,
+        cells_n: u64,
+        out: *mut u64,
+        out_n: u64,
+    ) -> u32;
+    fn gvrs_m32_write(numbers: *const u32, numbers_n: u64, bytes: *mut u8, bytes_n: u64) -> u64;
+    fn gvrs_m32_read(
+        bytes: *const u8,
+        n: u64,
+        numbers: *mut u32,
+        numbers_n: u64,
+        out: *mut u64,
+        out_n: u64,
+    ) -> u64;
     fn gvrs_lay_down(
         front: *const u8,
         front_n: u64,
@@ -66,7 +97,7 @@ extern "C" {
     ) -> u32;
 }
 
-/// The routes of `gvrs_cell`. Every other number is the directory too.
+/// The routes of `gvrs_cell` and `gvrs_cell_with`. Every other number is the directory too.
 pub const DIRECTORY: u32 = 0;
 pub const WALK: u32 = 1;
 pub const WALK_WITHOUT_STAGE_9: u32 = 2;
@@ -136,6 +167,57 @@ pub fn content_into(file: &[u8], tile: u64, element: u64, out: &mut [u64]) -> u3
     let (bytes, n) = (file.as_ptr(), file.len() as u64);
     // Both slices are alive for the whole call and do not overlap.
     unsafe { gvrs_content(bytes, n, tile, element, out.as_mut_ptr(), out.len() as u64) }
+}
+
+/// The number and all of `out`.
+pub fn cell_with(file: &[u8], spot: Spot, route: u32, compressor: u32) -> (u32, [u64; 3]) {
+    let mut out = [UNWRITTEN; 3];
+    let number = cell_with_into(file, spot, route, compressor, &mut out);
+    (number, out)
+}
+
+pub fn cell_with_into(
+    file: &[u8],
+    spot: Spot,
+    route: u32,
+    compressor: u32,
+    out: &mut [u64],
+) -> u32 {
+    let Spot { row, column, element } = spot;
+    let (bytes, n) = (file.as_ptr(), file.len() as u64);
+    let (out, out_n) = (out.as_mut_ptr(), out.len() as u64);
+    // Both slices are alive for the whole call and do not overlap.
+    unsafe { gvrs_cell_with(bytes, n, row, column, element, route, compressor, out, out_n) }
+}
+
+/// The number. All cells of an element in a tile go into the caller's `cells`, of any length.
+pub fn unpack_into(
+    file: &[u8],
+    (tile, element): (u64, u64),
+    compressor: u32,
+    cells: &mut [u32],
+    out: &mut [u64],
+) -> u32 {
+    let (bytes, n) = (file.as_ptr(), file.len() as u64);
+    let (cells, cells_n) = (cells.as_mut_ptr(), cells.len() as u64);
+    let (out, out_n) = (out.as_mut_ptr(), out.len() as u64);
+    // All three slices are alive for the whole call and do not overlap.
+    unsafe { gvrs_unpack(bytes, n, tile, element, compressor, cells, cells_n, out, out_n) }
+}
+
+/// The length of the codes, which go into the caller's buffer, of any length.
+pub fn m32_write_into(numbers: &[u32], bytes: &mut [u8]) -> u64 {
+    let (numbers, numbers_n) = (numbers.as_ptr(), numbers.len() as u64);
+    // Both slices are alive for the whole call and do not overlap.
+    unsafe { gvrs_m32_write(numbers, numbers_n, bytes.as_mut_ptr(), bytes.len() as u64) }
+}
+
+/// How many codes go as numbers into the caller's `numbers`, of any length.
+pub fn m32_read_into(bytes: &[u8], numbers: &mut [u32], out: &mut [u64]) -> u64 {
+    let (bytes, n) = (bytes.as_ptr(), bytes.len() as u64);
+    let (numbers, numbers_n) = (numbers.as_mut_ptr(), numbers.len() as u64);
+    // All three slices are alive for the whole call and do not overlap.
+    unsafe { gvrs_m32_read(bytes, n, numbers, numbers_n, out.as_mut_ptr(), out.len() as u64) }
 }
 
 /// The number. The file goes into the caller's buffer, its length or the place into `out`; both are

@@ -1,5 +1,5 @@
 -- The kind, value, place and length of each answer. The kind of a refusal is its number; stored or present is 32,
--- fill or absent 33. So a name found is 32, one that no element has 33.
+-- fill or absent 33, unpacked 34 (Req 01). So a name found is 32, one that no element has 33.
 use Prim.Native.Nat.{ℕ}
 use Rattle.answer.specs.declared.Cell.{Cell}
 use Rattle.answer.specs.declared.Cell.the-variants as cell
@@ -7,6 +7,8 @@ use Rattle.answer.specs.declared.Content.{Content}
 use Rattle.answer.specs.declared.Content.the-variants as content
 use Rattle.answer.specs.declared.Lookup.{Lookup}
 use Rattle.answer.specs.declared.Lookup.the-variants as lookup
+use Rattle.answer.specs.declared.Held.{Held}
+use Rattle.answer.specs.declared.Held.the-variants as held
 use Rattle.answer.specs.declared.Laid.{Laid}
 use Rattle.answer.specs.declared.Laid.the-variants as laid
 use Rattle.answer.specs.Refusals.{refusalNumber, refusalPlace}
@@ -15,22 +17,26 @@ use Rattle.answer.specs.Values.{valueType, valueBits}
 abbrev pub cellKind : Cell → ℕ
 cellKind (cell.Stored v at) = 32
 cellKind (cell.Fill v) = 33
+cellKind (cell.Unpacked v at) = 34
 cellKind (cell.Refused r) = refusalNumber r
 
 -- the value's type code and bits, 0 and 0 of a refusal
 abbrev pub cellType : Cell → ℕ
 cellType (cell.Stored v at) = valueType v
 cellType (cell.Fill v) = valueType v
+cellType (cell.Unpacked v at) = valueType v
 cellType (cell.Refused r) = 0
 
 abbrev pub cellBits : Cell → ℕ
 cellBits (cell.Stored v at) = valueBits v
 cellBits (cell.Fill v) = valueBits v
+cellBits (cell.Unpacked v at) = valueBits v
 cellBits (cell.Refused r) = 0
 
 abbrev pub cellPlace : Cell → ℕ
 cellPlace (cell.Stored v at) = at
 cellPlace (cell.Fill v) = 0
+cellPlace (cell.Unpacked v at) = at
 cellPlace (cell.Refused r) = refusalPlace r
 
 abbrev pub contentKind : Content → ℕ
@@ -59,6 +65,19 @@ abbrev pub lookupNumber : Lookup → ℕ
 lookupNumber (lookup.Number e) = e
 lookupNumber lookup.Absent = 0
 lookupNumber (lookup.Refused r) = refusalPlace r
+
+-- of all cells of an element in a tile: where their content starts, or the refusal's place
+abbrev pub heldKind : Held → ℕ
+heldKind (held.Stored at) = 32
+heldKind (held.Unpacked at) = 34
+heldKind held.Absent = 33
+heldKind (held.Refused r) = refusalNumber r
+
+abbrev pub heldPlace : Held → ℕ
+heldPlace (held.Stored at) = at
+heldPlace (held.Unpacked at) = at
+heldPlace held.Absent = 0
+heldPlace (held.Refused r) = refusalPlace r
 
 -- 0 where a page was laid down, else the refusal's number
 abbrev pub laidNumber : Laid → ℕ

@@ -3,7 +3,7 @@
 use Prim.Native.Nat.{ℕ}
 use mathlib.Core.Bool.{Bool, true, false}
 use Rattle.answer.specs.declared.Refusal.{Refusal}
-use Rattle.answer.specs.declared.Refusal.the-variants.{Identification, Version, Header, Ceiling, Opened, Chain, Checksum, Body, Directory, OutsideGrid, Compressed, Input, Room, Incomplete}
+use Rattle.answer.specs.declared.Refusal.the-variants.{Identification, Version, Header, Ceiling, Opened, Chain, Checksum, Body, Directory, OutsideGrid, Compressed, Input, Room, Malformed, Incomplete}
 use Rattle.answer.specs.declared.Verdict.{Verdict}
 use Rattle.answer.specs.declared.Verdict.the-variants.{Accepted, Refused}
 
@@ -21,6 +21,7 @@ refusalNumber OutsideGrid = 10
 refusalNumber (Compressed at) = 11
 refusalNumber Input = 12
 refusalNumber Room = 13
+refusalNumber (Malformed at) = 14
 refusalNumber Incomplete = 16
 
 abbrev pub refusalPlace : Refusal → ℕ
@@ -37,6 +38,7 @@ refusalPlace OutsideGrid = 0
 refusalPlace (Compressed at) = at
 refusalPlace Input = 0
 refusalPlace Room = 0
+refusalPlace (Malformed at) = at
 refusalPlace Incomplete = 0
 
 -- a check's answer as a number, 0 where it accepts, and its place

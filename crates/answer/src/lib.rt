@@ -7,7 +7,7 @@ ghost use mir.Syntax.{w16, w32};
 ghost use mir.Val.{toZ, ofZ};
 ghost use Rattle.answer.specs.Refusals.{refusalNumber, refusalPlace, verdictNumber, verdictPlace};
 ghost use Rattle.answer.specs.Values.{valueOf, valueType, valueBits};
-ghost use Rattle.answer.specs.Answers.{cellKind, cellType, cellBits, cellPlace, contentKind, contentPlace, contentLength, lookupKind, lookupNumber, laidNumber};
+ghost use Rattle.answer.specs.Answers.{cellKind, cellType, cellBits, cellPlace, contentKind, contentPlace, contentLength, heldKind, heldPlace, lookupKind, lookupNumber, laidNumber};
 
 // Document 01's thirteen refusals, in their order, with a place where it gives one that varies; then document 02's: a byte that a stage
 // needs is not given.
@@ -25,6 +25,7 @@ pub enum Refusal {
     Compressed(usize),
     Input,
     Room,
+    Malformed(usize),
     Incomplete,
 }
 
@@ -47,6 +48,7 @@ pub enum Value {
 pub enum Cell {
     Stored { value: Value, place: usize },
     Fill { value: Value },
+    Unpacked { value: Value, place: usize },
     Refused(Refusal),
 }
 
@@ -60,6 +62,14 @@ pub enum Content {
 // What is said of an element's name.
 pub enum Lookup {
     Number(usize),
+    Absent,
+    Refused(Refusal),
+}
+
+// What is said of all cells of an element in a tile: where their content starts, stored or unpacked.
+pub enum Held {
+    Stored(usize),
+    Unpacked(usize),
     Absent,
     Refused(Refusal),
 }
@@ -88,6 +98,7 @@ pub fn refusal_number(r: Refusal) -> u32
         Refusal::Compressed(_) => 11,
         Refusal::Input => 12,
         Refusal::Room => 13,
+        Refusal::Malformed(_) => 14,
         Refusal::Incomplete => 16,
     }
 }
@@ -102,6 +113,7 @@ pub fn refusal_place(r: Refusal) -> usize
         Refusal::Body(at) => at,
         Refusal::Directory => 16,
         Refusal::Compressed(at) => at,
+        Refusal::Malformed(at) => at,
         Refusal::Identification => 0,
         Refusal::Version => 0,
         Refusal::Header => 0,
@@ -230,6 +242,7 @@ pub fn cell_kind(x: Cell) -> u32
     match x {
         Cell::Stored { value: _, place: _ } => 32,
         Cell::Fill { value: _ } => 33,
+        Cell::Unpacked { value: _, place: _ } => 34,
         Cell::Refused(r) => refusal_number(r),
     }
 }
@@ -240,6 +253,7 @@ pub fn cell_type(x: Cell) -> u32
     match x {
         Cell::Stored { value, place: _ } => value_type(value),
         Cell::Fill { value } => value_type(value),
+        Cell::Unpacked { value, place: _ } => value_type(value),
         Cell::Refused(_) => 0,
     }
 }
@@ -250,6 +264,7 @@ pub fn cell_bits(x: Cell) -> u32
     match x {
         Cell::Stored { value, place: _ } => value_bits(value),
         Cell::Fill { value } => value_bits(value),
+        Cell::Unpacked { value, place: _ } => value_bits(value),
         Cell::Refused(_) => 0,
     }
 }
@@ -260,6 +275,7 @@ pub fn cell_place(x: Cell) -> usize
     match x {
         Cell::Stored { value: _, place } => place,
         Cell::Fill { value: _ } => 0,
+        Cell::Unpacked { value: _, place } => place,
         Cell::Refused(r) => refusal_place(r),
     }
 }
@@ -316,6 +332,29 @@ pub fn lookup_number(x: Lookup) -> usize
         Lookup::Number(e) => e,
         Lookup::Absent => 0,
         Lookup::Refused(r) => refusal_place(r),
+    }
+}
+
+// The kind and place of an answer about all cells of an element in a tile.
+pub fn held_kind(x: Held) -> u32
+    ensures { λ r. ⌜ r ≡ heldKind x ⌝ }
+{
+    match x {
+        Held::Stored(_) => 32,
+        Held::Unpacked(_) => 34,
+        Held::Absent => 33,
+        Held::Refused(r) => refusal_number(r),
+    }
+}
+
+pub fn held_place(x: Held) -> usize
+    ensures { λ r. ⌜ r ≡ heldPlace x ⌝ }
+{
+    match x {
+        Held::Stored(at) => at,
+        Held::Unpacked(at) => at,
+        Held::Absent => 0,
+        Held::Refused(r) => refusal_place(r),
     }
 }
 

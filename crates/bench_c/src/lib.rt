@@ -6,12 +6,12 @@ ghost use Rattle.cells.specs.Routes.{referredTo};
 ghost use Rattle.cells.specs.inner.Lookups.{lookedUp};
 ghost use Rattle.crc32c.specs.Crc.{crcOf};
 
-// The bits of a cell by the directory, without the check.
+// The bits of a cell by the directory, without the check; 256 is no content's compressor index.
 #[no_mangle]
 pub extern "C" fn gvrs_bench_look_up(file: &[u8], row: u64, column: u64, element: u64) -> u32
-    ensures { λ r. ⌜ r ≡ cellBits (lookedUp (now (file .entry)) (referredTo (now (file .entry)) (tileDirectoryAt (now (file .entry)))) row column element) ⌝ }
+    ensures { λ r. ⌜ r ≡ cellBits (lookedUp (now (file .entry)) 256 (referredTo (now (file .entry)) (tileDirectoryAt (now (file .entry)))) row column element) ⌝ }
 {
-    answer::cell_bits(cells::reads::cell_of_accepted(file, row, column, element))
+    answer::cell_bits(cells::reads::cell_of_accepted(file, 256, row, column, element))
 }
 
 // CRC32C of all the bytes.

@@ -10,7 +10,7 @@ use Rattle.wire.proofs.TestLaws.{fails}
 use Rattle.wire.proofs.ItemLaws.{item-within, items-apart}
 use Rattle.answer.specs.declared.Refusal.{Refusal}
 use Rattle.answer.specs.declared.Value.{Value}
-use Rattle.answer.specs.declared.Cell.the-variants.{Stored, Fill, Refused}
+use Rattle.answer.specs.declared.Cell.the-variants.{Stored, Fill, Unpacked, Refused}
 use Rattle.answer.specs.Answers.{cellPlace}
 use Rattle.header.specs.Fields.{gridColumns, tileRows, tileColumns, elementCount}
 use Rattle.record.specs.Chain.{headerEnd, records, recordsOf}
@@ -29,9 +29,12 @@ use Rattle.record.specs.declared.Found.{Found}
 use Rattle.record.specs.declared.Found.the-variants.{At, Nothing}
 use Rattle.page_check.specs.Accepted.{Obeys}
 use Rattle.page_check.proofs.GivenLaws.{obeys-range, obeys-tile}
+use Rattle.unpack.specs.declared.Unpacked as out
+use Rattle.unpack.specs.declared.Unpacked.the-variants as variant
+use Rattle.unpack.specs.Unpack.{cellAt}
 use Rattle.cells.specs.Asked.{inGrid}
 use Rattle.cells.specs.Demand3.{bytesOfCell}
-use Rattle.cells.specs.TileCells.{packed, cellIn, offsetIn, placeIn, storedAt, fillOf}
+use Rattle.cells.specs.TileCells.{packed, unpackable, unpackedIn, packedCell, cellIn, offsetIn, placeIn, storedAt, fillOf}
 use Rattle.cells.specs.Meaning.{meaning}
 use Rattle.cells.specs.Routes.{cellBy, meant}
 use Rattle.cells.proofs.CellLaws.{grid-means}
@@ -75,17 +78,29 @@ refused-not-stored q = let z : _≡_ {A = ℕ} 0 1 = cc in absurd (omega arith)
 fill-not-stored : {C : Type 0} {w v : Value} {p : ℕ} → Fill w ≡ Stored v p → C
 fill-not-stored q = let z : _≡_ {A = ℕ} 0 1 = cc in absurd (omega arith)
 
-stored-in : (s : List ℕ) (x row column e place : ℕ) (v : Value) → cellIn s x row column e ≡ Stored v place → (packed s x e ≡ false) × (place ≡ placeIn s x row column e)
+unpacked-not-stored : {C : Type 0} {w v : Value} {a p : ℕ} → Unpacked w a ≡ Stored v p → C
+unpacked-not-stored q = let z : _≡_ {A = ℕ} 0 1 = cc in absurd (omega arith)
+
+packed-not-stored : {C : Type 0} (s : List ℕ) (ci x row column e : ℕ) (v : Value) (p : ℕ) → packedCell s ci x row column e ≡ Stored v p → C
+unfolding packedCell
+packed-not-stored {C = C} s ci x row column e v p q = go (unpackable s ci x e) refl (cellAt (unpackedIn s x e) (cellInside s row column)) refl
+  where
+    go : (b : Bool) → unpackable s ci x e ≡ b → (r : out.Unpacked) → cellAt (unpackedIn s x e) (cellInside s row column) ≡ r → C
+    go false i r j = refused-not-stored (rw i at q)
+    go true i (variant.Cell bits) j = unpacked-not-stored (rw (i, j) at q)
+    go true i variant.Malformed j = refused-not-stored (rw (i, j) at q)
+
+stored-in : (s : List ℕ) (ci x row column e place : ℕ) (v : Value) → cellIn s ci x row column e ≡ Stored v place → (packed s x e ≡ false) × (place ≡ placeIn s x row column e)
 unfolding cellIn storedAt
-stored-in s x row column e place v q = go (packed s x e) refl
+stored-in s ci x row column e place v q = go (packed s x e) refl
   where
     go : (b : Bool) → packed s x e ≡ b → (packed s x e ≡ false) × (place ≡ placeIn s x row column e)
-    go true i = refused-not-stored (rw i at q)
+    go true i = packed-not-stored s ci x row column e v place (rw i at q)
     go false i = (i, sym (ap cellPlace (rw i at q)))
 
-pub stored-as : (s : List ℕ) (row column e place : ℕ) (v : Value) → meaning s row column e ≡ Stored v place → StoredAs s row column e place
+pub stored-as : (s : List ℕ) (ci row column e place : ℕ) (v : Value) → meaning s ci row column e ≡ Stored v place → StoredAs s row column e place
 unfolding meaning cellBy fillOf
-stored-as s row column e place v q = go (inGrid s row column e) refl (meant s (cellTile s row column)) refl
+stored-as s ci row column e place v q = go (inGrid s row column e) refl (meant s (cellTile s row column)) refl
   where
     go : (b : Bool) → inGrid s row column e ≡ b → (f : Found) → meant s (cellTile s row column) ≡ f → StoredAs s row column e place
     go false i f j = refused-not-stored (rw i at q)
@@ -93,7 +108,7 @@ stored-as s row column e place v q = go (inGrid s row column e) refl (meant s (c
     go true i (At x) j =
         let g = grid-means s row column e i in
         let t = meant-is s (cellTile s row column) x j in
-        let c = stored-in s x row column e place v (rw (i, j) at q) in
+        let c = stored-in s ci x row column e place v (rw (i, j) at q) in
         record { start = x; among = t .among; index = t .index; whole = c .0; here = c .1; column-in = g .1 .0; element-in = g .1 .1 }
 
 -- its bytes lie in its element's uncompressed content
@@ -178,8 +193,8 @@ module _ (s : List ℕ) (o : Obeys s) (row column e place : ℕ) (c : StoredAs s
       (whole-apart s (headerEnd s) (records s) (o .chain) (of-type s 2 (c .among) .0) (of-type s 2 (d .among) .0))
 
 pub cells-apart :
-    (s : List ℕ) → Obeys s → (row column e place : ℕ) (v : Value) (row2 column2 e2 place2 : ℕ) (v2 : Value) →
-    meaning s row column e ≡ Stored v place → meaning s row2 column2 e2 ≡ Stored v2 place2 →
+    (s : List ℕ) → Obeys s → (ci row column e place : ℕ) (v : Value) (row2 column2 e2 place2 : ℕ) (v2 : Value) →
+    meaning s ci row column e ≡ Stored v place → meaning s ci row2 column2 e2 ≡ Stored v2 place2 →
     ((row ≡ row2) × ((column ≡ column2) × (e ≡ e2))) ⊎ ((place + bytesOfCell s e ≤ place2) ⊎ (place2 + bytesOfCell s e2 ≤ place))
-cells-apart s o row column e place v row2 column2 e2 place2 v2 p q =
-    stored-apart s o row column e place (stored-as s row column e place v p) row2 column2 e2 place2 (stored-as s row2 column2 e2 place2 v2 q)
+cells-apart s o ci row column e place v row2 column2 e2 place2 v2 p q =
+    stored-apart s o row column e place (stored-as s ci row column e place v p) row2 column2 e2 place2 (stored-as s ci row2 column2 e2 place2 v2 q)

@@ -10,14 +10,16 @@ use lib.Dec.{leb, eqb}
 use borrow.Author.Tests.{lt-leb, leb-true, eqb-true, eqb-false, ne-eqb}
 use Rattle.wire.specs.Pick.{pick}
 use Rattle.wire.specs.Tests.{_≤?_, passes}
-use Rattle.wire.specs.Bytes.{u32At, numberAt}
+use Rattle.wire.specs.Bytes.{byteAt, part, u32At, numberAt}
 use Rattle.wire.proofs.TestLaws.{means, yes, no, fails, not-both, either-way}
 use Rattle.answer.specs.declared.Value.{Value}
+use Rattle.answer.specs.declared.Refusal.{Refusal}
 use Rattle.answer.specs.declared.Refusal.the-variants as refusal
 use Rattle.answer.specs.declared.Cell.{Cell}
 use Rattle.answer.specs.declared.Cell.the-variants as cell
 use Rattle.answer.specs.declared.Content.{Content}
 use Rattle.answer.specs.declared.Content.the-variants as content
+use Rattle.answer.specs.declared.Held.the-variants as held
 use Rattle.answer.specs.Values.{valueOf}
 use Rattle.header.specs.declared.Element.{Element}
 use Rattle.header.specs.Fields.{gridRows, gridColumns, tileRows, tileColumns, elementCount}
@@ -35,9 +37,12 @@ use Rattle.bodies.specs.TileRecord.{sectionAt, sectionStart, sectionLength, ele
 use Rattle.geometry.proofs.GridLaws.{grid-less, tile-less, along-most}
 use Rattle.record.specs.declared.Found.{Found}
 use Rattle.record.specs.declared.Found.the-variants.{Nothing, At}
+use Rattle.unpack.specs.declared.Unpacked.{Unpacked}
+use Rattle.unpack.specs.declared.Unpacked.the-variants as out
+use Rattle.unpack.specs.Unpack.{unpacked, cellAt}
 use Rattle.cells.specs.Asked.{inGrid, inTiles}
-use Rattle.cells.specs.inner.Lookups.{sidesLawful, cellReached, contentReached}
-use Rattle.cells.specs.TileCells.{offsetIn, packed, placeIn, storedAt, fillOf, cellIn, contentIn}
+use Rattle.cells.specs.inner.Lookups.{sidesLawful, reachedBy, cellReached, contentReached, heldReached}
+use Rattle.cells.specs.TileCells.{offsetIn, packed, placeIn, storedAt, fillOf, unpackable, unpackedIn, packedCell, cellIn, contentIn, cellOf, contentOf, heldOf}
 
 -- what is asked for
 
@@ -120,7 +125,7 @@ inside-small s row column e =
     let g = grid-less (tileColumns s) (row % tileRows s) (column % tileColumns s) c (tileRows s) b in
     omega (arith, product-small (tileRows s) (tileColumns s) (a .tile-rows .1) (a .tile-columns .1))
 
-offset-small : (k i : ℕ) → i < 16777216 → cellOffset k i ≤ 67108864
+pub offset-small : (k i : ℕ) → i < 16777216 → cellOffset k i ≤ 67108864
 unfolding cellOffset
 offset-small k i h =
     let l : i ≤ 16777216 = omega arith in
@@ -196,16 +201,62 @@ pub fill-is : (s : List ℕ) (e : ℕ) (x : Element) (v : Value) → x ≡ eleme
 unfolding fillOf
 fill-is s e x v p f = ap (λ (y : Value). cell.Fill y) (f ∙ rw p)
 
+-- a cell of compressed content
+
+module _ (s : List ℕ) (ci x e : ℕ) where
+  pub above-bytes : 255 < ci → false ≡ unpackable s ci x e
+  unfolding unpackable
+  above-bytes h = no _ (λ y. omega (arith, y .0))
+
+  pub other-index : (p b : ℕ) → p ≡ sectionAt s x e → b ≡ byteAt s (p + 4) → (b ≡ ci → ⊥) → false ≡ unpackable s ci x e
+  unfolding unpackable elementContentAt
+  other-index p b q t h = no _ (λ y. h (t ∙ rw q (y .1 .0)))
+
+  pub float-packed : (k : ℕ) → k ≡ element s e .kind → k ≡ 2 → false ≡ unpackable s ci x e
+  unfolding unpackable
+  float-packed k q h = no _ (λ y. y .1 .1 .0 (sym q ∙ h))
+
+  pub is-unpackable : (p b k : ℕ) → ci ≤ 255 → p ≡ sectionAt s x e → b ≡ byteAt s (p + 4) → b ≡ ci → k ≡ element s e .kind → (k ≡ 2 → ⊥) → true ≡ unpackable s ci x e
+  unfolding unpackable elementContentAt
+  is-unpackable p b k l q t h u m = yes _ (l, (ap (λ (y : ℕ). byteAt s (y + 4)) (sym q) ∙ sym t ∙ h, ((λ z. m (u ∙ z)), tt)))
+
+pub content-taken : (s c : List ℕ) (x e p l : ℕ) → p ≡ sectionAt s x e → l ≡ u32At s p → c ≡ part s (p + 4) l → c ≡ part s (elementContentAt s x e) (sectionLength s x e)
+unfolding elementContentAt sectionLength
+content-taken s c x e p l q t h = h ∙ rw (t, q)
+
+pub cell-taken :
+    (s c : List ℕ) (x row column e k i h w : ℕ) (b : Bool) (r : Unpacked) → k ≡ element s e .kind → i ≡ cellInside s row column → h ≡ tileRows s → w ≡ tileColumns s →
+    b ≡ eqb k 3 → c ≡ part s (elementContentAt s x e) (sectionLength s x e) → r ≡ cellAt (unpacked c h w b) i →
+    r ≡ cellAt (unpackedIn s x e) (cellInside s row column)
+unfolding unpackedIn
+cell-taken s c x row column e k i h w b r p q t u m n g = g ∙ rw (n, t, u, m, p, q)
+
+module _ (s : List ℕ) (ci x row column e : ℕ) (b : Bool) (p : b ≡ unpackable s ci x e) where
+  pub still-packed : b ≡ false → cell.Refused (refusal.Compressed x) ≡ packedCell s ci x row column e
+  unfolding packedCell
+  still-packed f = rw (← p, f)
+
+  module _ (f : b ≡ true) (r : Unpacked) (q : r ≡ cellAt (unpackedIn s x e) (cellInside s row column)) where
+    pub cell-malformed : r ≡ out.Malformed → cell.Refused (refusal.Malformed x) ≡ packedCell s ci x row column e
+    unfolding packedCell
+    cell-malformed g = rw (← p, f, ← q, g)
+
+    pub cell-unpacked :
+        (v k at : ℕ) (y : Value) → r ≡ out.Cell v → k ≡ element s e .kind → y ≡ valueOf k v → at ≡ sectionAt s x e →
+        cell.Unpacked y (at + 4) ≡ packedCell s ci x row column e
+    unfolding packedCell elementContentAt
+    cell-unpacked v k at y g t m n = rw (← p, f, ← q, g, m, t, n)
+
 -- a cell and an element's content in a tile record
 
 module _ (s : List ℕ) (x e : ℕ) (b : Bool) (p : b ≡ packed s x e) where
-  pub cell-packed : (row column : ℕ) → b ≡ true → cell.Refused (refusal.Compressed x) ≡ cellIn s x row column e
+  pub cell-packed : (ci row column : ℕ) (r : Cell) → b ≡ true → r ≡ packedCell s ci x row column e → r ≡ cellIn s ci x row column e
   unfolding cellIn
-  cell-packed row column f = rw (← p, f)
+  cell-packed ci row column r f q = rw (← p, f) q
 
-  pub cell-whole : (row column at : ℕ) (r : Cell) → b ≡ false → at ≡ placeIn s x row column e → r ≡ storedAt s e at → r ≡ cellIn s x row column e
+  pub cell-whole : (ci row column at : ℕ) (r : Cell) → b ≡ false → at ≡ placeIn s x row column e → r ≡ storedAt s e at → r ≡ cellIn s ci x row column e
   unfolding cellIn
-  cell-whole row column at r f q t = rw (← p, f) (t ∙ rw q)
+  cell-whole ci row column at r f q t = rw (← p, f) (t ∙ rw q)
 
   pub content-packed : b ≡ true → content.Refused (refusal.Compressed x) ≡ contentIn s x e
   unfolding contentIn
@@ -217,28 +268,25 @@ module _ (s : List ℕ) (x e : ℕ) (b : Bool) (p : b ≡ packed s x e) where
 
 -- by what was found for the tile
 
-module _ (s : List ℕ) (row column e : ℕ) (f : Found) (r : Cell) where
-  pub cell-absent : f ≡ Nothing → r ≡ fillOf s e → r ≡ cellReached s row column e f
-  unfolding cellReached
-  cell-absent p q = rw p q
+module _ {A : Type 0} (refused : Refusal → A) (said : Found → A) (s : List ℕ) (f : Found) where
+  pub reached-none : (r : A) → f ≡ Nothing → r ≡ said Nothing → r ≡ reachedBy refused said s f
+  unfolding reachedBy
+  reached-none r p q = rw p q
 
-  pub cell-found : (x : ℕ) → f ≡ At x → x < length s → r ≡ cellIn s x row column e → r ≡ cellReached s row column e f
-  unfolding cellReached
-  cell-found x p h q = rw (p, ← yes ((x + 1 ≤? length s) ∷ []) (omega arith, tt)) q
+  pub reached-at : (x : ℕ) (r : A) → f ≡ At x → x < length s → r ≡ said (At x) → r ≡ reachedBy refused said s f
+  unfolding reachedBy
+  reached-at x r p h q = rw (p, ← yes ((x + 1 ≤? length s) ∷ []) (omega arith, tt)) q
 
-pub cell-lost : (s : List ℕ) (row column e : ℕ) (f : Found) (x : ℕ) → f ≡ At x → length s ≤ x → cell.Refused refusal.Directory ≡ cellReached s row column e f
-unfolding cellReached
-cell-lost s row column e f x p h = rw (p, ← no ((x + 1 ≤? length s) ∷ []) (λ y. omega (arith, y .0)))
+  reached-lost : (x : ℕ) → f ≡ At x → length s ≤ x → refused refusal.Directory ≡ reachedBy refused said s f
+  unfolding reachedBy
+  reached-lost x p h = rw (p, ← no ((x + 1 ≤? length s) ∷ []) (λ y. omega (arith, y .0)))
 
-module _ (s : List ℕ) (e : ℕ) (f : Found) where
-  pub content-absent : f ≡ Nothing → content.Absent ≡ contentReached s e f
-  unfolding contentReached
-  content-absent p = rw p
+module _ (s : List ℕ) (f : Found) (x : ℕ) (p : f ≡ At x) (h : length s ≤ x) where
+  pub cell-lost : (ci row column e : ℕ) → cell.Refused refusal.Directory ≡ cellReached s ci row column e f
+  cell-lost ci row column e = reached-lost cell.Refused (cellOf s ci row column e) s f x p h
 
-  pub content-found : (x : ℕ) (r : Content) → f ≡ At x → x < length s → r ≡ contentIn s x e → r ≡ contentReached s e f
-  unfolding contentReached
-  content-found x r p h q = rw (p, ← yes ((x + 1 ≤? length s) ∷ []) (omega arith, tt)) q
+  pub content-lost : (e : ℕ) → content.Refused refusal.Directory ≡ contentReached s e f
+  content-lost e = reached-lost content.Refused (contentOf s e) s f x p h
 
-  pub content-lost : (x : ℕ) → f ≡ At x → length s ≤ x → content.Refused refusal.Directory ≡ contentReached s e f
-  unfolding contentReached
-  content-lost x p h = rw (p, ← no ((x + 1 ≤? length s) ∷ []) (λ y. omega (arith, y .0)))
+  pub held-lost : (ci e : ℕ) → held.Refused refusal.Directory ≡ heldReached s ci e f
+  held-lost ci e = reached-lost held.Refused (heldOf s ci e) s f x p h

@@ -1,20 +1,22 @@
 -- Demand 3, and the bits of demand 2. Assumes nothing.
 use borrow.Author.Tests.{eqb-true, eqb-false}
-use Prim.Native.Nat.{ℕ, _+_, _≤_}
-use mathlib.Core.Path.{_≡_, refl}
+use Prim.Native.Nat.{ℕ, _+_, _-_, _*_, _≤_, _<_}
+use mathlib.Core.Path.{_≡_, refl, sym, ap, _∙_}
 use mathlib.Core.List.{List}
 use mathlib.Core.Bool.{Bool, true, false}
+use mathlib.Core.Logic.{_⊎_, ⊎-elim}
 use native.Mathlib.Omega.{arith}
-use lib.ListN.{length}
+use lib.ListN.{length, getD}
 use lib.Dec.{eqb}
 use Rattle.wire.specs.Pick.{pick}
-use Rattle.wire.specs.Bytes.{Bytes, numberAt}
+use Rattle.wire.specs.Bytes.{Bytes, part, u32At, numberAt}
 use Rattle.wire.proofs.ByteLaws.{number-small}
 use Rattle.answer.specs.declared.Refusal.the-variants.{Compressed, OutsideGrid}
 use Rattle.answer.specs.declared.Value.{Value}
 use Rattle.answer.specs.declared.Cell.the-variants as cell
 use Rattle.answer.specs.declared.Content.the-variants as content
 use Rattle.answer.specs.Values.{valueBits, valueOf}
+use Rattle.answer.specs.Answers.{cellKind, cellPlace}
 use Rattle.answer.specs.Refusals.{unlessRefused}
 use Rattle.answer.proofs.ValueLaws.{short-bits-kept, bits-kept}
 use Rattle.record.specs.declared.Found.{Found}
@@ -22,30 +24,40 @@ use Rattle.record.specs.declared.Found.the-variants.{At, Nothing}
 use Rattle.record.specs.Chain.{headerEnd, records}
 use Rattle.record.proofs.ChainLaws.{whole-extent}
 use Rattle.record.proofs.FindLaws.{of-type}
-use Rattle.geometry.specs.Tiles.{cellTile}
+use Rattle.header.specs.Fields.{gridRows, gridColumns, tileRows, tileColumns, elementCount}
+use Rattle.geometry.proofs.GridLaws.{tile-less, inside-less}
+use Rattle.check_header.specs.Passed.{Sides}
+use Rattle.wire.proofs.TestLaws.{not-both}
+use Rattle.geometry.specs.Tiles.{cellTile, cellInside}
 use Rattle.geometry.specs.Sizes.{elementBytes}
-use Rattle.bodies.specs.TileRecord.{elementContentAt}
+use Rattle.bodies.specs.TileRecord.{sectionAt, sectionLength, elementContentAt}
+use Rattle.unpack.specs.declared.Unpacked.{Unpacked}
+use Rattle.unpack.specs.declared.Unpacked.the-variants as out
+use Rattle.unpack.specs.Unpack.{Cells, cells, malformed, unpacked, cellAt, cellsIn, isWhole}
+use Rattle.unpack.proofs.AnswerLaws.{bits-small, taken-cell, whole-long, whole-cell}
 use Rattle.page_check.specs.Accepted.{Obeys}
 use Rattle.page_check.proofs.AcceptedLaws.{accepted-obeys}
 use Rattle.page_check.proofs.GivenLaws.{obeys-tile}
 use Rattle.header.specs.Element.{cellSize, element, entryAt, fillBits}
 use Rattle.cells.specs.Asked.{inGrid, inTiles}
-use Rattle.cells.specs.Routes.{meant, contentBy, cellBy}
+use Rattle.cells.specs.Routes.{meant, tileBy, cellBy}
 use Rattle.cells.specs.Demand3.{bytesOfCell, Demand3, ContentInside}
-use Rattle.cells.specs.Meaning.{meaning, contentMeaning}
-use Rattle.cells.specs.TileCells.{contentIn, packed, fillOf, cellIn, storedAt, placeIn}
+use Rattle.cells.specs.Meaning.{meaning, contentMeaning, heldMeaning}
+use Rattle.cells.specs.TileCells.{contentIn, packed, fillOf, unpackable, unpackedIn, unpackedAt, packedCell, cellIn, storedAt, offsetIn, placeIn, heldIn, heldBits, heldCount}
 use Rattle.cells.specs.Reads.{readByDirectory, readByWalk, readByRecords}
 use Rattle.cells.specs.Demand2.{Demand2Bits, RightBits}
-use Rattle.cells.proofs.CellLaws.{tiles-mean}
+use Rattle.cells.specs.Compressor.{OldReads, ContentStays, OnlyPacked, UnpackedWhere, EachCell, HeldEach, HeldCounted}
+use Rattle.cells.proofs.CellLaws.{grid-means, tiles-mean, tiles-in, sides-mean, above-bytes}
+use Rattle.cells.proofs.HeldLaws.{stored-cell, stored-long}
 use Rattle.cells.proofs.RouteLaws.{meant-is}
 use Rattle.cells.proofs.ApartLaws.{content-extent, stored-as, cell-extent, cells-apart, whole-least}
 use Rattle.cells.proofs.ReadLaws.{way-means, check-lawful, accepted-finds, walked-finds, passed-bodies}
 
 -- what is stored lies in the file
 
-stored-inside : (s : List ℕ) → Obeys s → (row column e place : ℕ) (v : Value) → meaning s row column e ≡ cell.Stored v place → place + bytesOfCell s e ≤ length s
-stored-inside s o row column e place v q =
-    let c = stored-as s row column e place v q in
+stored-inside : (s : List ℕ) → Obeys s → (ci row column e place : ℕ) (v : Value) → meaning s ci row column e ≡ cell.Stored v place → place + bytesOfCell s e ≤ length s
+stored-inside s o ci row column e place v q =
+    let c = stored-as s ci row column e place v q in
     let x = cell-extent s o row column e place c in
     let w = whole-extent s (headerEnd s) (records s) (o .chain) (of-type s 2 (c .among) .0) in
     omega (arith, x .inside, w .inside)
@@ -61,7 +73,7 @@ present-in s x e at n q = go (packed s x e) refl q
     go false f g = (f, (cc, cc))
 
 pub content-inside : ContentInside
-unfolding contentMeaning contentBy
+unfolding contentMeaning tileBy
 content-inside s a tile e at n q = go (inTiles s tile e) refl (meant s tile) refl
   where
     o : Obeys s
@@ -81,13 +93,13 @@ content-inside s a tile e at n q = go (inTiles s tile e) refl (meant s tile) ref
 
 pub demand-3 : Demand3
 unfolding readByDirectory readByWalk readByRecords unlessRefused
-demand-3 s a =
+demand-3 s a ci =
     record {
-      by-directory = λ row column e. rw a (way-means s _ (check-lawful s a) (accepted-finds s a) row column e);
-      by-walk = λ row column e. rw a (way-means s _ (check-lawful s a) (walked-finds s) row column e);
-      by-records = λ row column e. rw (passed-bodies s a) (way-means s _ (check-lawful s a) (walked-finds s) row column e);
-      inside = stored-inside s (accepted-obeys s a);
-      apart = cells-apart s (accepted-obeys s a);
+      by-directory = λ row column e. rw a (way-means s _ (check-lawful s a) (accepted-finds s a) ci row column e);
+      by-walk = λ row column e. rw a (way-means s _ (check-lawful s a) (walked-finds s) ci row column e);
+      by-records = λ row column e. rw (passed-bodies s a) (way-means s _ (check-lawful s a) (walked-finds s) ci row column e);
+      inside = stored-inside s (accepted-obeys s a) ci;
+      apart = cells-apart s (accepted-obeys s a) ci;
     }
 
 -- the bits: a value is made of a number of as many bytes as its type has, and gives it back
@@ -100,22 +112,174 @@ value-bits s b kind at = go (eqb kind 3) refl
     go true f = rw f (short-bits-kept kind (numberAt 2 s at) (eqb-true _ _ f) (number-small 2 s b at))
     go false f = rw f (bits-kept kind (numberAt 4 s at) (eqb-false _ _ f) (number-small 4 s b at))
 
-pub demand-2-bits : Demand2Bits
-unfolding meaning cellBy fillOf cellIn storedAt element entryAt fillBits
-demand-2-bits s b row column e = go (inGrid s row column e) refl (meant s (cellTile s row column)) refl
-  where
-    no-kind : {C : Type 0} (n m : ℕ) → n ≡ m → (n ≡ m → ⊥) → C
-    no-kind n m p q = absurd (q p)
+-- and of an unpacked cell, where it comes out
 
-    go : (c : Bool) → inGrid s row column e ≡ c → (f : Found) → meant s (cellTile s row column) ≡ f → RightBits s row column e
-    go false i f j = record { stored = λ h. absurd (omega (arith, rw i at h)); fill = λ h. absurd (omega (arith, rw i at h)) }
-    go true i Nothing j = record { stored = λ h. absurd (omega (arith, rw (i, j) at h)); fill = λ h. rw (i, j) (value-bits s b (element s e .kind) _) }
-    go true i (At x) j = by (packed s x e) refl
+unpacked-bits :
+    (s : List ℕ) (x e i v : ℕ) → cellAt (unpackedIn s x e) i ≡ out.Cell v → valueBits (valueOf (element s e .kind) v) ≡ getD (cellsIn (unpackedAt s e (elementContentAt s x e))) i 0
+unfolding unpackedIn elementContentAt sectionLength
+unpacked-bits s x e i v q =
+    let c = part s (sectionAt s x e + 4) (u32At s (sectionAt s x e)) in
+    let h = taken-cell (unpacked c (tileRows s) (tileColumns s) (eqb (element s e .kind) 3)) i v q in
+    let k : sectionAt s x e + 4 - 4 ≡ sectionAt s x e = omega arith in
+    rw k (ap (λ (n : ℕ). valueBits (valueOf (element s e .kind) n)) (sym h) ∙ kept (element s e .kind) _ (bits-small c (tileRows s) (tileColumns s) (eqb (element s e .kind) 3) i))
+  where
+    kept : (kind n : ℕ) → n < pick (eqb kind 3) 65536 4294967296 → valueBits (valueOf kind n) ≡ n
+    kept kind n h = go (eqb kind 3) refl h
       where
-        by : (d : Bool) → packed s x e ≡ d → RightBits s row column e
-        by true k = record { stored = λ h. absurd (omega (arith, rw (i, j, k) at h)); fill = λ h. absurd (omega (arith, rw (i, j, k) at h)) }
-        by false k =
+        go : (b : Bool) → eqb kind 3 ≡ b → n < pick b 65536 4294967296 → valueBits (valueOf kind n) ≡ n
+        go true f l = short-bits-kept kind n (eqb-true _ _ f) l
+        go false f l = bits-kept kind n (eqb-false _ _ f) l
+
+pub demand-2-bits : Demand2Bits
+unfolding meaning cellBy fillOf cellIn packedCell storedAt element entryAt fillBits
+demand-2-bits s b ci row column e = go (inGrid s row column e) refl (meant s (cellTile s row column)) refl
+  where
+    go : (c : Bool) → inGrid s row column e ≡ c → (f : Found) → meant s (cellTile s row column) ≡ f → RightBits s ci row column e
+    go false i f j =
+        record { stored = λ h. absurd (omega (arith, rw i at h)); fill = λ h. absurd (omega (arith, rw i at h)); unpacked = λ h. absurd (omega (arith, rw i at h)) }
+    go true i Nothing j =
+        record {
+          stored = λ h. absurd (omega (arith, rw (i, j) at h));
+          fill = λ h. rw (i, j) (value-bits s b (element s e .kind) _);
+          unpacked = λ h. absurd (omega (arith, rw (i, j) at h));
+        }
+    go true i (At x) j = by (packed s x e) refl (unpackable s ci x e) refl (cellAt (unpackedIn s x e) (cellInside s row column)) refl
+      where
+        by :
+            (d : Bool) → packed s x e ≡ d → (g : Bool) → unpackable s ci x e ≡ g → (r : Unpacked) → cellAt (unpackedIn s x e) (cellInside s row column) ≡ r →
+            RightBits s ci row column e
+        by false k g l r m =
             record {
               stored = λ h. rw (i, j, k) (value-bits s b (element s e .kind) (placeIn s x row column e));
               fill = λ h. absurd (omega (arith, rw (i, j, k) at h));
+              unpacked = λ h. absurd (omega (arith, rw (i, j, k) at h));
             }
+        by true k false l r m =
+            record {
+              stored = λ h. absurd (omega (arith, rw (i, j, k, l) at h));
+              fill = λ h. absurd (omega (arith, rw (i, j, k, l) at h));
+              unpacked = λ h. absurd (omega (arith, rw (i, j, k, l) at h));
+            }
+        by true k true l out.Malformed m =
+            record {
+              stored = λ h. absurd (omega (arith, rw (i, j, k, l, m) at h));
+              fill = λ h. absurd (omega (arith, rw (i, j, k, l, m) at h));
+              unpacked = λ h. absurd (omega (arith, rw (i, j, k, l, m) at h));
+            }
+        by true k true l (out.Cell v) m =
+            record {
+              stored = λ h. absurd (omega (arith, rw (i, j, k, l, m) at h));
+              fill = λ h. absurd (omega (arith, rw (i, j, k, l, m) at h));
+              unpacked = λ h. rw (i, j, k, l, m) (unpacked-bits s x e (cellInside s row column) v m);
+            }
+
+-- what the compressor index changes
+
+pub old-reads : OldReads
+unfolding cellIn packedCell
+old-reads s ci x row column e h = rw (← above-bytes s ci x e h)
+
+pub content-stays : ContentStays
+unfolding contentIn
+content-stays s x e p = rw p
+
+pub unpacked-where : UnpackedWhere
+unfolding cellIn packedCell storedAt
+unpacked-where s ci x row column e = go (packed s x e) refl (unpackable s ci x e) refl (cellAt (unpackedIn s x e) (cellInside s row column)) refl
+  where
+    go :
+        (d : Bool) → packed s x e ≡ d → (g : Bool) → unpackable s ci x e ≡ g → (r : Unpacked) → cellAt (unpackedIn s x e) (cellInside s row column) ≡ r →
+        OnlyPacked s ci x row column e
+    go false k g l r m =
+        record {
+          unpacked = λ v place h. absurd (omega (arith, ap cellKind (rw k at h)));
+          malformed = λ y h. absurd (omega (arith, ap cellKind (rw k at h)));
+        }
+    go true k false l r m =
+        record {
+          unpacked = λ v place h. absurd (omega (arith, ap cellKind (rw (k, l) at h)));
+          malformed = λ y h. absurd (omega (arith, ap cellKind (rw (k, l) at h)));
+        }
+    go true k true l out.Malformed m =
+        record {
+          unpacked = λ v place h. absurd (omega (arith, ap cellKind (rw (k, l, m) at h)));
+          malformed = λ y h. (k, sym (ap cellPlace (rw (k, l, m) at h)));
+        }
+    go true k true l (out.Cell v) m =
+        record {
+          unpacked = λ w place h. (k, sym (ap cellPlace (rw (k, l, m) at h)));
+          malformed = λ y h. absurd (omega (arith, ap cellKind (rw (k, l, m) at h)));
+        }
+
+-- what is said of all cells of an element in a tile
+
+not-whole-cell : (x : Cells) (i : ℕ) → isWhole x ≡ false → cellAt x i ≡ out.Malformed
+unfolding isWhole cellAt
+not-whole-cell (cells vs) i e = not-both refl e
+not-whole-cell malformed i e = refl
+
+in-at : (s : List ℕ) (x e : ℕ) → unpackedIn s x e ≡ unpackedAt s e (elementContentAt s x e)
+unfolding unpackedIn elementContentAt sectionLength
+in-at s x e = let z : sectionAt s x e + 4 - 4 ≡ sectionAt s x e = omega arith in rw z
+
+content-long : (s : List ℕ) (x e : ℕ) → isWhole (unpackedIn s x e) ≡ true → length (cellsIn (unpackedAt s e (elementContentAt s x e))) ≡ tileRows s * tileColumns s
+content-long s x e w = whole-long _ (tileRows s) (tileColumns s) _ (ap isWhole (sym (in-at s x e)) ∙ w)
+
+pub held-each : HeldEach
+unfolding meaning cellBy heldMeaning tileBy fillOf cellIn packedCell storedAt heldIn placeIn offsetIn cellInside
+held-each s b a ci row column e g = go (meant s (cellTile s row column)) refl
+  where
+    d : Sides s
+    d = sides-mean s (check-lawful s a)
+
+    k : (row < gridRows s) × ((column < gridColumns s) × (e < elementCount s))
+    k = grid-means s row column e g
+
+    i : inTiles s (cellTile s row column) e ≡ true
+    i = sym (tiles-in s (cellTile s row column) e _ _ refl refl (tile-less s row column (omega (arith, d .tile-rows .0)) (omega (arith, d .tile-columns .0)) (k .0) (k .1 .0)) (k .1 .1))
+
+    n : ℕ
+    n = cellInside s row column
+
+    few : n < tileRows s * tileColumns s
+    few = inside-less (tileRows s) (tileColumns s) row column (omega (arith, d .tile-rows .0)) (omega (arith, d .tile-columns .0))
+
+    neither : (m : ℕ) {C : Type 0} → (m ≡ 32 → ⊥) → (m ≡ 34 → ⊥) → (m ≡ 32) ⊎ (m ≡ 34) → C
+    neither m f h = ⊎-elim (λ x. absurd (f x)) (λ x. absurd (h x))
+
+    by :
+        (x : ℕ) → (p : Bool) → packed s x e ≡ p → (q : Bool) → unpackable s ci x e ≡ q → (w : Bool) → isWhole (unpackedIn s x e) ≡ w →
+        meant s (cellTile s row column) ≡ At x → EachCell s ci row column e (heldMeaning s ci (cellTile s row column) e)
+    by x false ep q eq w ew j =
+        record {
+          kind = rw (g, i, j, ep);
+          bits = λ h. rw (g, i, j, ep) (value-bits s b (element s e .kind) _ ∙ sym (stored-cell s (element s e .kind) (elementContentAt s x e) (tileRows s * tileColumns s) n few));
+        }
+    by x true ep false eq w ew j = record { kind = rw (g, i, j, ep, eq); bits = λ h. neither 11 (λ y. omega arith) (λ y. omega arith) (rw (i, j, ep, eq) at h) }
+    by x true ep true eq false ew j =
+        let m = not-whole-cell (unpackedIn s x e) n ew in
+        record { kind = rw (g, i, j, ep, eq, ew, m); bits = λ h. neither 14 (λ y. omega arith) (λ y. omega arith) (rw (i, j, ep, eq, ew) at h) }
+    by x true ep true eq true ew j =
+        let m = whole-cell (unpackedIn s x e) n ew in
+        record { kind = rw (g, i, j, ep, eq, ew, m); bits = λ h. rw (g, i, j, ep, eq, ew, m) (unpacked-bits s x e n _ m) }
+
+    go : (f : Found) → meant s (cellTile s row column) ≡ f → EachCell s ci row column e (heldMeaning s ci (cellTile s row column) e)
+    go Nothing j = record { kind = rw (g, i, j); bits = λ h. neither 33 (λ y. omega arith) (λ y. omega arith) (rw (i, j) at h) }
+    go (At x) j = by x (packed s x e) refl (unpackable s ci x e) refl (isWhole (unpackedIn s x e)) refl j
+
+pub held-counted : HeldCounted
+unfolding heldMeaning tileBy heldIn
+held-counted s ci tile e = go (inTiles s tile e) refl (meant s tile) refl
+  where
+    by :
+        (x : ℕ) → (p : Bool) → packed s x e ≡ p → (q : Bool) → unpackable s ci x e ≡ q → (w : Bool) → isWhole (unpackedIn s x e) ≡ w →
+        inTiles s tile e ≡ true → meant s tile ≡ At x → length (heldBits s e (heldMeaning s ci tile e)) ≡ heldCount s (heldMeaning s ci tile e)
+    by x false ep q eq w ew i j = rw (i, j, ep) (stored-long s (element s e .kind) (elementContentAt s x e) (tileRows s * tileColumns s))
+    by x true ep false eq w ew i j = rw (i, j, ep, eq)
+    by x true ep true eq false ew i j = rw (i, j, ep, eq, ew)
+    by x true ep true eq true ew i j = rw (i, j, ep, eq, ew) (content-long s x e ew)
+
+    go : (b : Bool) → inTiles s tile e ≡ b → (f : Found) → meant s tile ≡ f → length (heldBits s e (heldMeaning s ci tile e)) ≡ heldCount s (heldMeaning s ci tile e)
+    go false i f j = rw i
+    go true i Nothing j = rw (i, j)
+    go true i (At x) j = by x (packed s x e) refl (unpackable s ci x e) refl (isWhole (unpackedIn s x e)) refl i j

@@ -16,6 +16,8 @@ use Rattle.answer.specs.declared.Cell.{Cell}
 use Rattle.answer.specs.declared.Cell.the-variants as cell
 use Rattle.answer.specs.declared.Content.{Content}
 use Rattle.answer.specs.declared.Content.the-variants as content
+use Rattle.answer.specs.declared.Held.{Held}
+use Rattle.answer.specs.declared.Held.the-variants as held
 use Rattle.answer.specs.Answers.{contentPlace, contentLength}
 use Rattle.answer.proofs.VerdictLaws.{behind-passed, refusal-handed, answer-behind, same-behind}
 use Rattle.record.specs.declared.Cursor.{Cursor}
@@ -40,12 +42,13 @@ use Rattle.page_check.proofs.GivenLaws.{obeys-one}
 use Rattle.cells.specs.declared.Route.{Route}
 use Rattle.cells.specs.declared.Route.the-variants as route
 use Rattle.cells.specs.Asked.{inGrid, inTiles}
-use Rattle.cells.specs.Routes.{carries, meant, referredTo, walkedTo, cellBy, contentBy, foundBy}
-use Rattle.cells.specs.Meaning.{meaning, contentMeaning}
-use Rattle.cells.specs.Reads.{readByDirectory, readByWalk, readByRecords, readMeaning, recordsMeaning, readContent}
-use Rattle.cells.specs.inner.Lookups.{sidesLawful, inReach, cellReached, contentReached, lookedUp, lookedUpContent}
+use Rattle.cells.specs.Routes.{carries, meant, referredTo, walkedTo, cellBy, tileBy, contentBy, foundBy}
+use Rattle.cells.specs.Meaning.{meaning, contentMeaning, heldMeaning}
+use Rattle.cells.specs.Reads.{readByDirectory, readByWalk, readByRecords, readMeaning, recordsMeaning, readContent, readHeld}
+use Rattle.cells.specs.inner.Lookups.{sidesLawful, inReach, reachedBy, cellReached, lookedUp, lookedTile, lookedUpContent, lookedUpHeld}
+use Rattle.cells.specs.TileCells.{contentOf, heldOf}
 use Rattle.cells.proofs.CellLaws.{sides-mean, grid-means, tiles-mean}
-use Rattle.cells.proofs.RouteLaws.{walk-finds, directory-finds, meant-is, cell-same, content-same}
+use Rattle.cells.proofs.RouteLaws.{walk-finds, directory-finds, meant-is, cell-same, tile-same}
 
 -- the record that the directory gives
 
@@ -97,34 +100,34 @@ found-walked s w at i f p q = rw p q
 
 -- what a look-up answers, by its tests
 
-module _ (s : List ℕ) (way : ℕ → Found) (row column e : ℕ) (b : Bool) (p : b ≡ inGrid s row column e) where
-  pub looked-outside : b ≡ false → cell.Refused OutsideGrid ≡ lookedUp s way row column e
+module _ (s : List ℕ) (way : ℕ → Found) (ci row column e : ℕ) (b : Bool) (p : b ≡ inGrid s row column e) where
+  pub looked-outside : b ≡ false → cell.Refused OutsideGrid ≡ lookedUp s ci way row column e
   unfolding lookedUp
   looked-outside f = rw (← p, f)
 
   module _ (c : Bool) (q : c ≡ sidesLawful s) (f : b ≡ true) where
-    pub looked-unlawful : c ≡ false → cell.Refused Directory ≡ lookedUp s way row column e
+    pub looked-unlawful : c ≡ false → cell.Refused Directory ≡ lookedUp s ci way row column e
     unfolding lookedUp
     looked-unlawful g = rw (← p, f, ← q, g)
 
     pub looked-found :
-        (i : ℕ) (g : Found) (x : Cell) → c ≡ true → i ≡ cellTile s row column → g ≡ way i → x ≡ cellReached s row column e g → x ≡ lookedUp s way row column e
+        (i : ℕ) (g : Found) (x : Cell) → c ≡ true → i ≡ cellTile s row column → g ≡ way i → x ≡ cellReached s ci row column e g → x ≡ lookedUp s ci way row column e
     unfolding lookedUp
     looked-found i g x h t m k = rw (← p, f, ← q, h, ← t, ← m) k
 
-module _ (s : List ℕ) (way : ℕ → Found) (tile e : ℕ) (b : Bool) (p : b ≡ inTiles s tile e) where
-  pub content-outside : b ≡ false → content.Refused OutsideGrid ≡ lookedUpContent s way tile e
-  unfolding lookedUpContent
-  content-outside f = rw (← p, f)
+module _ {A : Type 0} (refused : Refusal → A) (said : Found → A) (s : List ℕ) (way : ℕ → Found) (tile e : ℕ) (b : Bool) (p : b ≡ inTiles s tile e) where
+  pub tile-outside : b ≡ false → refused OutsideGrid ≡ lookedTile refused said s way tile e
+  unfolding lookedTile
+  tile-outside f = rw (← p, f)
 
   module _ (c : Bool) (q : c ≡ sidesLawful s) (f : b ≡ true) where
-    pub content-unlawful : c ≡ false → content.Refused Directory ≡ lookedUpContent s way tile e
-    unfolding lookedUpContent
-    content-unlawful g = rw (← p, f, ← q, g)
+    pub tile-unlawful : c ≡ false → refused Directory ≡ lookedTile refused said s way tile e
+    unfolding lookedTile
+    tile-unlawful g = rw (← p, f, ← q, g)
 
-    pub content-looked : (i : ℕ) (g : Found) (x : Content) → c ≡ true → i ≡ tile → g ≡ way i → x ≡ contentReached s e g → x ≡ lookedUpContent s way tile e
-    unfolding lookedUpContent
-    content-looked i g x h t m k = rw (← p, f, ← q, h, ← t, ← m) k
+    pub tile-looked : (i : ℕ) (g : Found) (x : A) → c ≡ true → i ≡ tile → g ≡ way i → x ≡ reachedBy refused said s g → x ≡ lookedTile refused said s way tile e
+    unfolding lookedTile
+    tile-looked i g x h t m k = rw (← p, f, ← q, h, ← t, ← m) k
 
 -- where the sides are lawful and a way finds what is meant, a look-up by it is the meaning
 
@@ -136,21 +139,17 @@ reach-meant s i = go (meant s i) refl
     go (At x) e = sym (yes _ (omega (arith, meant-is s i x e .inside), tt))
 
 module _ (s : List ℕ) (way : ℕ → Found) (lawful : sidesLawful s ≡ true) (finds : (i : ℕ) → i < tileCount s → way i ≡ meant s i) where
-  pub way-means : (row column e : ℕ) → cellBy s way row column e ≡ meaning s row column e
+  pub way-means : (ci row column e : ℕ) → cellBy s ci way row column e ≡ meaning s ci row column e
   unfolding meaning
-  way-means row column e =
+  way-means ci row column e =
       let d = sides-mean s lawful in
-      cell-same s way (meant s) finds row column e (omega (arith, d .tile-rows .0)) (omega (arith, d .tile-columns .0))
+      cell-same s way (meant s) finds ci row column e (omega (arith, d .tile-rows .0)) (omega (arith, d .tile-columns .0))
 
-  pub content-way-means : (tile e : ℕ) → contentBy s way tile e ≡ contentMeaning s tile e
-  unfolding contentMeaning
-  content-way-means tile e = content-same s way (meant s) finds tile e
-
-  pub looked-means : (row column e : ℕ) → lookedUp s way row column e ≡ meaning s row column e
-  unfolding lookedUp cellReached meaning cellBy
-  looked-means row column e = go (inGrid s row column e) refl
+  pub looked-means : (ci row column e : ℕ) → lookedUp s ci way row column e ≡ meaning s ci row column e
+  unfolding lookedUp reachedBy meaning cellBy
+  looked-means ci row column e = go (inGrid s row column e) refl
     where
-      go : (b : Bool) → inGrid s row column e ≡ b → lookedUp s way row column e ≡ cellBy s (meant s) row column e
+      go : (b : Bool) → inGrid s row column e ≡ b → lookedUp s ci way row column e ≡ cellBy s ci (meant s) row column e
       go true f =
           let g = grid-means s row column e f in
           let d = sides-mean s lawful in
@@ -158,13 +157,21 @@ module _ (s : List ℕ) (way : ℕ → Found) (lawful : sidesLawful s ≡ true) 
           rw (f, lawful, finds (cellTile s row column) t, reach-meant s (cellTile s row column))
       go false f = rw f
 
-  pub content-looked-means : (tile e : ℕ) → lookedUpContent s way tile e ≡ contentMeaning s tile e
-  unfolding lookedUpContent contentReached contentMeaning contentBy
-  content-looked-means tile e = go (inTiles s tile e) refl
+  pub tile-looked-means : {A : Type 0} (refused : Refusal → A) (said : Found → A) (tile e : ℕ) → lookedTile refused said s way tile e ≡ tileBy refused said s (meant s) tile e
+  unfolding lookedTile reachedBy tileBy
+  tile-looked-means refused said tile e = go (inTiles s tile e) refl
     where
-      go : (b : Bool) → inTiles s tile e ≡ b → lookedUpContent s way tile e ≡ contentBy s (meant s) tile e
+      go : (b : Bool) → inTiles s tile e ≡ b → lookedTile refused said s way tile e ≡ tileBy refused said s (meant s) tile e
       go true f = rw (f, lawful, finds tile (tiles-mean s tile e f .0), reach-meant s tile)
       go false f = rw f
+
+  pub content-way-means : (tile e : ℕ) → contentBy s way tile e ≡ contentMeaning s tile e
+  unfolding contentMeaning
+  content-way-means tile e = tile-same s way (meant s) finds content.Refused (contentOf s e) tile e
+
+  pub content-looked-means : (tile e : ℕ) → lookedUpContent s way tile e ≡ contentMeaning s tile e
+  unfolding contentMeaning
+  content-looked-means tile e = tile-looked-means content.Refused (contentOf s e) tile e
 
 -- lawful sides, from the check
 
@@ -190,49 +197,61 @@ accepted-finds s a i h = directory-finds s (obeys-one s (records s) (accepted-ob
 pub walked-finds : (s : List ℕ) (i : ℕ) → i < tileCount s → walkedTo s (headerEnd s) i ≡ meant s i
 walked-finds s i h = walk-finds s i
 
-module _ (s : List ℕ) (at row column e : ℕ) (x : Cell) where
-  pub looked-directory : x ≡ lookedUp s (foundBy s (route.Directory at)) row column e → at ≡ tileDirectoryAt s → x ≡ lookedUp s (referredTo s (tileDirectoryAt s)) row column e
+module _ (s : List ℕ) (at ci row column e : ℕ) (x : Cell) where
+  pub looked-directory : x ≡ lookedUp s ci (foundBy s (route.Directory at)) row column e → at ≡ tileDirectoryAt s → x ≡ lookedUp s ci (referredTo s (tileDirectoryAt s)) row column e
   unfolding foundBy
   looked-directory p q = p ∙ rw q
 
-  pub directory-answer : x ≡ lookedUp s (foundBy s (route.Directory at)) row column e → at ≡ tileDirectoryAt s → check s ≡ Accepted → x ≡ meaning s row column e
-  directory-answer p q a = looked-directory p q ∙ looked-means s _ (check-lawful s a) (accepted-finds s a) row column e
+  pub directory-answer : x ≡ lookedUp s ci (foundBy s (route.Directory at)) row column e → at ≡ tileDirectoryAt s → check s ≡ Accepted → x ≡ meaning s ci row column e
+  directory-answer p q a = looked-directory p q ∙ looked-means s _ (check-lawful s a) (accepted-finds s a) ci row column e
 
-  pub walk-answer : x ≡ lookedUp s (foundBy s (route.Walk at)) row column e → at ≡ headerEnd s → sidesLawful s ≡ true → x ≡ meaning s row column e
+  pub walk-answer : x ≡ lookedUp s ci (foundBy s (route.Walk at)) row column e → at ≡ headerEnd s → sidesLawful s ≡ true → x ≡ meaning s ci row column e
   unfolding foundBy
-  walk-answer p q l = p ∙ rw q (looked-means s _ l (walked-finds s) row column e)
+  walk-answer p q l = p ∙ rw q (looked-means s _ l (walked-finds s) ci row column e)
+
+pub tile-answer :
+    {A : Type 0} (refused : Refusal → A) (said : Found → A) (s : List ℕ) (at tile e : ℕ) (x : A) → x ≡ lookedTile refused said s (foundBy s (route.Directory at)) tile e →
+    at ≡ tileDirectoryAt s → check s ≡ Accepted → x ≡ tileBy refused said s (meant s) tile e
+unfolding foundBy
+tile-answer refused said s at tile e x p q a = p ∙ rw q (tile-looked-means s _ (check-lawful s a) (accepted-finds s a) refused said tile e)
 
 pub content-answer :
     (s : List ℕ) (at tile e : ℕ) (x : Content) → x ≡ lookedUpContent s (foundBy s (route.Directory at)) tile e → at ≡ tileDirectoryAt s → check s ≡ Accepted →
     x ≡ contentMeaning s tile e
-unfolding foundBy
-content-answer s at tile e x p q a = p ∙ rw q (content-looked-means s _ (check-lawful s a) (accepted-finds s a) tile e)
+unfolding contentMeaning
+content-answer s at tile e x p q a = tile-answer content.Refused (contentOf s e) s at tile e x p q a
+
+pub held-answer :
+    (s : List ℕ) (ci at tile e : ℕ) (x : Held) → x ≡ lookedUpHeld s ci (foundBy s (route.Directory at)) tile e → at ≡ tileDirectoryAt s → check s ≡ Accepted →
+    x ≡ heldMeaning s ci tile e
+unfolding heldMeaning
+held-answer s ci at tile e x p q a = tile-answer held.Refused (heldOf s ci e) s at tile e x p q a
 
 -- each read is the check's refusal or the meaning, on any bytes
 
-module _ (s : List ℕ) (row column e : ℕ) where
-  pub directory-read : readByDirectory s row column e ≡ readMeaning s row column e
+module _ (s : List ℕ) (ci row column e : ℕ) where
+  pub directory-read : readByDirectory s ci row column e ≡ readMeaning s ci row column e
   unfolding readByDirectory readMeaning
-  directory-read = same-behind cell.Refused (check s) _ _ (λ a. way-means s _ (check-lawful s a) (accepted-finds s a) row column e)
+  directory-read = same-behind cell.Refused (check s) _ _ (λ a. way-means s _ (check-lawful s a) (accepted-finds s a) ci row column e)
 
-  pub walk-read : readByWalk s row column e ≡ readMeaning s row column e
+  pub walk-read : readByWalk s ci row column e ≡ readMeaning s ci row column e
   unfolding readByWalk readMeaning
-  walk-read = same-behind cell.Refused (check s) _ _ (λ a. way-means s _ (check-lawful s a) (walked-finds s) row column e)
+  walk-read = same-behind cell.Refused (check s) _ _ (λ a. way-means s _ (check-lawful s a) (walked-finds s) ci row column e)
 
-  pub records-read : readByRecords s row column e ≡ recordsMeaning s row column e
+  pub records-read : readByRecords s ci row column e ≡ recordsMeaning s ci row column e
   unfolding readByRecords recordsMeaning
-  records-read = same-behind cell.Refused (checkToBodies s) _ _ (λ a. way-means s _ (bodies-lawful s a) (walked-finds s) row column e)
+  records-read = same-behind cell.Refused (checkToBodies s) _ _ (λ a. way-means s _ (bodies-lawful s a) (walked-finds s) ci row column e)
 
 -- a function that answers so
 
 module _ (s : List ℕ) (v : Verdict) (p : v ≡ check s) where
-  pub mean-refused : (row column e : ℕ) (x : Refusal) → v ≡ Refused x → cell.Refused x ≡ readMeaning s row column e
+  pub mean-refused : (ci row column e : ℕ) (x : Refusal) → v ≡ Refused x → cell.Refused x ≡ readMeaning s ci row column e
   unfolding readMeaning
-  mean-refused row column e x f = refusal-handed cell.Refused v (check s) p _ x f
+  mean-refused ci row column e x f = refusal-handed cell.Refused v (check s) p _ x f
 
-  pub mean-answer : (row column e : ℕ) (x : Cell) → v ≡ Accepted → (check s ≡ Accepted → x ≡ meaning s row column e) → x ≡ readMeaning s row column e
+  pub mean-answer : (ci row column e : ℕ) (x : Cell) → v ≡ Accepted → (check s ≡ Accepted → x ≡ meaning s ci row column e) → x ≡ readMeaning s ci row column e
   unfolding readMeaning
-  mean-answer row column e x f g = answer-behind cell.Refused v (check s) p _ x f g
+  mean-answer ci row column e x f g = answer-behind cell.Refused v (check s) p _ x f g
 
   pub content-refused : (tile e : ℕ) (x : Refusal) → v ≡ Refused x → content.Refused x ≡ readContent s tile e
   unfolding readContent
@@ -242,26 +261,34 @@ module _ (s : List ℕ) (v : Verdict) (p : v ≡ check s) where
   unfolding readContent
   content-mean tile e x f g = answer-behind content.Refused v (check s) p _ x f g
 
-module _ (s : List ℕ) (v : Verdict) (p : v ≡ checkToBodies s) (row column e : ℕ) where
-  pub bodies-refused : (x : Refusal) → v ≡ Refused x → cell.Refused x ≡ recordsMeaning s row column e
+  pub held-refused : (ci tile e : ℕ) (x : Refusal) → v ≡ Refused x → held.Refused x ≡ readHeld s ci tile e
+  unfolding readHeld
+  held-refused ci tile e x f = refusal-handed held.Refused v (check s) p _ x f
+
+  pub held-mean : (ci tile e : ℕ) (x : Held) → v ≡ Accepted → (check s ≡ Accepted → x ≡ heldMeaning s ci tile e) → x ≡ readHeld s ci tile e
+  unfolding readHeld
+  held-mean ci tile e x f g = answer-behind held.Refused v (check s) p _ x f g
+
+module _ (s : List ℕ) (v : Verdict) (p : v ≡ checkToBodies s) (ci row column e : ℕ) where
+  pub bodies-refused : (x : Refusal) → v ≡ Refused x → cell.Refused x ≡ recordsMeaning s ci row column e
   unfolding recordsMeaning
   bodies-refused x f = refusal-handed cell.Refused v (checkToBodies s) p _ x f
 
-  pub bodies-answer : (x : Cell) → v ≡ Accepted → (checkToBodies s ≡ Accepted → x ≡ meaning s row column e) → x ≡ recordsMeaning s row column e
+  pub bodies-answer : (x : Cell) → v ≡ Accepted → (checkToBodies s ≡ Accepted → x ≡ meaning s ci row column e) → x ≡ recordsMeaning s ci row column e
   unfolding recordsMeaning
   bodies-answer x f g = answer-behind cell.Refused v (checkToBodies s) p _ x f g
 
 -- by its route, and by the meaning
 
-module _ (s : List ℕ) (row column e : ℕ) (x : Cell) where
-  pub both-directory : x ≡ readMeaning s row column e → (x ≡ readByDirectory s row column e) × (x ≡ readMeaning s row column e)
-  both-directory g = (g ∙ sym (directory-read s row column e), g)
+module _ (s : List ℕ) (ci row column e : ℕ) (x : Cell) where
+  pub both-directory : x ≡ readMeaning s ci row column e → (x ≡ readByDirectory s ci row column e) × (x ≡ readMeaning s ci row column e)
+  both-directory g = (g ∙ sym (directory-read s ci row column e), g)
 
-  pub both-walk : x ≡ readMeaning s row column e → (x ≡ readByWalk s row column e) × (x ≡ readMeaning s row column e)
-  both-walk g = (g ∙ sym (walk-read s row column e), g)
+  pub both-walk : x ≡ readMeaning s ci row column e → (x ≡ readByWalk s ci row column e) × (x ≡ readMeaning s ci row column e)
+  both-walk g = (g ∙ sym (walk-read s ci row column e), g)
 
-  pub both-records : x ≡ recordsMeaning s row column e → (x ≡ readByRecords s row column e) × (x ≡ recordsMeaning s row column e)
-  both-records g = (g ∙ sym (records-read s row column e), g)
+  pub both-records : x ≡ recordsMeaning s ci row column e → (x ≡ readByRecords s ci row column e) × (x ≡ recordsMeaning s ci row column e)
+  both-records g = (g ∙ sym (records-read s ci row column e), g)
 
 -- an element's content as a part of the file
 

@@ -12,6 +12,7 @@ use Rattle.wire.specs.Lists.{select}
 use Rattle.wire.proofs.TestLaws.{means, yes}
 use Rattle.wire.proofs.ListLaws.{select-member, member-select}
 use Rattle.header.specs.Fields.{tileRows, tileColumns}
+use Rattle.answer.specs.declared.Refusal.{Refusal}
 use Rattle.record.specs.declared.Found.{Found}
 use Rattle.record.specs.declared.Found.the-variants.{At, Nothing}
 use Rattle.record.specs.Chain.{starts, find, firstRecord, headerEnd, records, recordsOf}
@@ -23,7 +24,7 @@ use Rattle.bodies.specs.TileDirectory.{tileDirectoryAt, tileReference}
 use Rattle.bodies.specs.TileRecord.{tileIndex}
 use Rattle.check_directory.specs.Correspondence.{TileRecord, OneToOne}
 use Rattle.cells.specs.Asked.{inGrid, inTiles}
-use Rattle.cells.specs.Routes.{carries, recordsWith, firstOf, meant, referredTo, walkedTo, cellBy, contentBy}
+use Rattle.cells.specs.Routes.{carries, recordsWith, firstOf, meant, referredTo, walkedTo, cellBy, tileBy}
 use Rattle.cells.proofs.CellLaws.{grid-means, tiles-mean}
 
 -- the walk: the first record that carries the index is the first of those that do
@@ -110,22 +111,22 @@ module _ (s : List ℕ) (o : OneToOne s) (i : ℕ) (h : i < tileCount s) where
 -- two ways that find the same of each tile say the same of each cell and of each content
 
 module _ (s : List ℕ) (way other : ℕ → Found) (same : (i : ℕ) → i < tileCount s → way i ≡ other i) where
-  pub cell-same : (row column e : ℕ) → 0 < tileRows s → 0 < tileColumns s → cellBy s way row column e ≡ cellBy s other row column e
+  pub cell-same : (ci row column e : ℕ) → 0 < tileRows s → 0 < tileColumns s → cellBy s ci way row column e ≡ cellBy s ci other row column e
   unfolding cellBy
-  cell-same row column e h w = go (inGrid s row column e) refl
+  cell-same ci row column e h w = go (inGrid s row column e) refl
     where
       go :
           (b : Bool) → inGrid s row column e ≡ b →
-          cellBy s way row column e ≡ cellBy s other row column e
+          cellBy s ci way row column e ≡ cellBy s ci other row column e
       go true f =
           let g = grid-means s row column e f in
           rw (same (cellTile s row column) (tile-less s row column h w (g .0) (g .1 .0)))
       go false f = rw f
 
-  pub content-same : (tile e : ℕ) → contentBy s way tile e ≡ contentBy s other tile e
-  unfolding contentBy
-  content-same tile e = go (inTiles s tile e) refl
+  pub tile-same : {A : Type 0} (refused : Refusal → A) (said : Found → A) (tile e : ℕ) → tileBy refused said s way tile e ≡ tileBy refused said s other tile e
+  unfolding tileBy
+  tile-same refused said tile e = go (inTiles s tile e) refl
     where
-      go : (b : Bool) → inTiles s tile e ≡ b → contentBy s way tile e ≡ contentBy s other tile e
+      go : (b : Bool) → inTiles s tile e ≡ b → tileBy refused said s way tile e ≡ tileBy refused said s other tile e
       go true f = rw (same tile (tiles-mean s tile e f .0))
       go false f = rw f

@@ -1,5 +1,5 @@
 -- Demand 3, whole: on every accepted file both routes, and the walk without stage 9, give the one answer that the cell's meaning
--- fixes; two different stored cells never share a byte.
+-- fixes, whatever compressor index the caller names; two different stored cells never share a byte.
 use Prim.Native.Nat.{ℕ, _+_, _≤_}
 use mathlib.Core.Path.{_≡_}
 use mathlib.Core.List.{List}
@@ -18,21 +18,21 @@ use Rattle.cells.specs.Reads.{readByDirectory, readByWalk, readByRecords
 abbrev pub bytesOfCell : List ℕ → ℕ → ℕ
 bytesOfCell s e = cellSize (element s e .kind)
 
-pub record OneAnswer (s : List ℕ) : Type 0 where
-  pub by-directory : (row column e : ℕ) → readByDirectory s row column e ≡ meaning s row column e
-  pub by-walk : (row column e : ℕ) → readByWalk s row column e ≡ meaning s row column e
-  pub by-records : (row column e : ℕ) → readByRecords s row column e ≡ meaning s row column e
+pub record OneAnswer (s : List ℕ) (ci : ℕ) : Type 0 where
+  pub by-directory : (row column e : ℕ) → readByDirectory s ci row column e ≡ meaning s ci row column e
+  pub by-walk : (row column e : ℕ) → readByWalk s ci row column e ≡ meaning s ci row column e
+  pub by-records : (row column e : ℕ) → readByRecords s ci row column e ≡ meaning s ci row column e
   -- a stored cell's bytes lie in the file
-  pub inside : (row column e place : ℕ) (v : Value) → meaning s row column e ≡ Stored v place → place + bytesOfCell s e ≤ length s
+  pub inside : (row column e place : ℕ) (v : Value) → meaning s ci row column e ≡ Stored v place → place + bytesOfCell s e ≤ length s
   -- two stored cells are one cell, or one ends before the other starts
   pub apart :
       (row column e place : ℕ) (v : Value) (row2 column2 e2 place2 : ℕ) (v2 : Value) →
-      meaning s row column e ≡ Stored v place → meaning s row2 column2 e2 ≡ Stored v2 place2 →
+      meaning s ci row column e ≡ Stored v place → meaning s ci row2 column2 e2 ≡ Stored v2 place2 →
       ((row ≡ row2) × ((column ≡ column2) × (e ≡ e2)))
       ⊎ ((place + bytesOfCell s e ≤ place2) ⊎ (place2 + bytesOfCell s e2 ≤ place))
 
 abbrev pub Demand3 : Type 0
-Demand3 = (s : List ℕ) → check s ≡ Accepted → OneAnswer s
+Demand3 = (s : List ℕ) → check s ≡ Accepted → (ci : ℕ) → OneAnswer s ci
 
 -- beside it, of an element's content: where it is present, its bytes lie in the file
 abbrev pub ContentInside : Type 0

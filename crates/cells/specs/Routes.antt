@@ -7,11 +7,14 @@ use lib.Dec.{eqb}
 use Rattle.wire.specs.Pick.{pick}
 use Rattle.wire.specs.Tests.{_≡?_, passes}
 use Rattle.wire.specs.Lists.{select}
+use Rattle.answer.specs.declared.Refusal.{Refusal}
 use Rattle.answer.specs.declared.Refusal.the-variants.{OutsideGrid}
 use Rattle.answer.specs.declared.Cell.{Cell}
 use Rattle.answer.specs.declared.Cell.the-variants as cell
 use Rattle.answer.specs.declared.Content.{Content}
 use Rattle.answer.specs.declared.Content.the-variants as content
+use Rattle.answer.specs.declared.Held.{Held}
+use Rattle.answer.specs.declared.Held.the-variants as held
 use Rattle.record.specs.declared.Found.{Found}
 use Rattle.record.specs.declared.Found.the-variants.{At, Nothing}
 use Rattle.record.specs.Record.{typeAt}
@@ -23,7 +26,7 @@ use Rattle.bodies.specs.TileRecord.{tileIndex}
 use Rattle.cells.specs.declared.Route.{Route}
 use Rattle.cells.specs.declared.Route.the-variants.{Directory, Walk}
 use Rattle.cells.specs.Asked.{inGrid, inTiles}
-use Rattle.cells.specs.TileCells.{cellOf, contentOf}
+use Rattle.cells.specs.TileCells.{cellOf, contentOf, heldOf}
 
 -- a tile record that carries the index i
 unfoldable pub carries : List ℕ → ℕ → ℕ → Bool
@@ -56,10 +59,18 @@ foundBy s (Directory at) = referredTo s at
 foundBy s (Walk at) = walkedTo s at
 
 -- a cell, by a way: outside the grid it is 10, place 0
-unfoldable pub cellBy : List ℕ → (ℕ → Found) → ℕ → ℕ → ℕ → Cell
-cellBy s way row column e =
-    pick (inGrid s row column e) (cellOf s row column e (way (cellTile s row column))) (cell.Refused OutsideGrid)
+unfoldable pub cellBy : List ℕ → ℕ → (ℕ → Found) → ℕ → ℕ → ℕ → Cell
+cellBy s ci way row column e =
+    pick (inGrid s row column e) (cellOf s ci row column e (way (cellTile s row column))) (cell.Refused OutsideGrid)
 
--- an element's content in a tile, by a way
-unfoldable pub contentBy : List ℕ → (ℕ → Found) → ℕ → ℕ → Content
-contentBy s way tile e = pick (inTiles s tile e) (contentOf s e (way tile)) (content.Refused OutsideGrid)
+-- what is said of an element in a tile, by a way, as the kind of answer that is asked for: where there is no such, 10, place 0
+unfoldable pub tileBy : {A : Type 0} → (Refusal → A) → (Found → A) → List ℕ → (ℕ → Found) → ℕ → ℕ → A
+tileBy refused said s way tile e = pick (inTiles s tile e) (said (way tile)) (refused OutsideGrid)
+
+-- its content
+abbrev pub contentBy : List ℕ → (ℕ → Found) → ℕ → ℕ → Content
+contentBy s way tile e = tileBy content.Refused (contentOf s e) s way tile e
+
+-- and all its cells
+abbrev pub heldBy : List ℕ → ℕ → (ℕ → Found) → ℕ → ℕ → Held
+heldBy s ci way tile e = tileBy held.Refused (heldOf s ci e) s way tile e

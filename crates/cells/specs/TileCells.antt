@@ -1,22 +1,30 @@
 -- Document 01, 'Finding a cell': what a tile record says of a cell or of an element's content, and what is said where the tile has none.
-use Prim.Native.Nat.{ℕ, _+_}
-use mathlib.Core.List.{List, [], _∷_}
+use Prim.Native.Nat.{ℕ, _+_, _-_, _*_}
+use mathlib.Core.List.{List, [], _∷_, map}
 use mathlib.Core.Bool.{Bool}
 use Rattle.wire.specs.Pick.{pick}
-use Rattle.wire.specs.Tests.{_≤?_, passes}
-use Rattle.wire.specs.Bytes.{numberAt}
+use lib.Dec.{eqb}
+use Rattle.wire.specs.Tests.{_≤?_, _≡?_, _≢?_, passes}
+use Rattle.wire.specs.Lists.{below}
+use Rattle.wire.specs.Bytes.{byteAt, part, u32At, numberAt}
 use Rattle.answer.specs.declared.Refusal.the-variants as refusal
 use Rattle.answer.specs.declared.Cell.{Cell}
 use Rattle.answer.specs.declared.Cell.the-variants as cell
 use Rattle.answer.specs.declared.Content.{Content}
 use Rattle.answer.specs.declared.Content.the-variants as content
+use Rattle.answer.specs.declared.Held.{Held}
+use Rattle.answer.specs.declared.Held.the-variants as held
 use Rattle.answer.specs.Values.{valueOf}
-use Rattle.header.specs.Element.{cellSize, element}
+use Rattle.header.specs.Fields.{tileRows, tileColumns}
+use Rattle.header.specs.Element.{floatKind, shortKind, cellSize, element}
 use Rattle.record.specs.declared.Found.{Found}
 use Rattle.record.specs.declared.Found.the-variants.{At, Nothing}
 use Rattle.geometry.specs.Tiles.{cellInside}
 use Rattle.geometry.specs.Sizes.{cellOffset, elementBytes}
 use Rattle.bodies.specs.TileRecord.{sectionLength, elementContentAt}
+use Rattle.unpack.specs.declared.Unpacked.{Unpacked}
+use Rattle.unpack.specs.declared.Unpacked.the-variants as out
+use Rattle.unpack.specs.Unpack.{Cells, unpacked, cellAt, cellsIn, isWhole}
 
 -- a cell of an absent tile: the element's fill, as it stands
 unfoldable pub fillOf : List ℕ → ℕ → Cell
@@ -37,11 +45,31 @@ placeIn s x row column e = elementContentAt s x e + offsetIn s row column e
 unfoldable pub storedAt : List ℕ → ℕ → ℕ → Cell
 storedAt s e place = cell.Stored (valueOf (element s e .kind) (numberAt (cellSize (element s e .kind)) s place)) place
 
--- the cell, as the tile record at x has it: compressed is 11 at the record's start, else it is stored, even if its bits are the
--- fill's
-unfoldable pub cellIn : List ℕ → ℕ → ℕ → ℕ → ℕ → Cell
-cellIn s x row column e =
-    pick (packed s x e) (cell.Refused (refusal.Compressed x)) (storedAt s e (placeIn s x row column e))
+-- Req 01: the caller names the compressor index `ci`. A compressed content is unpacked where its first byte, the compressor index
+-- (G 6), is that one, and the element is no Float
+unfoldable pub unpackable : List ℕ → ℕ → ℕ → ℕ → Bool
+unpackable s ci x e = passes ((ci ≤? 255) ∷ (byteAt s (elementContentAt s x e) ≡? ci) ∷ (element s e .kind ≢? floatKind) ∷ [])
+
+-- what its L bytes hold
+unfoldable pub unpackedIn : List ℕ → ℕ → ℕ → Cells
+unpackedIn s x e = unpacked (part s (elementContentAt s x e) (sectionLength s x e)) (tileRows s) (tileColumns s) (eqb (element s e .kind) shortKind)
+
+-- the cell that comes out, whose place is the start of its element's content; malformed content is 14 at the record's start
+abbrev pub unpackedCell : ℕ → ℕ → ℕ → Unpacked → Cell
+unpackedCell kind x place (out.Cell bits) = cell.Unpacked (valueOf kind bits) place
+unpackedCell kind x place out.Malformed = cell.Refused (refusal.Malformed x)
+
+-- any other index, or a Float element, 'is still 11', at the record's start
+unfoldable pub packedCell : List ℕ → ℕ → ℕ → ℕ → ℕ → ℕ → Cell
+packedCell s ci x row column e =
+    pick (unpackable s ci x e)
+    (unpackedCell (element s e .kind) x (elementContentAt s x e) (cellAt (unpackedIn s x e) (cellInside s row column)))
+    (cell.Refused (refusal.Compressed x))
+
+-- the cell, as the tile record at x has it: compressed as above, else it is stored, even if its bits are the fill's
+unfoldable pub cellIn : List ℕ → ℕ → ℕ → ℕ → ℕ → ℕ → Cell
+cellIn s ci x row column e =
+    pick (packed s x e) (packedCell s ci x row column e) (storedAt s e (placeIn s x row column e))
 
 -- the uncompressed content of element e there: its U bytes
 unfoldable pub contentIn : List ℕ → ℕ → ℕ → Content
@@ -49,11 +77,45 @@ contentIn s x e =
     pick (packed s x e) (content.Refused (refusal.Compressed x)) (content.Present (elementContentAt s x e) (elementBytes s e))
 
 -- what a tile says of a cell: by its record where one was found, and else by the fill
-abbrev pub cellOf : List ℕ → ℕ → ℕ → ℕ → Found → Cell
-cellOf s row column e Nothing = fillOf s e
-cellOf s row column e (At x) = cellIn s x row column e
+abbrev pub cellOf : List ℕ → ℕ → ℕ → ℕ → ℕ → Found → Cell
+cellOf s ci row column e Nothing = fillOf s e
+cellOf s ci row column e (At x) = cellIn s ci x row column e
 
 -- and of an element's content
 abbrev pub contentOf : List ℕ → ℕ → Found → Content
 contentOf s e Nothing = content.Absent
 contentOf s e (At x) = contentIn s x e
+
+-- what the compressed content at a place holds: its L bytes, which stand behind L
+abbrev pub unpackedAt : List ℕ → ℕ → ℕ → Cells
+unpackedAt s e place = unpacked (part s place (u32At s (place - 4))) (tileRows s) (tileColumns s) (eqb (element s e .kind) shortKind)
+
+-- Req 01: all cells of element e, as the tile record at x has them, and what is said where the tile has none
+unfoldable pub heldIn : List ℕ → ℕ → ℕ → ℕ → Held
+heldIn s ci x e =
+    pick (packed s x e)
+    (pick (unpackable s ci x e)
+    (pick (isWhole (unpackedIn s x e)) (held.Unpacked (elementContentAt s x e)) (held.Refused (refusal.Malformed x)))
+    (held.Refused (refusal.Compressed x)))
+    (held.Stored (elementContentAt s x e))
+
+abbrev pub heldOf : List ℕ → ℕ → ℕ → Found → Held
+heldOf s ci e Nothing = held.Absent
+heldOf s ci e (At x) = heldIn s ci x e
+
+-- their bits, row by row: those of the stored cells one behind the other, or those that the content holds
+unfoldable pub storedBits : List ℕ → ℕ → ℕ → ℕ → List ℕ
+storedBits s kind at n = map (λ i. numberAt (cellSize kind) s (at + cellOffset kind i)) (below n)
+
+abbrev pub heldBits : List ℕ → ℕ → Held → List ℕ
+heldBits s e (held.Stored at) = storedBits s (element s e .kind) at (tileRows s * tileColumns s)
+heldBits s e (held.Unpacked at) = cellsIn (unpackedAt s e at)
+heldBits s e held.Absent = []
+heldBits s e (held.Refused r) = []
+
+-- and how many there are
+abbrev pub heldCount : List ℕ → Held → ℕ
+heldCount s (held.Stored at) = tileRows s * tileColumns s
+heldCount s (held.Unpacked at) = tileRows s * tileColumns s
+heldCount s held.Absent = 0
+heldCount s (held.Refused r) = 0

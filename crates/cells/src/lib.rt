@@ -1,5 +1,6 @@
 // Cells: what one means, the routes to its tile's record, the reader of a record, and an element's content.
 pub mod asked;
+mod held;
 pub mod lookups;
 pub mod reads;
 pub mod routes;

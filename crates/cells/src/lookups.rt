@@ -2,16 +2,20 @@
 // nowhere; on an accepted file, from the positions that its bytes give, it is the cell's meaning.
 use crate::Route;
 use crate::asked;
+use crate::held;
 use crate::routes;
 use crate::tile_cells;
 use answer::Cell;
 use answer::Content;
+use answer::Held;
 use answer::Refusal;
 use check_header::ceilings;
 use check_header::header_record;
 use geometry::tiles;
 ghost use mathlib.Core.Path.{_≡_};
-ghost use Rattle.cells.specs.inner.Lookups.{sidesLawful, lookedUp, lookedUpContent};
+ghost use Rattle.cells.specs.inner.Lookups.{sidesLawful, lookedUp, lookedUpContent, lookedUpHeld};
+ghost use Rattle.wire.specs.Bytes.{put};
+ghost use Rattle.cells.specs.TileCells.{heldBits};
 ghost use Rattle.cells.specs.Routes.{foundBy};
 
 // The sides keep stages 3 and 4.
@@ -25,14 +29,21 @@ fn sides_lawful(s: &[u8]) -> bool
 }
 
 // A cell by a route.
-pub fn look_up(s: &[u8], route: Route, row: u64, column: u64, e: u64) -> Cell
-    ensures { λ r. ⌜ r ≡ lookedUp (now (s .entry)) (foundBy (now (s .entry)) route) row column e ⌝ }
+pub fn look_up(s: &[u8], compressor: u32, route: Route, row: u64, column: u64, e: u64) -> Cell
+    ensures { λ r. ⌜ r ≡ lookedUp (now (s .entry)) compressor (foundBy (now (s .entry)) route) row column e ⌝ }
 {
     if asked::in_grid(s, row, column, e) {
         if sides_lawful(s) {
             let tile = tiles::cell_tile(s, row as u32, column as u32) as u32;
             let found = routes::found_by(s, route, tile);
-            return tile_cells::cell_reached(s, found, row as u32, column as u32, e as u32);
+            return tile_cells::cell_reached(
+                s,
+                compressor,
+                found,
+                row as u32,
+                column as u32,
+                e as u32,
+            );
         }
         return Cell::Refused(Refusal::Directory);
     }
@@ -51,4 +62,26 @@ pub fn look_up_content(s: &[u8], route: Route, tile: u64, e: u64) -> Content
         return Content::Refused(Refusal::Directory);
     }
     Content::Refused(Refusal::OutsideGrid)
+}
+
+// All cells of an element in a tile, by a route.
+pub fn look_up_held(
+    s: &[u8],
+    compressor: u32,
+    route: Route,
+    tile: u64,
+    e: u64,
+    out: &mut [u32],
+) -> Held
+    ensures is { λ r. ⌜ r ≡ lookedUpHeld (now (s .entry)) compressor (foundBy (now (s .entry)) route) tile e ⌝ }
+    ensures holds { λ r. ⌜ now (out .exit) ≡ put (now (out .entry)) 0 (heldBits (now (s .entry)) e r) ⌝ }
+{
+    if asked::in_tiles(s, tile, e) {
+        if sides_lawful(s) {
+            let found = routes::found_by(s, route, tile as u32);
+            return held::hold_reached(s, compressor, found, e as u32, out);
+        }
+        return Held::Refused(Refusal::Directory);
+    }
+    Held::Refused(Refusal::OutsideGrid)
 }

@@ -10,11 +10,12 @@ use libc::STDOUT_FILENO;
 ghost use mathlib.Core.Path.{_≡_};
 ghost use Rattle.store.specs.Face.{readMeaning};
 
-// A cell of element 0. It is proved that by the walk and by the directory this is what the bytes mean, or why they are refused.
+// A cell of element 0. It is proved that by the walk and by the directory this is what the bytes mean, or why they are refused. Compressed
+// content is unpacked only where it has the compressor index that is named, here 256, which none has.
 fn cell(file: &[u8], row: u64, column: u64, walk: bool) -> Cell
-    ensures { λ r. ⌜ r ≡ readMeaning (now (file .entry)) row column 0 ⌝ }
+    ensures { λ r. ⌜ r ≡ readMeaning (now (file .entry)) 256 row column 0 ⌝ }
 {
-    store::cell_of(file, row, column, 0, walk)
+    store::cell_of(file, 256, row, column, 0, walk)
 }
 
 fn print(text: &[u8], number: u64) {
@@ -48,6 +49,10 @@ fn print_cell(label: &[u8], x: Cell) {
             print(b"stored ", answer::value_bits(value) as u64);
             print(b" at ", place as u64);
         }
+        Cell::Unpacked { value, place } => {
+            print(b"unpacked ", answer::value_bits(value) as u64);
+            print(b" at ", place as u64);
+        }
         Cell::Fill { value } => print(b"fill ", answer::value_bits(value) as u64),
         Cell::Refused(r) => print_refusal(r),
     }
@@ -75,8 +80,8 @@ fn print_page(file: &[u8]) {
     print_element(b"element Z: ", file, b"Z");
     print_cell(b"cell 2 1 by the directory: ", cell(file, 2, 1, false));
     print_cell(b"cell 2 1 by the walk: ", cell(file, 2, 1, true));
-    // An opened page may hold any two numbers beside the bytes, as 1 and 2 here. It answers the same.
-    let held = store::reads::read_from(file, 1, 2, 2, 1, 0, true);
+    // An opened page may hold any two positions beside the bytes and the index, as 1 and 2 here. It answers the same.
+    let held = store::reads::read_from(file, 256, 1, 2, 2, 1, 0, true);
     print_cell(b"cell 2 1 on a page that holds wrong numbers: ", held);
     print_cell(b"cell 0 0 by the directory: ", cell(file, 0, 0, false));
     print_cell(b"cell 0 0 by the walk: ", cell(file, 0, 0, true));

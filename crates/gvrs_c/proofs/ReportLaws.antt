@@ -1,27 +1,34 @@
 -- Numbers written at the front of a list, one after the other. Assumes nothing.
-use Prim.Native.Nat.{ℕ}
+use Prim.Native.Nat.{ℕ, _*_, _≤_, _<_}
 use mathlib.Core.Path.{_≡_, refl, ap, _∙_}
 use mathlib.Core.List.{List, [], _∷_}
 use mathlib.Core.Bool.{Bool, true, false}
 use native.Mathlib.Omega.{arith}
+use native.Mathlib.Nat.{mul-le-mul}
 use lib.ListN.{set}
 use lib.Dec.{eqb}
 use borrow.Author.Tests.{eqb-true, ne-eqb}
 use Rattle.wire.specs.declared.Compared.{Compared}
 use Rattle.wire.specs.Pick.{pick}
+use Rattle.wire.specs.Bytes.{put}
 use Rattle.wire.specs.Bytes.{sameBytes}
 use Rattle.wire.specs.Compare.{pairsRead, compared}
 use Rattle.answer.specs.declared.Verdict.{Verdict}
 use Rattle.answer.specs.declared.Cell.{Cell}
 use Rattle.answer.specs.declared.Content.{Content}
+use Rattle.answer.specs.declared.Held.{Held}
+use Rattle.answer.specs.declared.Held.the-variants as held
+use Rattle.answer.specs.declared.Refusal.{Refusal}
 use Rattle.answer.specs.declared.Laid.{Laid}
 use Rattle.answer.specs.Refusals.{verdictNumber, verdictPlace}
-use Rattle.answer.specs.Answers.{cellKind, cellType, cellBits, cellPlace, contentKind, contentPlace, contentLength, laidNumber}
+use Rattle.answer.specs.Answers.{cellKind, cellType, cellBits, cellPlace, contentKind, contentPlace, contentLength, heldKind, heldPlace, laidNumber}
 use Rattle.check_header.specs.Start.{checkStart, needed}
 use Rattle.page_check.specs.Stages.{check}
 use Rattle.cells.specs.Reads.{readByDirectory, readByWalk, readByRecords, readMeaning, recordsMeaning}
 use Rattle.cells.proofs.ReadLaws.{directory-read, walk-read, records-read}
-use Rattle.gvrs_c.specs.Report.{reported, startNumbers, cellNumbers, contentNumbers, laidReport}
+use Rattle.header.specs.Fields.{tileRows, tileColumns}
+use Rattle.cells.specs.TileCells.{heldBits, heldCount}
+use Rattle.gvrs_c.specs.Report.{reported, startNumbers, cellNumbers, contentNumbers, heldNumbers, laidReport}
 use Rattle.gvrs_c.specs.Route.{readBy, meaningBy, RouteMeans}
 
 one-reported : (out : List ℕ) (a : ℕ) → set out 0 a ≡ reported (a ∷ []) out
@@ -71,50 +78,81 @@ start-told s o p q k v n a b e f g h i j = (f ∙ ap verdictNumber e, j ∙ rw h
 
 -- a cell's, by a route
 
-module _ (s : List ℕ) (row column e route : ℕ) (r : Cell) where
-  pub by-walk : route ≡ 1 → r ≡ readByWalk s row column e → r ≡ readBy route s row column e
+module _ (s : List ℕ) (ci row column e route : ℕ) (r : Cell) where
+  pub by-walk : route ≡ 1 → r ≡ readByWalk s ci row column e → r ≡ readBy route s ci row column e
   unfolding readBy
   by-walk h q = rw h q
 
-  pub by-records : route ≡ 2 → r ≡ readByRecords s row column e → r ≡ readBy route s row column e
+  pub by-records : route ≡ 2 → r ≡ readByRecords s ci row column e → r ≡ readBy route s ci row column e
   unfolding readBy
   by-records h q = rw h q
 
-  pub by-directory : (route ≡ 1 → ⊥) → (route ≡ 2 → ⊥) → r ≡ readByDirectory s row column e → r ≡ readBy route s row column e
+  pub by-directory : (route ≡ 1 → ⊥) → (route ≡ 2 → ⊥) → r ≡ readByDirectory s ci row column e → r ≡ readBy route s ci row column e
   unfolding readBy
   by-directory h k q = rw (ne-eqb route 1 h, ne-eqb route 2 k) q
 
 pub route-means : RouteMeans
 unfolding readBy meaningBy
-route-means route s row column e = go (eqb route 1) refl (eqb route 2) refl
+route-means route s ci row column e = go (eqb route 1) refl (eqb route 2) refl
   where
     go :
         (a : Bool) → eqb route 1 ≡ a → (b : Bool) → eqb route 2 ≡ b →
-        pick a (readByWalk s row column e) (pick b (readByRecords s row column e) (readByDirectory s row column e))
-        ≡ pick b (recordsMeaning s row column e) (readMeaning s row column e)
+        pick a (readByWalk s ci row column e) (pick b (readByRecords s ci row column e) (readByDirectory s ci row column e))
+        ≡ pick b (recordsMeaning s ci row column e) (readMeaning s ci row column e)
     go true f true g = let y = eqb-true route 1 f in let z = eqb-true route 2 g in absurd (omega arith)
-    go true f false g = walk-read s row column e
-    go false f true g = records-read s row column e
-    go false f false g = directory-read s row column e
+    go true f false g = walk-read s ci row column e
+    go false f true g = records-read s ci row column e
+    go false f false g = directory-read s ci row column e
 
 -- what is said of a cell's answer x
 abbrev Told : ℕ → List ℕ → List ℕ → Cell → Type 0
 Told n t o x = (n ≡ cellKind x) × (t ≡ reported (cellNumbers x) o)
 
 pub cell-told :
-    (route : ℕ) (s : List ℕ) (row column e : ℕ) (o p q t : List ℕ) (x : Cell) (n a b c : ℕ) → x ≡ readBy route s row column e →
+    (route : ℕ) (s : List ℕ) (ci row column e : ℕ) (o p q t : List ℕ) (x : Cell) (n a b c : ℕ) → x ≡ readBy route s ci row column e →
     a ≡ cellType x → p ≡ set o 0 a → b ≡ cellBits x → q ≡ set p 1 b → c ≡ cellPlace x → t ≡ set q 2 c → n ≡ cellKind x →
-    (n ≡ cellKind (readBy route s row column e)) × ((t ≡ reported (cellNumbers (readBy route s row column e)) o) × Told n t o (meaningBy route s row column e))
-cell-told route s row column e o p q t x n a b c d f g h i j k l =
+    (n ≡ cellKind (readBy route s ci row column e)) × ((t ≡ reported (cellNumbers (readBy route s ci row column e)) o) × Told n t o (meaningBy route s ci row column e))
+cell-told route s ci row column e o p q t x n a b c d f g h i j k l =
     let told : Told n t o x = (l, k ∙ rw (i, g) (three-reported o a b c ∙ rw (f, h, j))) in
-    let by : Told n t o (readBy route s row column e) = rw d at told in
-    (by .0, (by .1, rw (route-means route s row column e) at by))
+    let by : Told n t o (readBy route s ci row column e) = rw d at told in
+    (by .0, (by .1, rw (route-means route s ci row column e) at by))
 
 -- an element's content
 pub content-told :
     (o p q : List ℕ) (x y : Content) (n a b : ℕ) → x ≡ y → a ≡ contentPlace x → p ≡ set o 0 a → b ≡ contentLength x → q ≡ set p 1 b →
     n ≡ contentKind x → (n ≡ contentKind y) × (q ≡ reported (contentNumbers y) o)
 content-told o p q x y n a b e f g h i l = (l ∙ ap contentKind e, i ∙ rw g (two-reported o a b ∙ rw (f, h, e)))
+
+-- numbers of M32 codes
+pub taken-told : (o p : List ℕ) (a b : ℕ) → a ≡ b → p ≡ set o 0 a → p ≡ reported (b ∷ []) o
+taken-told o p a b e f = f ∙ one-reported o a ∙ rw e
+
+-- all cells of an element in a tile
+
+pub small-product : (a b : ℕ) → a < 4294967296 → b < 4294967296 → a * b < 18446744073709551616
+small-product a b h k =
+    let p : a ≤ 4294967295 = omega arith in
+    let q : b ≤ 4294967295 = omega arith in
+    let m : a * b ≤ 4294967295 * 4294967295 = mul-le-mul p q in
+    omega arith
+
+module _ (s : List ℕ) (x : Held) (r : ℕ) where
+  pub count-held : (h w at : ℕ) → x ≡ held.Stored at → h ≡ tileRows s → w ≡ tileColumns s → r ≡ h * w → r ≡ heldCount s x
+  count-held h w at p q t e = e ∙ rw (p, q, t)
+
+  pub count-unpacked : (h w at : ℕ) → x ≡ held.Unpacked at → h ≡ tileRows s → w ≡ tileColumns s → r ≡ h * w → r ≡ heldCount s x
+  count-unpacked h w at p q t e = e ∙ rw (p, q, t)
+
+pub count-absent : (s : List ℕ) (x : Held) → x ≡ held.Absent → 0 ≡ heldCount s x
+count-absent s x p = rw p
+
+pub count-refused : (s : List ℕ) (x : Held) (r : Refusal) → x ≡ held.Refused r → 0 ≡ heldCount s x
+count-refused s x r p = rw p
+
+pub held-told :
+    (s : List ℕ) (e : ℕ) (o p q d m : List ℕ) (x y : Held) (n a b : ℕ) → x ≡ y → m ≡ put d 0 (heldBits s e x) → a ≡ heldPlace x → p ≡ set o 0 a → b ≡ heldCount s x →
+    q ≡ set p 1 b → n ≡ heldKind x → (n ≡ heldKind y) × ((q ≡ reported (heldNumbers s y) o) × (m ≡ put d 0 (heldBits s e y)))
+held-told s e o p q d m x y n a b u v f g h i l = (l ∙ ap heldKind u, (i ∙ rw g (two-reported o a b ∙ rw (f, h, u)), v ∙ rw u))
 
 -- a lay-down's number and length, or place
 pub laid-told :

@@ -3,13 +3,15 @@ use Prim.Native.Nat.{ℕ}
 use mathlib.Core.List.{List, [], _∷_}
 use Rattle.answer.specs.declared.Cell.{Cell}
 use Rattle.answer.specs.declared.Content.{Content}
+use Rattle.answer.specs.declared.Held.{Held}
 use Rattle.answer.specs.declared.Laid.{Laid}
 use Rattle.answer.specs.declared.Laid.the-variants.{Length, Refused}
 use Rattle.answer.specs.Refusals.{refusalPlace, verdictNumber, verdictPlace}
-use Rattle.answer.specs.Answers.{cellType, cellBits, cellPlace, contentPlace, contentLength}
+use Rattle.answer.specs.Answers.{cellType, cellBits, cellPlace, contentPlace, contentLength, heldPlace}
 use lib.Dec.{eqb}
 use Rattle.wire.specs.Pick.{pick}
 use Rattle.check_header.specs.Start.{checkStart, needed}
+use Rattle.cells.specs.TileCells.{heldCount}
 
 unfoldable pub reported : List ℕ → List ℕ → List ℕ
 reported [] out = out
@@ -27,6 +29,10 @@ cellNumbers x = cellType x ∷ cellBits x ∷ cellPlace x ∷ []
 -- a content's: its start, or the refusal's place, and its length
 abbrev pub contentNumbers : Content → List ℕ
 contentNumbers x = contentPlace x ∷ contentLength x ∷ []
+
+-- of all cells of an element in a tile: where their content starts, or the refusal's place, and how many there are
+abbrev pub heldNumbers : List ℕ → Held → List ℕ
+heldNumbers s x = heldPlace x ∷ heldCount s x ∷ []
 
 -- a lay-down's number: the file's length where it is done, and the place of its refusal
 abbrev pub laidReport : Laid → ℕ

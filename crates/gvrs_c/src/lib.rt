@@ -1,27 +1,32 @@
 // The C interface: what a C program calls, declared in include/gvrs.h. A slice is a pointer and a count of elements.
 use answer::Cell;
+use answer::Held;
 use answer::Laid;
 use cells::reads;
 use check_header::start;
+use header::fields;
 use header::names;
+use m32::writing;
 ghost use mathlib.Core.Path.{_≡_};
 ghost use mathlib.Core.List.{[], _∷_};
 ghost use lib.ListN.{length, set};
 ghost use lib.Dec.{eqb};
 ghost use Rattle.answer.specs.Refusals.{verdictNumber, verdictPlace};
-ghost use Rattle.answer.specs.Answers.{cellKind, contentKind, lookupKind, lookupNumber, laidNumber};
+ghost use Rattle.answer.specs.Answers.{cellKind, contentKind, heldKind, lookupKind, lookupNumber, laidNumber};
 ghost use Rattle.wire.specs.Pick.{pick};
 ghost use Rattle.header.specs.Names.{identifier, longestName};
 ghost use Rattle.utf8.specs.Utf8.{utf8};
 ghost use Rattle.check_header.specs.Start.{checkStart, needed};
 ghost use Rattle.page_check.specs.Stages.{check};
-ghost use Rattle.cells.specs.Reads.{readContent};
+ghost use Rattle.m32.specs.M32.{codes, bytesNext, readCodes};
+ghost use Rattle.cells.specs.TileCells.{heldBits, heldCount};
+ghost use Rattle.cells.specs.Reads.{readContent, readHeld};
 ghost use Rattle.lay_down.specs.Answer.{laid, laidOut};
 ghost use Rattle.wire.specs.Bytes.{put, sameBytes};
 ghost use Rattle.wire.specs.Compare.{pairsRead};
 ghost use Rattle.listing.specs.Listing.{listing};
 ghost use Rattle.store.specs.Lookup.{readElementNamed};
-ghost use Rattle.gvrs_c.specs.Report.{reported, startNumbers, cellNumbers, contentNumbers, laidReport};
+ghost use Rattle.gvrs_c.specs.Report.{reported, startNumbers, cellNumbers, contentNumbers, heldNumbers, laidReport};
 ghost use Rattle.gvrs_c.specs.Route.{readBy, meaningBy};
 
 // A number of an answer at its place in `out`, if `out` is long enough.
@@ -81,20 +86,44 @@ pub extern "C" fn gvrs_check_rest(file: &[u8], out: &mut [u64]) -> u32
 }
 
 // A cell by a route: 1 the walk, 2 the walk without stage 9, every other number the directory.
-fn read_by(file: &[u8], row: u64, column: u64, element: u64, route: u32) -> Cell
-    ensures { λ r. ⌜ r ≡ readBy route (now (file .entry)) row column element ⌝ }
+fn read_by(file: &[u8], compressor: u32, row: u64, column: u64, element: u64, route: u32) -> Cell
+    ensures { λ r. ⌜ r ≡ readBy route (now (file .entry)) compressor row column element ⌝ }
 {
     if route == 1 {
-        return reads::read_by_walk(file, row, column, element);
+        return reads::read_by_walk(file, compressor, row, column, element);
     }
     if route == 2 {
-        return reads::read_by_records(file, row, column, element);
+        return reads::read_by_records(file, compressor, row, column, element);
     }
-    reads::read_by_directory(file, row, column, element)
+    reads::read_by_directory(file, compressor, row, column, element)
 }
 
-// 32 where the cell is stored, 33 where it is fill, else the refusal's number; `out` takes the type code, the bits and the place.
-// By every route it is the check's refusal or the cell's meaning.
+// 32 where the cell is stored, 33 where it is fill, 34 where it is unpacked, else the refusal's number; `out` takes the type code, the
+// bits and the place. By every route it is the check's refusal or the cell's meaning.
+fn tell_cell(
+    file: &[u8],
+    compressor: u32,
+    row: u64,
+    column: u64,
+    element: u64,
+    route: u32,
+    out: &mut [u64],
+) -> u32
+    ensures kind { λ r. ⌜ r ≡ cellKind (readBy route (now (file .entry)) compressor row column element) ⌝ }
+    ensures value { λ _. ⌜ now (out .exit) ≡ reported (cellNumbers (readBy route (now (file .entry)) compressor row column element)) (now (out .entry)) ⌝ }
+    ensures meaning { λ r. ⌜ (r ≡ cellKind (meaningBy route (now (file .entry)) compressor row column element)) × (now (out .exit) ≡ reported (cellNumbers (meaningBy route (now (file .entry)) compressor row column element)) (now (out .entry))) ⌝ }
+{
+    let cell = read_by(file, compressor, row, column, element, route);
+    report(out, 0, answer::cell_type(cell) as u64);
+    report(out, 1, answer::cell_bits(cell) as u64);
+    report(out, 2, answer::cell_place(cell) as u64);
+    answer::cell_kind(cell)
+}
+
+// A compressor index that no content has.
+const NO_COMPRESSOR: u32 = 256;
+
+// A cell, where compressed content is not unpacked.
 #[no_mangle]
 pub extern "C" fn gvrs_cell(
     file: &[u8],
@@ -104,15 +133,87 @@ pub extern "C" fn gvrs_cell(
     route: u32,
     out: &mut [u64],
 ) -> u32
-    ensures kind { λ r. ⌜ r ≡ cellKind (readBy route (now (file .entry)) row column element) ⌝ }
-    ensures value { λ _. ⌜ now (out .exit) ≡ reported (cellNumbers (readBy route (now (file .entry)) row column element)) (now (out .entry)) ⌝ }
-    ensures meaning { λ r. ⌜ (r ≡ cellKind (meaningBy route (now (file .entry)) row column element)) × (now (out .exit) ≡ reported (cellNumbers (meaningBy route (now (file .entry)) row column element)) (now (out .entry))) ⌝ }
+    ensures kind { λ r. ⌜ r ≡ cellKind (readBy route (now (file .entry)) 256 row column element) ⌝ }
+    ensures value { λ _. ⌜ now (out .exit) ≡ reported (cellNumbers (readBy route (now (file .entry)) 256 row column element)) (now (out .entry)) ⌝ }
+    ensures meaning { λ r. ⌜ (r ≡ cellKind (meaningBy route (now (file .entry)) 256 row column element)) × (now (out .exit) ≡ reported (cellNumbers (meaningBy route (now (file .entry)) 256 row column element)) (now (out .entry))) ⌝ }
 {
-    let cell = read_by(file, row, column, element, route);
-    report(out, 0, answer::cell_type(cell) as u64);
-    report(out, 1, answer::cell_bits(cell) as u64);
-    report(out, 2, answer::cell_place(cell) as u64);
-    answer::cell_kind(cell)
+    tell_cell(file, NO_COMPRESSOR, row, column, element, route, out)
+}
+
+// A cell, where compressed content of the index named is unpacked.
+#[no_mangle]
+pub extern "C" fn gvrs_cell_with(
+    file: &[u8],
+    row: u64,
+    column: u64,
+    element: u64,
+    route: u32,
+    compressor: u32,
+    out: &mut [u64],
+) -> u32
+    ensures kind { λ r. ⌜ r ≡ cellKind (readBy route (now (file .entry)) compressor row column element) ⌝ }
+    ensures value { λ _. ⌜ now (out .exit) ≡ reported (cellNumbers (readBy route (now (file .entry)) compressor row column element)) (now (out .entry)) ⌝ }
+    ensures meaning { λ r. ⌜ (r ≡ cellKind (meaningBy route (now (file .entry)) compressor row column element)) × (now (out .exit) ≡ reported (cellNumbers (meaningBy route (now (file .entry)) compressor row column element)) (now (out .entry))) ⌝ }
+{
+    tell_cell(file, compressor, row, column, element, route, out)
+}
+
+// How many cells an answer about all of them is of.
+fn held_count(file: &[u8], held: Held) -> u64
+    ensures { λ r. ⌜ r ≡ heldCount (now (file .entry)) held ⌝ }
+{
+    match held {
+        Held::Stored(_) => fields::tile_rows(file) as u64 * fields::tile_columns(file) as u64,
+        Held::Unpacked(_) => fields::tile_rows(file) as u64 * fields::tile_columns(file) as u64,
+        Held::Absent => 0,
+        Held::Refused(_) => 0,
+    }
+}
+
+// All cells of an element in a tile: 32 stored, 34 unpacked, 33 where the tile is absent, else the refusal's number; `out` takes where
+// their content starts, or the refusal's place, and their number. `cells` takes their bits, row by row, where they fit whole, and what
+// stands behind them stays; else it is as it was.
+#[no_mangle]
+pub extern "C" fn gvrs_unpack(
+    file: &[u8],
+    tile: u64,
+    element: u64,
+    compressor: u32,
+    cells: &mut [u32],
+    out: &mut [u64],
+) -> u32
+    ensures kind { λ r. ⌜ r ≡ heldKind (readHeld (now (file .entry)) compressor tile element) ⌝ }
+    ensures told { λ _. ⌜ now (out .exit) ≡ reported (heldNumbers (now (file .entry)) (readHeld (now (file .entry)) compressor tile element)) (now (out .entry)) ⌝ }
+    ensures holds { λ _. ⌜ now (cells .exit) ≡ put (now (cells .entry)) 0 (heldBits (now (file .entry)) element (readHeld (now (file .entry)) compressor tile element)) ⌝ }
+{
+    let held = reads::hold(file, compressor, tile, element, cells);
+    report(out, 0, answer::held_place(held) as u64);
+    report(out, 1, held_count(file, held));
+    answer::held_kind(held)
+}
+
+// The M32 codes of numbers: their length. `bytes` takes them where they fit, and what stands behind them stays; else it is as it was.
+#[no_mangle]
+pub extern "C" fn gvrs_m32_write(numbers: &[u32], bytes: &mut [u8]) -> u64
+    ensures long { λ r. ⌜ r ≡ length (codes (now (numbers .entry))) ⌝ }
+    ensures holds { λ _. ⌜ now (bytes .exit) ≡ put (now (bytes .entry)) 0 (codes (now (numbers .entry))) ⌝ }
+{
+    writing::write(numbers, bytes) as u64
+}
+
+// The numbers of as many whole M32 codes from the start as stand there and as `numbers` has room for: how many; out[0] takes the bytes
+// that they take.
+#[no_mangle]
+pub extern "C" fn gvrs_m32_read(bytes: &[u8], numbers: &mut [u32], out: &mut [u64]) -> u64
+    ensures count { λ r. ⌜ r ≡ length (readCodes (bytesNext (now (bytes .entry))) (length (now (numbers .entry))) 0 .numbers) ⌝ }
+    ensures taken { λ _. ⌜ now (out .exit) ≡ reported (readCodes (bytesNext (now (bytes .entry))) (length (now (numbers .entry))) 0 .behind ∷ []) (now (out .entry)) ⌝ }
+    ensures holds { λ _. ⌜ now (numbers .exit) ≡ put (now (numbers .entry)) 0 (readCodes (bytesNext (now (bytes .entry))) (length (now (numbers .entry))) 0 .numbers) ⌝ }
+{
+    let read = m32::read(bytes, numbers);
+    let taken = read.bytes;
+    let count = read.numbers;
+    report(out, 0, taken as u64);
+    count as u64
 }
 
 // 32 where the content is present, 33 where the tile is absent, else the refusal's number; `out` takes the start or the

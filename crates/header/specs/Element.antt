@@ -23,6 +23,9 @@ longestString = 65537
 abbrev pub integerCodedKind : ℕ
 integerCodedKind = 1
 
+abbrev pub floatKind : ℕ
+floatKind = 2
+
 abbrev pub shortKind : ℕ
 shortKind = 3
 

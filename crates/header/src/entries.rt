@@ -7,8 +7,10 @@ ghost use Prim.Native.Nat.{_+_, _≤_, _<_, _*_};
 ghost use lib.ListN.{length};
 ghost use Rattle.header.specs.Element.{stringSize, stringEnd, blockSize, cellSize, blockAt, labelAt, entryEnd, fillBits, entryAt, entryStart, element, entriesRead, longestString, longestEntry, mostElements};
 
-// Type codes of elements (G Table 8), of those that a size depends on; none is above a Short's.
+// Type codes of elements (G Table 8); an Integer's is 0, and none is above a Short's.
 pub const INTEGER_CODED: u32 = 1;
+
+pub const FLOAT: u32 = 2;
 
 pub const SHORT: u32 = 3;
 

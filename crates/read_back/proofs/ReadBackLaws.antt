@@ -30,7 +30,7 @@ use Rattle.cells.specs.Meaning.{meaning, contentMeaning}
 use Rattle.cells.specs.Demand3.{bytesOfCell}
 use Rattle.cells.proofs.CellLaws.{grid-means, tiles-mean}
 use Rattle.cells.proofs.ApartLaws.{offset-within}
-use Rattle.cells.specs.Routes.{referredTo, contentBy, cellBy, meant}
+use Rattle.cells.specs.Routes.{referredTo, tileBy, cellBy, meant}
 use Rattle.cells.proofs.DemandLaws.{demand-3}
 use Rattle.cells.proofs.RouteLaws.{directory-finds}
 use Rattle.lay_down.specs.Page.{laidFile}
@@ -104,7 +104,7 @@ module _ {f : List ℕ} {t : ℕ} {ix c : List ℕ} (l : Laying f t ix c) where
         rw (p, q) at (bytes-given 0 (elementBytes f e) (omega arith))
 
     content-read : contentMeaning s (getD ix k 0) e ≡ Present (contentLaid f k e) (elementBytes f e)
-    unfolding contentMeaning contentBy inTiles contentIn
+    unfolding contentMeaning tileBy inTiles contentIn
     content-read =
         let i : inTiles s (getD ix k 0) e ≡ true =
         sym (yes _ (omega (arith, index-below l k h, tiles-kept (front-kept l)), (omega (arith, front-kept l .count), tt))) in
@@ -113,7 +113,7 @@ module _ {f : List ℕ} {t : ℕ} {ix c : List ℕ} (l : Laying f t ix c) where
   -- a tile that is not listed
   absent-read :
       (tile e : ℕ) → inTiles f tile e ≡ true → ((k : ℕ) → k < length ix → getD ix k 0 ≡ tile → ⊥) → contentMeaning s tile e ≡ Absent
-  unfolding contentMeaning contentBy
+  unfolding contentMeaning tileBy
   absent-read tile e i none = rw (asked-kept (front-kept l) tile e, i, unlisted-none tile (tiles-mean f tile e i .0) none)
 
   -- a cell of the grid: what the record has that is meant for its tile
@@ -121,9 +121,9 @@ module _ {f : List ℕ} {t : ℕ} {ix c : List ℕ} (l : Laying f t ix c) where
     asked : (row < gridRows f) × ((column < gridColumns f) × (e < elementCount f))
     asked = grid-means f row column e i
 
-    fill-read : ((k : ℕ) → ListedAs f ix k row column → ⊥) → meaning s row column e ≡ fillOf f e
+    fill-read : (ci : ℕ) → ((k : ℕ) → ListedAs f ix k row column → ⊥) → meaning s ci row column e ≡ fillOf f e
     unfolding meaning cellBy
-    fill-read none =
+    fill-read ci none =
         let n = tile-less f row column (front-range l .sides .tile-rows .0) (front-range l .sides .tile-columns .0) (asked .0) (asked .1 .0) in
         let z = unlisted-none (cellTile f row column) n (λ k h g. none k (record { among = h; tile = g })) in
         rw (grid-kept (front-kept l) row column e, i, tile-kept (front-kept l) row column, z) (fill-kept (front-kept l) e (asked .1 .1))
@@ -145,16 +145,16 @@ module _ {f : List ℕ} {t : ℕ} {ix c : List ℕ} (l : Laying f t ix c) where
       place = rw (content-place k (q .among) e (asked .1 .1), offset-kept (front-kept l) row column e (asked .1 .1))
 
       stored-read :
-          meaning s row column e
+          (ci : ℕ) → meaning s ci row column e
           ≡ cell.Stored (valueOf (element f e .kind) (numberAt (cellSize (element f e .kind)) c (cellGiven f k row column e))) (cellLaid f k row column e)
       unfolding meaning cellBy cellIn storedAt numberAt
-      stored-read =
+      stored-read ci =
           let g = asked .1 .1 in
           let r : meant s (cellTile s row column) ≡ At (start k) = ap (meant s) (tile-kept (front-kept l) row column ∙ sym (q .tile)) ∙ listed-found k (q .among) in
           rw (grid-kept (front-kept l) row column e, i, r, tile-whole (tile-here l k (q .among)) e g, place, front-kept l .elements e g, cell-bytes)
 
 pub read-back : ReadBack
-unfolding laidOut meaning cellBy contentMeaning contentBy
+unfolding laidOut meaning cellBy contentMeaning tileBy
 read-back f t ix c out n b d e =
     let p = laying-of f t ix c (length out) n b d e in
     let l = p .0 in
@@ -166,16 +166,16 @@ read-back f t ix c out n b d e =
       reads =
           record {
             accepted = laid-accepted l;
-            stored = λ row column x k i q. stored-read l row column x i k q;
+            stored = λ ci row column x k i q. stored-read l row column x i k q ci;
             given = λ row column x k i q. cell-given l row column x i k q;
             bytes = λ row column x k i q. cell-bytes l row column x i k q;
-            fill = λ row column x i none. fill-read l row column x i none;
+            fill = λ ci row column x i none. fill-read l row column x i ci none;
             content = λ k x h g. content-read l k h x g;
             content-given = λ k x h g. content-given l k h x g;
             content-inside = λ k x h g. content-inside l k h x g;
             content-bytes = λ k x h g. content-bytes l k h x g;
             absent = λ tile x i none. absent-read l tile x i none;
-            outside = λ row column x i. rw (grid-kept (front-kept l) row column x, i);
+            outside = λ ci row column x i. rw (grid-kept (front-kept l) row column x, i);
             content-outside = λ tile x i. rw (asked-kept (front-kept l) tile x, i);
             fields = fields-laid l;
             front = λ i h o. byte-kept l i h o;

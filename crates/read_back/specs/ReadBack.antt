@@ -53,8 +53,8 @@ pub record ReadsBack (f : List ℕ) (t : ℕ) (ix c : List ℕ) : Type 0 where
   pub accepted : check (laidFile f t ix c) ≡ Accepted
   -- a grid cell of a listed tile is stored, with the value that the bytes given for it give
   pub stored :
-      (row column e k : ℕ) → inGrid f row column e ≡ true → ListedAs f ix k row column →
-      meaning (laidFile f t ix c) row column e
+      (ci row column e k : ℕ) → inGrid f row column e ≡ true → ListedAs f ix k row column →
+      meaning (laidFile f t ix c) ci row column e
       ≡ cell.Stored (valueOf (element f e .kind) (numberAt (cellSize (element f e .kind)) c (cellGiven f k row column e))) (cellLaid f k row column e)
   -- and has exactly those bytes at its place
   pub given :
@@ -65,8 +65,8 @@ pub record ReadsBack (f : List ℕ) (t : ℕ) (ix c : List ℕ) : Type 0 where
       part (laidFile f t ix c) (cellLaid f k row column e) (bytesOfCell f e) ≡ part c (cellGiven f k row column e) (bytesOfCell f e)
   -- every other grid cell is fill, with the element's fill of the front
   pub fill :
-      (row column e : ℕ) → inGrid f row column e ≡ true → ((k : ℕ) → ListedAs f ix k row column → ⊥) →
-      meaning (laidFile f t ix c) row column e ≡ fillOf f e
+      (ci row column e : ℕ) → inGrid f row column e ≡ true → ((k : ℕ) → ListedAs f ix k row column → ⊥) →
+      meaning (laidFile f t ix c) ci row column e ≡ fillOf f e
   -- an element's content in a listed tile is the bytes given for it, also past the grid's edge
   pub content :
       (k e : ℕ) → k < length ix → e < elementCount f →
@@ -81,13 +81,13 @@ pub record ReadsBack (f : List ℕ) (t : ℕ) (ix c : List ℕ) : Type 0 where
       (tile e : ℕ) → inTiles f tile e ≡ true → ((k : ℕ) → k < length ix → getD ix k 0 ≡ tile → ⊥) →
       contentMeaning (laidFile f t ix c) tile e ≡ Absent
   -- the grid and its tiles are the front's
-  pub outside : (row column e : ℕ) → inGrid f row column e ≡ false → meaning (laidFile f t ix c) row column e ≡ cell.Refused OutsideGrid
+  pub outside : (ci row column e : ℕ) → inGrid f row column e ≡ false → meaning (laidFile f t ix c) ci row column e ≡ cell.Refused OutsideGrid
   pub content-outside : (tile e : ℕ) → inTiles f tile e ≡ false → contentMeaning (laidFile f t ix c) tile e ≡ Refused OutsideGrid
   -- the header says what is set, and is the front that was given in every other byte before its checksum
   pub fields : FieldsRead (laidFile f t ix c) t (contentAt (directoryStart f ix))
   pub front : (i : ℕ) → i < length f - 4 → NotSet i → byteAt (laidFile f t ix c) i ≡ byteAt f i
   -- and every route answers with the meaning
-  pub routes : OneAnswer (laidFile f t ix c)
+  pub routes : (ci : ℕ) → OneAnswer (laidFile f t ix c) ci
 
 -- of every lay-down into a buffer `out` that is not refused: the answer n is the file's length, the first n bytes of the buffer
 -- are the file, and it reads back

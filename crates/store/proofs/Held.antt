@@ -51,7 +51,7 @@ module _ (κ : Lft) (d : Page) where
   L = T′.the-laws (namedLft 1 0 tt (κ, tt))
 
   abbrev vd : Values (D .parts)
-  vd = (d .file, (d .«header_end», (d .directory, tt)))
+  vd = (d .file, (d .compressor, (d .«header_end», (d .directory, tt))))
 
   pub file-out : {M : Type 1} (𝓤 : URA M) (H : Heap 𝓤) (A : Atoms 𝓤) → Given 𝓤 H A → ent 𝓤 (sem 𝓤 H A OwnPage) (sep 𝓤 (sem 𝓤 H A (Own κ (d .file))) (sem 𝓤 H A OwnPage))
   file-out 𝓤 H A W =

@@ -1,4 +1,4 @@
--- What an opened page holds and answers: as the bytes alone do, whatever numbers it holds. Assumes nothing.
+-- What an opened page holds and answers: as the bytes and the index alone do, whatever positions it holds. Assumes nothing.
 use Prim.Native.Nat.{ℕ, _-_, _<_}
 use mathlib.Core.Path.{_≡_, refl, sym, ap, _∙_}
 use mathlib.Core.List.{List}
@@ -76,31 +76,31 @@ module _ (s : List ℕ) (a : check s ≡ Accepted) (i : ℕ) (h : i < tileCount 
 
 -- so a page's reads are those of its bytes
 
-module _ (s : List ℕ) (row column e end directory : ℕ) (walk : Bool) where
-  page-means : pageRead s end directory row column e walk ≡ readMeaning s row column e
+module _ (s : List ℕ) (ci row column e end directory : ℕ) (walk : Bool) where
+  page-means : pageRead s ci end directory row column e walk ≡ readMeaning s ci row column e
   unfolding pageRead readMeaning
   page-means =
       same-behind cell.Refused (check s) _ _
-      (λ a. way-means s _ (check-lawful s a) (λ i h. either-held s a i h end directory walk) row column e)
+      (λ a. way-means s _ (check-lawful s a) (λ i h. either-held s a i h end directory walk) ci row column e)
 
-  plain-means : plainRead s row column e walk ≡ readMeaning s row column e
+  plain-means : plainRead s ci row column e walk ≡ readMeaning s ci row column e
   unfolding plainRead
   plain-means = go walk
     where
-      go : (b : Bool) → pick b (readByWalk s row column e) (readByDirectory s row column e) ≡ readMeaning s row column e
-      go true = walk-read s row column e
-      go false = directory-read s row column e
+      go : (b : Bool) → pick b (readByWalk s ci row column e) (readByDirectory s ci row column e) ≡ readMeaning s ci row column e
+      go true = walk-read s ci row column e
+      go false = directory-read s ci row column e
 
-  pub all-three : (x : Cell) → x ≡ readMeaning s row column e → (x ≡ pageRead s end directory row column e walk) × ((x ≡ plainRead s row column e walk) × (x ≡ readMeaning s row column e))
+  pub all-three : (x : Cell) → x ≡ readMeaning s ci row column e → (x ≡ pageRead s ci end directory row column e walk) × ((x ≡ plainRead s ci row column e walk) × (x ≡ readMeaning s ci row column e))
   all-three x g = (g ∙ sym page-means, (g ∙ sym plain-means, g))
 
   pub page-answer :
-      (w : Route) (x : Cell) → w ≡ pick walk (walkFrom s end) (throughDirectory s directory) → x ≡ lookedUp s (foundBy s w) row column e → check s ≡ Accepted →
-      x ≡ meaning s row column e
-  page-answer w x p q a = q ∙ rw p (looked-means s _ (check-lawful s a) (λ i h. either-held s a i h end directory walk) row column e)
+      (w : Route) (x : Cell) → w ≡ pick walk (walkFrom s end) (throughDirectory s directory) → x ≡ lookedUp s ci (foundBy s w) row column e → check s ≡ Accepted →
+      x ≡ meaning s ci row column e
+  page-answer w x p q a = q ∙ rw p (looked-means s _ (check-lawful s a) (λ i h. either-held s a i h end directory walk) ci row column e)
 
-pub plain-both : (s : List ℕ) (row column e : ℕ) (walk : Bool) (x : Cell) → x ≡ readMeaning s row column e → (x ≡ plainRead s row column e walk) × (x ≡ readMeaning s row column e)
-plain-both s row column e walk x g = all-three s row column e 0 0 walk x g .1
+pub plain-both : (s : List ℕ) (ci row column e : ℕ) (walk : Bool) (x : Cell) → x ≡ readMeaning s ci row column e → (x ≡ plainRead s ci row column e walk) × (x ≡ readMeaning s ci row column e)
+plain-both s ci row column e walk x g = all-three s ci row column e 0 0 walk x g .1
 
 module _ (s : List ℕ) (directory tile e : ℕ) where
   content-page : pageContent s directory tile e ≡ readContent s tile e

@@ -1,5 +1,6 @@
-// The public face: the opened page. It keeps hold of the file's own bytes and of two positions that they give, from which the two
-// routes start. Whoever makes one may put any numbers there: a read on it answers as one on the bytes.
+// The public face: the opened page. It keeps hold of the file's own bytes, of the compressor index that its opener named, and of two
+// positions that the bytes give, from which the two routes start. Whoever makes one may put any numbers there: a read on it answers as
+// one on the bytes with that index, whatever the positions are.
 //
 // Opening refuses nothing: a read gives the check's refusal, whatever page it is asked on. Of bytes that are refused 0 is held, where
 // neither a record nor a directory can start.
@@ -25,29 +26,41 @@ ghost use Rattle.store.specs.Lookup.{readElementNamed};
 
 pub struct Page<'a> {
     pub file: &'a [u8],
+    // The compressor index: compressed content is unpacked only where it has this one. None has one above 255.
+    pub compressor: u32,
     // Where the header ends, and the tile directory's reference.
     pub header_end: usize,
     pub directory: u64,
 }
 
-// Opens any bytes, by one check. It holds 0 and 0 where that refuses them.
-pub fn open<'a>(file: &'a [u8]) -> Page<'a>
-    ensures { λ r. ⌜ (r .file ≡ file .entry) × ((r .«header_end» ≡ heldEnd (now (file .entry))) × (r .directory ≡ heldDirectory (now (file .entry)))) ⌝ }
+// Opens any bytes with any compressor index, by one check. As positions it holds 0 and 0 where that refuses the bytes.
+pub fn open<'a>(file: &'a [u8], compressor: u32) -> Page<'a>
+    ensures { λ r. ⌜ (r .file ≡ file .entry) × ((r .compressor ≡ compressor) × ((r .«header_end» ≡ heldEnd (now (file .entry))) × (r .directory ≡ heldDirectory (now (file .entry))))) ⌝ }
 {
     let held = reads::held_by(file);
     Page {
         file,
+        compressor,
         header_end: held.header_end,
         directory: held.directory,
     }
 }
 
-// A cell, by the walk or through the directory.
+// A cell by the page's compressor index, by the walk or through the directory.
 pub fn read<'a>(p: Page<'a>, row: u64, column: u64, e: u64, walk: bool) -> Cell
-    ensures route { λ r. ⌜ r ≡ plainRead (now (p .entry .file)) row column e walk ⌝ }
-    ensures meaning { λ r. ⌜ r ≡ readMeaning (now (p .entry .file)) row column e ⌝ }
+    ensures route { λ r. ⌜ r ≡ plainRead (now (p .entry .file)) (p .entry .compressor) row column e walk ⌝ }
+    ensures meaning { λ r. ⌜ r ≡ readMeaning (now (p .entry .file)) (p .entry .compressor) row column e ⌝ }
 {
-    reads::read_from(p.file, p.header_end, p.directory, row, column, e, walk)
+    reads::read_from(
+        p.file,
+        p.compressor,
+        p.header_end,
+        p.directory,
+        row,
+        column,
+        e,
+        walk,
+    )
 }
 
 // The uncompressed content of an element in a tile, as that part of the file itself; the empty part where it is refused or absent.
@@ -59,15 +72,15 @@ pub fn content_part<'a>(p: Page<'a>, tile: u64, e: u64) -> &'a [u8]
     reads::content_from(p.file, p.directory, tile, e)
 }
 
-// A cell of bytes that no page holds, so that no proof about a caller goes through one.
-pub fn cell_of(file: &[u8], row: u64, column: u64, e: u64, walk: bool) -> Cell
-    ensures route { λ r. ⌜ r ≡ plainRead (now (file .entry)) row column e walk ⌝ }
-    ensures meaning { λ r. ⌜ r ≡ readMeaning (now (file .entry)) row column e ⌝ }
+// A cell of bytes and an index that no page holds, so that no proof about a caller goes through one.
+pub fn cell_of(file: &[u8], compressor: u32, row: u64, column: u64, e: u64, walk: bool) -> Cell
+    ensures route { λ r. ⌜ r ≡ plainRead (now (file .entry)) compressor row column e walk ⌝ }
+    ensures meaning { λ r. ⌜ r ≡ readMeaning (now (file .entry)) compressor row column e ⌝ }
 {
     if walk {
-        return cells::reads::read_by_walk(file, row, column, e);
+        return cells::reads::read_by_walk(file, compressor, row, column, e);
     }
-    cells::reads::read_by_directory(file, row, column, e)
+    cells::reads::read_by_directory(file, compressor, row, column, e)
 }
 
 // An element's content, of bytes that no page holds, as that part of them.

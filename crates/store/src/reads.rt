@@ -71,9 +71,10 @@ fn route_of(file: &[u8], end: usize, directory: u64, walk: bool) -> Route
     through_directory(file, directory)
 }
 
-// A cell by either route. It is the check's refusal or the cell's meaning.
+// A cell by a compressor index and either route. It is the check's refusal or the cell's meaning.
 pub fn read_from(
     file: &[u8],
+    compressor: u32,
     end: usize,
     directory: u64,
     row: u64,
@@ -81,14 +82,21 @@ pub fn read_from(
     e: u64,
     walk: bool,
 ) -> Cell
-    ensures held { λ r. ⌜ r ≡ pageRead (now (file .entry)) end directory row column e walk ⌝ }
-    ensures plain { λ r. ⌜ r ≡ plainRead (now (file .entry)) row column e walk ⌝ }
-    ensures meaning { λ r. ⌜ r ≡ readMeaning (now (file .entry)) row column e ⌝ }
+    ensures held { λ r. ⌜ r ≡ pageRead (now (file .entry)) compressor end directory row column e walk ⌝ }
+    ensures plain { λ r. ⌜ r ≡ plainRead (now (file .entry)) compressor row column e walk ⌝ }
+    ensures meaning { λ r. ⌜ r ≡ readMeaning (now (file .entry)) compressor row column e ⌝ }
 {
     match page_check::check(file) {
         Verdict::Refused(r) => Cell::Refused(r),
         Verdict::Accepted => {
-            lookups::look_up(file, route_of(file, end, directory, walk), row, column, e)
+            lookups::look_up(
+                file,
+                compressor,
+                route_of(file, end, directory, walk),
+                row,
+                column,
+                e,
+            )
         }
     }
 }

@@ -6,6 +6,10 @@ use super::check::{stages_1_to_8, stages_1_to_9, Answer, Passed};
 use super::fields::{integer_at, short_at};
 use super::geometry::{tile_count, tiles_across, uncompressed_size};
 use super::header::{Element, Header};
+use super::unpack::{unpack, Shape};
+
+/// G Table 2.
+const FLOAT: u8 = 2;
 
 /// A cell is a row, a column and an element number.
 #[derive(Clone, Copy, Debug, PartialEq)]
@@ -18,8 +22,21 @@ pub struct Spot {
 /// The answer of a cell read. Bits are 16 for a Short, else 32.
 #[derive(Clone, Copy, Debug, PartialEq)]
 pub enum Cell {
-    Stored { type_code: u8, bits: u32, place: u64 },
-    Fill { type_code: u8, bits: u32 },
+    Stored {
+        type_code: u8,
+        bits: u32,
+        place: u64,
+    },
+    /// Req 01: "its place is the start of its element's content".
+    Unpacked {
+        type_code: u8,
+        bits: u32,
+        place: u64,
+    },
+    Fill {
+        type_code: u8,
+        bits: u32,
+    },
     Refused(Answer),
 }
 
@@ -31,15 +48,32 @@ pub enum Content {
     Refused(Answer),
 }
 
+/// The answer for all cells of one element in one tile, row by row. Bits are 16 of a Short, else
+/// 32.
+#[derive(Clone, Debug, PartialEq)]
+pub enum Cells {
+    Stored { start: u64, bits: Vec<u32> },
+    Unpacked { start: u64, bits: Vec<u32> },
+    Absent,
+    Refused(Answer),
+}
+
 pub const STORED: u32 = 32;
 pub const FILL: u32 = 33;
+pub const UNPACKED: u32 = 34;
+
+/// A compressor that no content names.
+pub const NO_COMPRESSOR: u32 = 256;
 
 impl Cell {
-    /// As `gvrs_cell` gives it.
+    /// As `gvrs_cell` and `gvrs_cell_with` give it.
     pub fn as_numbers(&self) -> (u32, [u64; 3]) {
         match *self {
             Cell::Stored { type_code, bits, place } => {
                 (STORED, [u64::from(type_code), u64::from(bits), place])
+            }
+            Cell::Unpacked { type_code, bits, place } => {
+                (UNPACKED, [u64::from(type_code), u64::from(bits), place])
             }
             Cell::Fill { type_code, bits } => (FILL, [u64::from(type_code), u64::from(bits), 0]),
             Cell::Refused((number, place)) => (number, [0, 0, place]),
@@ -54,6 +88,26 @@ impl Content {
             Content::Present { start, length } => (STORED, [start, length]),
             Content::Absent => (FILL, [0, 0]),
             Content::Refused((number, place)) => (number, [place, 0]),
+        }
+    }
+}
+
+impl Cells {
+    /// As `gvrs_unpack` gives it, without the cells.
+    pub fn as_numbers(&self) -> (u32, [u64; 2]) {
+        match self {
+            Cells::Stored { start, bits } => (STORED, [*start, bits.len() as u64]),
+            Cells::Unpacked { start, bits } => (UNPACKED, [*start, bits.len() as u64]),
+            Cells::Absent => (FILL, [0, 0]),
+            Cells::Refused((number, place)) => (*number, [*place, 0]),
+        }
+    }
+
+    /// The cells, none where there are none.
+    pub fn bits(&self) -> &[u32] {
+        match self {
+            Cells::Stored { bits, .. } | Cells::Unpacked { bits, .. } => bits,
+            Cells::Absent | Cells::Refused(_) => &[],
         }
     }
 }
@@ -76,10 +130,29 @@ impl<'a> Opened<'a> {
     }
 
     pub fn cell(&self, spot: Spot) -> Cell {
+        self.cell_with(spot, NO_COMPRESSOR)
+    }
+
+    /// Req 01: "the caller names the compressor index".
+    pub fn cell_with(&self, spot: Spot, compressor: u32) -> Cell {
         match &self.passed {
-            Ok(passed) => cell(self.file, passed, spot),
+            Ok(passed) => cell(self.file, passed, spot, compressor),
             Err(refusal) => Cell::Refused(*refusal),
         }
+    }
+
+    /// Every cell of an element in a tile.
+    pub fn cells_with(&self, tile: u64, element: u64, compressor: u32) -> Cells {
+        match &self.passed {
+            Ok(passed) => cells(self.file, passed, tile, element, compressor),
+            Err(refusal) => Cells::Refused(*refusal),
+        }
+    }
+
+    /// Cells of one tile, 0 where the file is refused.
+    pub fn tile_cells(&self) -> usize {
+        let cells = |header: &Header| header.tile_rows * header.tile_columns;
+        self.passed.as_ref().map_or(0, |passed| cells(&passed.header) as usize)
     }
 
     pub fn content(&self, tile: u64, element: u64) -> Content {
@@ -92,7 +165,7 @@ impl<'a> Opened<'a> {
 
 /// Document 01: "Outside the grid it is 10, place 0. If no record after the header is a tile record
 /// with the cell's tile index, it is fill [..] Otherwise the record that is one decides."
-fn cell(file: &[u8], passed: &Passed, spot: Spot) -> Cell {
+fn cell(file: &[u8], passed: &Passed, spot: Spot, compressor: u32) -> Cell {
     let header = &passed.header;
     let Some(element) = element(header, spot.element) else {
         return Cell::Refused((10, 0));
@@ -105,11 +178,66 @@ fn cell(file: &[u8], passed: &Passed, spot: Spot) -> Cell {
         return Cell::Fill { type_code, bits: element.fill };
     };
     let part = part_of(header, record, spot.element as usize);
+    let inside = number_inside(header, spot);
     if is_compressed(header, element, &part) {
-        return Cell::Refused((11, record.start as u64));
+        let content = &file[part.start..part.start + part.length];
+        return match unpacked(content, header, element, compressor) {
+            Ok(cells) => {
+                let bits = cells[inside as usize];
+                Cell::Unpacked { type_code, bits, place: part.start as u64 }
+            }
+            Err(number) => Cell::Refused((number, record.start as u64)),
+        };
     }
-    let place = part.start as u64 + number_inside(header, spot) * element.cell_size();
+    let place = part.start as u64 + inside * element.cell_size();
     Cell::Stored { type_code, bits: bits_at(file, element, place as usize), place }
+}
+
+/// Refused as a cell read is.
+fn cells(file: &[u8], passed: &Passed, tile: u64, element_number: u64, compressor: u32) -> Cells {
+    let header = &passed.header;
+    let Some(element) = element(header, element_number) else {
+        return Cells::Refused((10, 0));
+    };
+    if tile >= tile_count(header) {
+        return Cells::Refused((10, 0));
+    }
+    let Some(record) = tile_record(passed, tile) else {
+        return Cells::Absent;
+    };
+    let part = part_of(header, record, element_number as usize);
+    let start = part.start as u64;
+    let content = &file[part.start..part.start + part.length];
+    if is_compressed(header, element, &part) {
+        return match unpacked(content, header, element, compressor) {
+            Ok(bits) => Cells::Unpacked { start, bits },
+            Err(number) => Cells::Refused((number, record.start as u64)),
+        };
+    }
+    let places = (0..content.len()).step_by(element.cell_size() as usize);
+    Cells::Stored { start, bits: places.map(|at| bits_at(content, element, at)).collect() }
+}
+
+/// The bits of every cell of compressed content. Req 01: "Any other index, or a Float element, is
+/// still 11", whatever else stands there (reading 13). "Malformed content, or a Short out of range,
+/// is new refusal 14".
+fn unpacked(
+    content: &[u8],
+    header: &Header,
+    element: &Element,
+    compressor: u32,
+) -> Result<Vec<u32>, u32> {
+    if element.type_code == FLOAT || u32::from(content[0]) != compressor {
+        return Err(11);
+    }
+    let shape = Shape {
+        rows: header.tile_rows as usize,
+        columns: header.tile_columns as usize,
+        short: element.cell_size() == 2,
+    };
+    let cells = unpack(content, shape).ok_or(14u32)?;
+    let mask = if shape.short { 0xffff } else { u32::MAX };
+    Ok(cells.into_iter().map(|cell| cell as u32 & mask).collect())
 }
 
 /// Document 01: "The uncompressed content of one element, by tile index and element number [..]

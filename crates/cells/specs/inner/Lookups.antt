@@ -6,18 +6,21 @@ use mathlib.Core.Bool.{Bool, true}
 use lib.ListN.{length}
 use Rattle.wire.specs.Pick.{pick}
 use Rattle.wire.specs.Tests.{_≤?_, is, passes}
+use Rattle.answer.specs.declared.Refusal.{Refusal}
 use Rattle.answer.specs.declared.Refusal.the-variants.{Directory, OutsideGrid}
 use Rattle.answer.specs.declared.Cell.{Cell}
 use Rattle.answer.specs.declared.Cell.the-variants as cell
 use Rattle.answer.specs.declared.Content.{Content}
 use Rattle.answer.specs.declared.Content.the-variants as content
+use Rattle.answer.specs.declared.Held.{Held}
+use Rattle.answer.specs.declared.Held.the-variants as held
 use Rattle.record.specs.declared.Found.{Found}
 use Rattle.record.specs.declared.Found.the-variants.{At, Nothing}
 use Rattle.geometry.specs.Tiles.{cellTile}
 use Rattle.check_header.specs.HeaderRecord.{sidesRight}
 use Rattle.check_header.specs.Ceilings.{sidesWithin}
 use Rattle.cells.specs.Asked.{inGrid, inTiles}
-use Rattle.cells.specs.TileCells.{cellOf, contentOf}
+use Rattle.cells.specs.TileCells.{cellOf, contentOf, heldOf}
 
 -- the sides keep stages 3 and 4; so no number of a cell or tile is large
 unfoldable pub sidesLawful : List ℕ → Bool
@@ -28,20 +31,32 @@ abbrev pub inReach : List ℕ → Found → Bool
 inReach s Nothing = true
 inReach s (At x) = passes ((x + 1 ≤? length s) ∷ [])
 
--- what a cell or a content is by what was found
-unfoldable pub cellReached : List ℕ → ℕ → ℕ → ℕ → Found → Cell
-cellReached s row column e f = pick (inReach s f) (cellOf s row column e f) (cell.Refused Directory)
+-- what is said by what was found: 9 where that starts past the file
+unfoldable pub reachedBy : {A : Type 0} → (Refusal → A) → (Found → A) → List ℕ → Found → A
+reachedBy refused said s f = pick (inReach s f) (said f) (refused Directory)
 
-unfoldable pub contentReached : List ℕ → ℕ → Found → Content
-contentReached s e f = pick (inReach s f) (contentOf s e f) (content.Refused Directory)
+abbrev pub cellReached : List ℕ → ℕ → ℕ → ℕ → ℕ → Found → Cell
+cellReached s ci row column e f = reachedBy cell.Refused (cellOf s ci row column e) s f
+
+abbrev pub contentReached : List ℕ → ℕ → Found → Content
+contentReached s e f = reachedBy content.Refused (contentOf s e) s f
+
+abbrev pub heldReached : List ℕ → ℕ → ℕ → Found → Held
+heldReached s ci e f = reachedBy held.Refused (heldOf s ci e) s f
 
 -- 10 outside the grid; then 9 where the sides are not lawful
-unfoldable pub lookedUp : List ℕ → (ℕ → Found) → ℕ → ℕ → ℕ → Cell
-lookedUp s way row column e =
+unfoldable pub lookedUp : List ℕ → ℕ → (ℕ → Found) → ℕ → ℕ → ℕ → Cell
+lookedUp s ci way row column e =
     pick (inGrid s row column e)
-    (pick (sidesLawful s) (cellReached s row column e (way (cellTile s row column))) (cell.Refused Directory))
+    (pick (sidesLawful s) (cellReached s ci row column e (way (cellTile s row column))) (cell.Refused Directory))
     (cell.Refused OutsideGrid)
 
-unfoldable pub lookedUpContent : List ℕ → (ℕ → Found) → ℕ → ℕ → Content
-lookedUpContent s way tile e =
-    pick (inTiles s tile e) (pick (sidesLawful s) (contentReached s e (way tile)) (content.Refused Directory)) (content.Refused OutsideGrid)
+unfoldable pub lookedTile : {A : Type 0} → (Refusal → A) → (Found → A) → List ℕ → (ℕ → Found) → ℕ → ℕ → A
+lookedTile refused said s way tile e =
+    pick (inTiles s tile e) (pick (sidesLawful s) (reachedBy refused said s (way tile)) (refused Directory)) (refused OutsideGrid)
+
+abbrev pub lookedUpContent : List ℕ → (ℕ → Found) → ℕ → ℕ → Content
+lookedUpContent s way tile e = lookedTile content.Refused (contentOf s e) s way tile e
+
+abbrev pub lookedUpHeld : List ℕ → ℕ → (ℕ → Found) → ℕ → ℕ → Held
+lookedUpHeld s ci way tile e = lookedTile held.Refused (heldOf s ci e) s way tile e

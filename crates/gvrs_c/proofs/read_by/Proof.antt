@@ -10,8 +10,8 @@ read-by-spec =
     tie.close
     (tie.spec
     (λ c κs. search needs)
-    (λ c. by-walk _ _ _ _ _ _ (c .before .if1 .taken) (c .read-by-walk .ensures .0))
+    (λ c. by-walk _ _ _ _ _ _ _ (c .before .if1 .taken) (c .read-by-walk .ensures .0))
     (λ c κs. search needs)
-    (λ c. by-records _ _ _ _ _ _ (c .before .if2 .taken) (c .read-by-records .ensures .0))
+    (λ c. by-records _ _ _ _ _ _ _ (c .before .if2 .taken) (c .read-by-records .ensures .0))
     (λ c κs. search needs)
-    (λ c. by-directory _ _ _ _ _ _ (c .before .before .if1 .left) (c .before .if2 .left) (c .read-by-directory .ensures .0)))
+    (λ c. by-directory _ _ _ _ _ _ _ (c .before .before .if1 .left) (c .before .if2 .left) (c .read-by-directory .ensures .0)))

@@ -9,6 +9,6 @@ cell-of-spec =
     tie.close
     (tie.spec
     (λ c κs. search needs)
-    (λ c. plain-both _ _ _ _ _ _ (c .read-by-walk .ensures .1))
+    (λ c. plain-both _ _ _ _ _ _ _ (c .read-by-walk .ensures .1))
     (λ c κs. search needs)
-    (λ c. plain-both _ _ _ _ _ _ (c .read-by-directory .ensures .1)))
+    (λ c. plain-both _ _ _ _ _ _ _ (c .read-by-directory .ensures .1)))

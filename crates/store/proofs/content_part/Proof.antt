@@ -145,8 +145,8 @@ module _ {M : Type 1} (𝓤 : URA M) (H : Heap 𝓤) (A : Atoms 𝓤) (W : Given
         alloc1 ! (λ l₀. alloc1 ! (λ l₁. alloc1 ! (λ l₂. alloc1 ! (λ l₃. alloc1 ! (λ l₄. alloc1 ! (λ l₅. alloc0 ! $ params1 ! $
         pass1 ! (init ! 8 refl wt) $ pass1 ! (init ! 6 refl (tt, record { fits = ft })) $ pass1 ! (init ! 4 refl (tt, record { fits = fe })) $ pass0 ! $
         assigns ! (of-opd ! (load ! (from ! (fld ! refl (stop !))) (look-in ! 8 (sub ! 0 refl (whole !))))) (from ! (stop !)) (init ! 2 refl (tt, wt .1 .0)) $
-        assigns ! (of-opd ! (load ! (from ! (fld ! refl (stop !))) (look-in ! 8 (sub ! 2 refl (whole !))))) (from ! (stop !)) (init ! 0 refl (tt, wt .1 .1 .1 .0)) $
-        move ! (12 ∷ []) $ use1 W (raw (ContentFrom 𝓤 H A mem run .pre to) ⊛ ‵ (OwnPage κ d)) (apart (wt .1 .1 .1 .0 .fits)) $ split ! $
+        assigns ! (of-opd ! (load ! (from ! (fld ! refl (stop !))) (look-in ! 8 (sub ! 3 refl (whole !))))) (from ! (stop !)) (init ! 0 refl (tt, wt .1 .1 .1 .1 .0)) $
+        move ! (12 ∷ []) $ use1 W (raw (ContentFrom 𝓤 H A mem run .pre to) ⊛ ‵ (OwnPage κ d)) (apart (wt .1 .1 .1 .1 .0 .fits)) $ split ! $
         calls-at ! fm (ContentFrom 𝓤 H A mem run) known to
         (and-then ! (load ! (from ! (stop !)) (look ! 4 refl)) (and-then ! (load ! (from ! (stop !)) (look ! 2 refl)) (and-then ! (load ! (from ! (stop !)) (look ! 8 refl)) (and-then ! (load ! (from ! (stop !)) (look ! 6 refl)) (no-more !))))) (λ u.
         use1 W (later (some (λ (r : RefT (List ℕ)). ((‵ (flft κ q) ⊛ ‵ ftrue) ⊛ ‵ (Res .own r (u ∷ []))) ⊛ raw (ensured 𝓤 H A from-part.ended (from-part.clauses 𝓤 H A mem run) (κ, tt) to-args tt r)))) (id⊢ 𝓤 _) $ await ! tt $ pick ! (λ r.

@@ -6,8 +6,8 @@ use crate::run::Run;
 /// Comparisons that a whole run makes at least, all functions together.
 const LEAST: usize = 200_000;
 
-/// The refusals of document 01, and that of Req 12.
-const REFUSALS: [u32; 14] = [1, 2, 3, 4, 5, 6, 7, 8, 9, 10, 11, 12, 13, 16];
+/// The refusals of document 01, and those of Req 01 and Req 12.
+const REFUSALS: [u32; 15] = [1, 2, 3, 4, 5, 6, 7, 8, 9, 10, 11, 12, 13, 14, 16];
 /// One more than the greatest of them.
 const NUMBERS: usize = 17;
 
@@ -72,8 +72,8 @@ fn met(functions: &[Function], number: u32) -> usize {
 }
 
 impl Run {
-    /// The eleven functions. Of names and texts by themselves no answer is a refusal.
-    pub fn functions(&self) -> [Function; 11] {
+    /// The fifteen functions. Of names, texts and M32 codes by themselves no answer is a refusal.
+    pub fn functions(&self) -> [Function; 15] {
         [
             Function::new("gvrs_check", self.answers()),
             Function::new("gvrs_check_start", self.starts.answers()),
@@ -86,6 +86,10 @@ impl Run {
             Function::new("gvrs_is_utf8", [(0, self.texts)].into_iter()),
             Function::new("gvrs_compare_names", [(0, self.name_pairs)].into_iter()),
             Function::new("gvrs_find_element", (0..).zip(self.look_ups)),
+            Function::new("gvrs_cell_with", self.packed.cell_answers()),
+            Function::new("gvrs_unpack", self.packed.unpack_answers()),
+            Function::new("gvrs_m32_write", [(0, self.packed.written)].into_iter()),
+            Function::new("gvrs_m32_read", [(0, self.packed.read)].into_iter()),
         ]
     }
 }

@@ -19,6 +19,7 @@ mod made;
 mod name_pairs;
 mod names;
 mod out;
+mod packed;
 mod reads;
 mod run;
 mod sample_sums;
@@ -57,7 +58,7 @@ fn main() -> ExitCode {
 
 /// Every section. Each has a generator of its own, so that one can change without the others.
 fn whole_run(seed: u64, small: bool) -> bool {
-    let sections: [fn(&mut Run, &mut Prng); 17] = [
+    let sections: [fn(&mut Run, &mut Prng); 18] = [
         sample_sums::section,
         made::section,
         allowed::section,
@@ -75,6 +76,7 @@ fn whole_run(seed: u64, small: bool) -> bool {
         starts::section,
         name_pairs::section,
         look_ups::section,
+        packed::section,
     ];
     let mut run = Run::new(small);
     for (number, section) in sections.into_iter().enumerate() {

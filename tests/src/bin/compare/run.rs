@@ -9,6 +9,7 @@ use gvrs_tests::second::check::{check, Answer};
 use crate::closing;
 use crate::lay_downs;
 use crate::listings;
+use crate::packed;
 use crate::reads;
 use crate::starts;
 
@@ -30,6 +31,7 @@ pub struct Run {
     pub lay_downs: lay_downs::tally::Tally,
     pub listings: listings::tally::Tally,
     pub starts: starts::tally::Tally,
+    pub packed: packed::tally::Tally,
     /// Names asked about.
     pub names: usize,
     /// Texts asked about.
@@ -68,6 +70,7 @@ impl Run {
             lay_downs: lay_downs::tally::Tally::new(),
             listings: listings::tally::Tally::new(),
             starts: starts::tally::Tally::new(),
+            packed: packed::tally::Tally::new(),
             names: 0,
             texts: 0,
             name_pairs: 0,
@@ -199,6 +202,7 @@ impl Run {
         self.lay_downs.report();
         self.listings.report();
         self.starts.report();
+        self.packed.report();
         closing::report(&self.functions());
         if !self.small {
             self.missed();
@@ -258,6 +262,10 @@ impl Run {
         }
         for thing in self.starts.missed() {
             println!("FAULT: first halves: never reached: {thing}");
+            self.faults += 1;
+        }
+        for thing in self.packed.missed() {
+            println!("FAULT: packed contents: never or wrongly reached: {thing}");
             self.faults += 1;
         }
         for number in self.look_ups_missed() {

@@ -7,11 +7,13 @@ use gvrs_tests::build::build;
 use gvrs_tests::library::{self, DIRECTORY, WALK, WALK_WITHOUT_STAGE_9};
 use gvrs_tests::prng::Prng;
 use gvrs_tests::random_page::random_page;
-use gvrs_tests::second::cells::Spot;
+use gvrs_tests::second::cells::{Spot, UNPACKED};
 use gvrs_tests::second::check::check;
 use gvrs_tests::second::lay_down::Given;
 
 use crate::lay_downs::draft::Draft;
+use crate::packed::holder::Holder;
+use crate::packed::trees::deep_comb;
 use crate::run::Run;
 
 /// What the header asks for, and what the thread and the calls before the library's take.
@@ -23,21 +25,41 @@ pub fn section(run: &mut Run, random: &mut Prng) {
         let file = build(&random_page(random)).bytes;
         run.compare("little stack", &file);
         let (lent, given) = (file.clone(), Draft::at_random(random).given);
-        let asked = move || ask(&lent, &given);
+        let comb = deep_comb(random).0;
+        let spot = comb.spots(random)[0].1;
+        let asked = move || {
+            let unpacked = ask_packed(&comb, spot);
+            (ask(&lent, &given), unpacked)
+        };
         let thread = thread::Builder::new().stack_size(ASKED + AROUND).spawn(asked);
         let answer = thread.expect("a thread is started").join().expect("the thread returns");
-        if answer != check(&file).0 {
+        if answer != (check(&file).0, UNPACKED) {
             run.fault("little stack: another answer", &file);
         }
     }
 }
 
-/// Asks all nine; the check's number.
+/// A content whose tree is a comb of depth 255: the number of the whole tile. A cell by each route
+/// too.
+fn ask_packed(comb: &Holder, spot: Spot) -> u32 {
+    let (file, compressor) = (comb.file(), comb.index());
+    for route in [DIRECTORY, WALK, WALK_WITHOUT_STAGE_9] {
+        library::cell_with(file, spot, route, compressor);
+    }
+    library::unpack_into(file, comb.place(), compressor, &mut vec![0; 400], &mut [0; 2])
+}
+
+/// Asks all others, and those with a compressor once more; the check's number.
 fn ask(file: &[u8], given: &Given) -> u32 {
     for route in [DIRECTORY, WALK, WALK_WITHOUT_STAGE_9] {
         library::cell(file, Spot { row: 0, column: 0, element: 0 }, route);
     }
     library::content(file, 0, 0);
+    let compressor = u32::from(file[file.len() / 2]);
+    library::cell_with(file, Spot { row: 0, column: 0, element: 0 }, DIRECTORY, compressor);
+    library::unpack_into(file, (0, 0), compressor, &mut [0; 64], &mut [0; 2]);
+    library::m32_write_into(&[u32::MAX, 1 << 31, 1 << 30], &mut [0; 18]);
+    library::m32_read_into(&[127, 0x86, 0xfe, 0xfe, 0xfe, 0], &mut [0; 2], &mut [0]);
     let Given { front, time, indexes, cells } = given;
     let mut buffer = vec![0; front.len() + 2 * cells.len() + 4096];
     library::lay_down_into(front, *time, indexes, cells, &mut buffer, &mut [0]);

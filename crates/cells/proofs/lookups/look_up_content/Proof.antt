@@ -3,7 +3,7 @@ use borrow.Author.Needs.{needs}
 use native.Mathlib.Omega.{arith}
 use mathlib.Core.Path.{refl, sym, _∙_}
 use Rattle.cells.proofs.CellLaws.{tiles-mean, sides-mean, count-small}
-use Rattle.cells.proofs.ReadLaws.{content-outside, content-unlawful, content-looked}
+use Rattle.cells.proofs.ReadLaws.{tile-outside, tile-unlawful, tile-looked}
 use Rattle.cells.proofs.lookups.look_up_content.Statement.{statement}
 use Rattle.cells.proofs.lookups.look_up_content.Tie as tie
 
@@ -17,6 +17,6 @@ look-up-content-spec =
     (λ c κs. search needs)
     (λ c. record { fits = omega (arith, c .before .before .before .before .in-tiles .ensures .1 (c .before .before .before .if1 .taken)) })
     (λ c κs. sym (c .before .before .sides-lawful .ensures) ∙ c .before .if2 .taken)
-    (λ c. content-looked _ _ _ _ _ (c .before .before .before .before .before .in-tiles .ensures .0) _ (c .before .before .before .sides-lawful .ensures) (c .before .before .before .before .if1 .taken) _ _ _ (c .before .before .if2 .taken) refl (c .before .found-by .ensures) (c .content-reached .ensures))
-    (λ c. content-unlawful _ _ _ _ _ (c .before .before .before .in-tiles .ensures .0) _ (c .before .sides-lawful .ensures) (c .before .before .if1 .taken) (c .if2 .left))
-    (λ c. content-outside _ _ _ _ _ (c .before .in-tiles .ensures .0) (c .if1 .left)))
+    (λ c. tile-looked _ _ _ _ _ _ _ (c .before .before .before .before .before .in-tiles .ensures .0) _ (c .before .before .before .sides-lawful .ensures) (c .before .before .before .before .if1 .taken) _ _ _ (c .before .before .if2 .taken) refl (c .before .found-by .ensures) (c .content-reached .ensures))
+    (λ c. tile-unlawful _ _ _ _ _ _ _ (c .before .before .before .in-tiles .ensures .0) _ (c .before .sides-lawful .ensures) (c .before .before .if1 .taken) (c .if2 .left))
+    (λ c. tile-outside _ _ _ _ _ _ _ (c .before .in-tiles .ensures .0) (c .if1 .left)))

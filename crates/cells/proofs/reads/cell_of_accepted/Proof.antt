@@ -10,4 +10,4 @@ cell-of-accepted-spec =
     (tie.spec
     (λ c κs. search needs)
     (λ c κs. search needs)
-    (λ c. (looked-directory _ _ _ _ _ _ (c .look-up .ensures) (c .before .tile-directory-at .ensures), directory-answer _ _ _ _ _ _ (c .look-up .ensures) (c .before .tile-directory-at .ensures))))
+    (λ c. (looked-directory _ _ _ _ _ _ _ (c .look-up .ensures) (c .before .tile-directory-at .ensures), directory-answer _ _ _ _ _ _ _ (c .look-up .ensures) (c .before .tile-directory-at .ensures))))

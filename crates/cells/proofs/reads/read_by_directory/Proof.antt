@@ -12,5 +12,5 @@ read-by-directory-spec =
     (λ c. search needs)
     (λ c. search needs)
     (λ c κs. search needs)
-    (λ c. both-directory _ _ _ _ _ (mean-refused _ _ (c .before .before .before .check .ensures) _ _ _ _ (c .before .r .given .1)))
-    (λ c. both-directory _ _ _ _ _ (mean-answer _ _ (c .before .before .before .check .ensures) _ _ _ _ (c .before .enum-told .given .1) (c .cell-of-accepted .ensures .1))))
+    (λ c. both-directory _ _ _ _ _ _ (mean-refused _ _ (c .before .before .before .check .ensures) _ _ _ _ _ (c .before .r .given .1)))
+    (λ c. both-directory _ _ _ _ _ _ (mean-answer _ _ (c .before .before .before .check .ensures) _ _ _ _ _ (c .before .enum-told .given .1) (c .cell-of-accepted .ensures .1))))

@@ -13,5 +13,5 @@ read-by-records-spec =
     (λ c. search needs)
     (λ c κs. search needs)
     (λ c κs. search needs)
-    (λ c. both-records _ _ _ _ _ (bodies-refused _ _ (c .before .before .before .check-to-bodies .ensures) _ _ _ _ (c .before .r .given .1)))
-    (λ c. both-records _ _ _ _ _ (bodies-answer _ _ (c .before .before .before .before .check-to-bodies .ensures) _ _ _ _ (c .before .before .enum-told .given .1) (λ a. walk-answer _ _ _ _ _ _ (c .look-up .ensures) (c .before .header-end .ensures) (bodies-lawful _ a)))))
+    (λ c. both-records _ _ _ _ _ _ (bodies-refused _ _ (c .before .before .before .check-to-bodies .ensures) _ _ _ _ _ (c .before .r .given .1)))
+    (λ c. both-records _ _ _ _ _ _ (bodies-answer _ _ (c .before .before .before .before .check-to-bodies .ensures) _ _ _ _ _ (c .before .before .enum-told .given .1) (λ a. walk-answer _ _ _ _ _ _ _ (c .look-up .ensures) (c .before .header-end .ensures) (bodies-lawful _ a)))))

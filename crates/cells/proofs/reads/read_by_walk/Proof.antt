@@ -13,5 +13,5 @@ read-by-walk-spec =
     (λ c. search needs)
     (λ c κs. search needs)
     (λ c κs. search needs)
-    (λ c. both-walk _ _ _ _ _ (mean-refused _ _ (c .before .before .before .check .ensures) _ _ _ _ (c .before .r .given .1)))
-    (λ c. both-walk _ _ _ _ _ (mean-answer _ _ (c .before .before .before .before .check .ensures) _ _ _ _ (c .before .before .enum-told .given .1) (λ a. walk-answer _ _ _ _ _ _ (c .look-up .ensures) (c .before .header-end .ensures) (check-lawful _ a)))))
+    (λ c. both-walk _ _ _ _ _ _ (mean-refused _ _ (c .before .before .before .check .ensures) _ _ _ _ _ (c .before .r .given .1)))
+    (λ c. both-walk _ _ _ _ _ _ (mean-answer _ _ (c .before .before .before .before .check .ensures) _ _ _ _ _ (c .before .before .enum-told .given .1) (λ a. walk-answer _ _ _ _ _ _ _ (c .look-up .ensures) (c .before .header-end .ensures) (check-lawful _ a)))))

@@ -1,6 +1,6 @@
 -- `cells::tile_cells::cell_in` meets its contract. Assumes nothing.
-use borrow.Author.Needs.{needs}
 use Rattle.cells.proofs.CellLaws.{cell-packed, cell-whole}
+use borrow.Author.Needs.{needs}
 use Rattle.cells.proofs.tile_cells.cell_in.Statement.{statement}
 use Rattle.cells.proofs.tile_cells.cell_in.Tie as tie
 
@@ -9,7 +9,8 @@ cell-in-spec =
     tie.close
     (tie.spec
     (λ c κs. search needs)
-    (λ c. search (needs, cell-packed, cell-whole))
+    (λ c κs. search needs)
+    (λ c. search (needs, cell-packed))
     (λ c κs. search needs)
     (λ c κs. search needs)
-    (λ c. search (needs, cell-packed, cell-whole)))
+    (λ c. search (needs, cell-whole)))

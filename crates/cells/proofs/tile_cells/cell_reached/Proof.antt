@@ -1,6 +1,6 @@
 -- `cells::tile_cells::cell_reached` meets its contract. Assumes nothing.
 use borrow.Author.Needs.{needs}
-use Rattle.cells.proofs.CellLaws.{cell-absent, cell-found, cell-lost}
+use Rattle.cells.proofs.CellLaws.{reached-none, reached-at, cell-lost}
 use Rattle.cells.proofs.tile_cells.cell_reached.Statement.{statement}
 use Rattle.cells.proofs.tile_cells.cell_reached.Tie as tie
 
@@ -12,6 +12,6 @@ cell-reached-spec =
     (λ c κs. search needs)
     (λ c. search needs)
     (λ c κs. search needs)
-    (λ c. search (needs, cell-absent, cell-found, cell-lost))
-    (λ c. search (needs, cell-absent, cell-found, cell-lost))
-    (λ c. search (needs, cell-absent, cell-found, cell-lost)))
+    (λ c. search (needs, reached-none, reached-at, cell-lost))
+    (λ c. search (needs, reached-none, reached-at, cell-lost))
+    (λ c. search (needs, reached-none, reached-at, cell-lost)))

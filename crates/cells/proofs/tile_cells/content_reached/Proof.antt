@@ -1,6 +1,6 @@
 -- `cells::tile_cells::content_reached` meets its contract. Assumes nothing.
 use borrow.Author.Needs.{needs}
-use Rattle.cells.proofs.CellLaws.{content-absent, content-found, content-lost}
+use Rattle.cells.proofs.CellLaws.{reached-none, reached-at, content-lost}
 use Rattle.cells.proofs.tile_cells.content_reached.Statement.{statement}
 use Rattle.cells.proofs.tile_cells.content_reached.Tie as tie
 
@@ -11,6 +11,6 @@ content-reached-spec =
     (λ c. search needs)
     (λ c. search needs)
     (λ c κs. search needs)
-    (λ c. search (needs, content-absent, content-found, content-lost))
-    (λ c. search (needs, content-absent, content-found, content-lost))
-    (λ c. search (needs, content-absent, content-found, content-lost)))
+    (λ c. search (needs, reached-none, reached-at, content-lost))
+    (λ c. search (needs, reached-none, reached-at, content-lost))
+    (λ c. search (needs, reached-none, reached-at, content-lost)))

@@ -14,5 +14,5 @@ read-from-spec =
     (λ c. search needs)
     (λ c κs. search needs)
     (λ c κs. search needs)
-    (λ c. all-three _ _ _ _ _ _ _ _ (mean-refused _ _ (c .before .before .before .check .ensures) _ _ _ _ (c .before .r .given .1)))
-    (λ c. all-three _ _ _ _ _ _ _ _ (mean-answer _ _ (c .before .before .before .before .check .ensures) _ _ _ _ (c .before .before .enum-told .given .1) (page-answer _ _ _ _ (c .before .before .before .before .before .before .args .end) (c .before .before .before .before .before .before .args .directory) (c .before .before .before .before .before .before .args .walk) _ _ (c .before .route-of .ensures) (c .look-up .ensures)))))
+    (λ c. all-three _ _ _ _ _ _ _ _ _ (mean-refused _ _ (c .before .before .before .check .ensures) _ _ _ _ _ (c .before .r .given .1)))
+    (λ c. all-three _ _ _ _ _ _ _ _ _ (mean-answer _ _ (c .before .before .before .before .check .ensures) _ _ _ _ _ (c .before .before .enum-told .given .1) (page-answer _ _ _ _ _ (c .before .before .before .before .before .before .args .end) (c .before .before .before .before .before .before .args .directory) (c .before .before .before .before .before .before .args .walk) _ _ (c .before .route-of .ensures) (c .look-up .ensures)))))

@@ -2,7 +2,7 @@
 
 use gvrs_tests::library::{self, DIRECTORY, WALK, WALK_WITHOUT_STAGE_9};
 use gvrs_tests::prng::Prng;
-use gvrs_tests::second::cells::{Cell, Content, Opened, Spot};
+use gvrs_tests::second::cells::{Cell, Cells, Content, Opened, Spot, NO_COMPRESSOR};
 
 use crate::run::Run;
 
@@ -10,7 +10,7 @@ use crate::run::Run;
 pub struct Asked<'a> {
     pub file: &'a [u8],
     /// An allocation of exactly the file's length, so that valgrind sees a read behind it.
-    lent: Box<[u8]>,
+    pub lent: Box<[u8]>,
     checked: Opened<'a>,
     without_stage_9: Opened<'a>,
 }
@@ -52,10 +52,25 @@ impl<'a> Asked<'a> {
 
     /// The second implementation's answer.
     pub fn meaning(&self, spot: Spot, route: u32) -> Cell {
+        self.meaning_with(spot, route, NO_COMPRESSOR)
+    }
+
+    /// The same for a compressor.
+    pub fn meaning_with(&self, spot: Spot, route: u32, compressor: u32) -> Cell {
         match route {
-            WALK_WITHOUT_STAGE_9 => self.without_stage_9.cell(spot),
-            _ => self.checked.cell(spot),
+            WALK_WITHOUT_STAGE_9 => self.without_stage_9.cell_with(spot, compressor),
+            _ => self.checked.cell_with(spot, compressor),
         }
+    }
+
+    /// The second implementation's cells of an element in a tile.
+    pub fn cells_with(&self, tile: u64, element: u64, compressor: u32) -> Cells {
+        self.checked.cells_with(tile, element, compressor)
+    }
+
+    /// Cells of one tile, 0 of a file that the check refuses.
+    pub fn tile_cells(&self) -> usize {
+        self.checked.tile_cells()
     }
 }
 

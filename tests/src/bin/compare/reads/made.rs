@@ -150,7 +150,7 @@ fn note(run: &mut Run, described: &Described, inside: Inside, cell: Cell) {
     match cell {
         Cell::Stored { .. } => note_stored(run, described, inside),
         Cell::Fill { .. } => note_fill(run, described, inside),
-        Cell::Refused(_) => {
+        Cell::Refused(_) | Cell::Unpacked { .. } => {
             let (contents, uncompressed) = contents_and_sizes(described, inside);
             if contents.iter().zip(&uncompressed).any(|(length, whole)| length == whole) {
                 run.reads.reached(MIXED_COMPRESSED);

@@ -100,7 +100,7 @@ fn read_without_9(run: &mut Run, aim: &Aim, asked: &Asked, spot: Spot) {
         Cell::Fill { .. } => WITHOUT_9[1],
         Cell::Refused((11, _)) => WITHOUT_9[2],
         Cell::Refused((10, 0)) => WITHOUT_9[3],
-        Cell::Refused(_) => {
+        Cell::Refused(_) | Cell::Unpacked { .. } => {
             run.fault("without stage 9 a directory is judged", asked.file);
             return;
         }

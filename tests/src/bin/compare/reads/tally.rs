@@ -38,7 +38,7 @@ fn kind(cell: &Cell) -> Option<usize> {
         Cell::Stored { .. } => Some(0),
         Cell::Fill { .. } => Some(1),
         Cell::Refused((11, _)) => Some(2),
-        Cell::Refused(_) => None,
+        Cell::Refused(_) | Cell::Unpacked { .. } => None,
     }
 }
 

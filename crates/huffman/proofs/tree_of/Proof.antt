@@ -1,0 +1,16 @@
+-- `huffman::tree_of` meets its contract. Assumes nothing.
+use Rattle.huffman.proofs.NodeLaws.{root-in, root-out}
+use native.Mathlib.Omega.{arith}
+use borrow.Author.Needs.{needs}
+use Rattle.huffman.proofs.tree_of.Statement.{statement}
+use Rattle.huffman.proofs.tree_of.Tie as tie
+
+pub tree-of-spec : {M : Type 1} → statement M
+tree-of-spec =
+    tie.close
+    (tie.spec
+    (λ c. root-out _ _ _ _ (λ h k. omega arith))
+    (λ c. root-out _ _ _ _ (λ h k. omega arith))
+    (λ c κs. search needs)
+    (λ c. search needs)
+    (λ c. root-in _ _ _ _ _ (omega arith) (omega arith) (c .before .before .read-tree .ensures .0) (c .before .before .read-tree .ensures .1 .0)))

@@ -1,0 +1,135 @@
+// Huffman codes: the bits of a content, the tree that is stored in them, and the symbols that the tree gives. The tree is held
+// flat, a number a node: a leaf is its symbol, a branch 256 and the number of its right child; its left child is the next node.
+pub mod bits;
+
+use bits::bit_at;
+use bits::octet_at;
+ghost use mathlib.Core.Path.{_≡_};
+ghost use Prim.Native.Nat.{_+_, _*_, _≤_, _<_};
+ghost use lib.ListN.{length, take};
+ghost use Rattle.huffman.specs.Tree.{Tree, treeAt};
+ghost use Rattle.huffman.specs.Nodes.{Nodes, Laid, Below, outcome, rootOutcome, rootLaid, childOf, symbolsIn};
+ghost use Rattle.huffman.specs.Symbols.{symbolAt, distinct};
+
+// A tree that was read: the bit behind it, the node behind it, and how many of the symbols that it may have are left.
+pub enum Read {
+    Tree { pos: usize, next: usize, left: u32 },
+    Bad,
+}
+
+// A symbol and the bit behind its code, or that the content ends before.
+pub enum Next {
+    Byte { y: u8, pos: usize },
+    End,
+}
+
+// Reads the tree at bit pos, of at most `left` leaves, into the nodes from `at` on.
+fn read_tree(c: &[u8], pos: usize, left: u32, nodes: &mut [u32], at: usize) -> Read
+    requires { ⌜ (at + 2 * left ≤ 512) × (511 ≤ length (now nodes)) ⌝ }
+    ensures is { λ r. ⌜ r ≡ outcome at left (treeAt (now (c .entry)) left pos) ⌝ }
+    ensures holds { λ _. ⌜ Laid (now (nodes .exit)) at (treeAt (now (c .entry)) left pos) ⌝ }
+    ensures below { λ _. ⌜ Below (now (nodes .entry)) (now (nodes .exit)) at ⌝ }
+{
+    if left == 0 {
+        return Read::Bad;
+    }
+    let bit = bit_at(c, pos);
+    if bit == 2 {
+        return Read::Bad;
+    }
+    if bit == 1 {
+        let y = octet_at(c, pos + 1);
+        if y == 256 {
+            return Read::Bad;
+        }
+        nodes[at] = y;
+        return Read::Tree {
+            pos: pos + 9,
+            next: at + 1,
+            left: left - 1,
+        };
+    }
+    match read_tree(c, pos + 1, left - 1, nodes, at + 1) {
+        Read::Bad => Read::Bad,
+        Read::Tree {
+            pos: p,
+            next: n,
+            left: l,
+        } => {
+            nodes[at] = 256 + n as u32;
+            read_tree(c, p, l + 1, nodes, n)
+        }
+    }
+}
+
+// Reads the tree at bit pos, of at most `left` leaves. A tree of 256 leaves takes 511 nodes; where there are fewer, or more
+// leaves are allowed, none is read.
+pub fn tree_of(c: &[u8], pos: usize, left: u32, nodes: &mut [u32]) -> Read
+    ensures is { λ r. ⌜ r ≡ rootOutcome (length (now (nodes .entry))) left (treeAt (now (c .entry)) left pos) ⌝ }
+    ensures holds { λ _. ⌜ rootLaid (length (now (nodes .entry))) left (now (nodes .exit)) (treeAt (now (c .entry)) left pos) ⌝ }
+{
+    if nodes.len() < 511 {
+        return Read::Bad;
+    }
+    if 256 < left {
+        return Read::Bad;
+    }
+    read_tree(c, pos, left, nodes, 0)
+}
+
+// Whether no symbol stands twice among the first n nodes.
+pub fn symbols_distinct(nodes: &[u32], n: usize) -> bool
+    ensures { λ r. ⌜ r ≡ distinct (symbolsIn (take n (now (nodes .entry)))) ⌝ }
+{
+    let mut seen = [false; 256];
+    let mut i = 0;
+    while i < n {
+        if nodes.len() <= i {
+            return true;
+        }
+        let node = nodes[i] as usize;
+        i += 1;
+        if 256 <= node {
+            continue;
+        }
+        if seen[node] {
+            return false;
+        }
+        seen[node] = true;
+    }
+    true
+}
+
+// The child of a branch: the bit 0 goes left, to the next node.
+fn child(i: usize, node: u32, bit: u32) -> usize
+    requires { ⌜ (i < 9223372036854775808) × (256 ≤ node) ⌝ }
+    ensures { λ r. ⌜ r ≡ childOf i node bit ⌝ }
+{
+    if bit == 0 {
+        return i + 1;
+    }
+    (node - 256) as usize
+}
+
+// The symbol whose code stands at bit `from`, by the nodes of a tree. Where the nodes are those of no tree, any answer is right.
+pub fn next_symbol(c: &[u8], nodes: &[u32], from: usize) -> Next
+    ensures { λ r. ⌜ ((t : Tree) → Nodes (now (nodes .entry)) 0 t → r ≡ symbolAt t (now (c .entry)) from) ⌝ }
+{
+    let mut pos = from;
+    let mut i = 0;
+    loop {
+        if nodes.len() <= i {
+            return Next::End;
+        }
+        let node = nodes[i];
+        if node < 256 {
+            return Next::Byte { y: node as u8, pos };
+        }
+        let bit = bit_at(c, pos);
+        if bit == 2 {
+            return Next::End;
+        }
+        i = child(i, node, bit);
+        pos += 1;
+    }
+}

@@ -1,0 +1,6 @@
+pub mod StepLaws
+pub mod CodeLaws
+pub mod BackLaws
+pub mod WriteLaws
+pub mod ReadLaws
+pub mod Samples

@@ -1,0 +1,3 @@
+pub mod M32
+pub mod Back
+pub mod Samples

@@ -1,0 +1,4 @@
+pub mod RowLaws
+pub mod InverseLaws
+pub mod Samples
+pub mod SmallLaws

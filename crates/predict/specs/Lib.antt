@@ -1,0 +1,3 @@
+pub mod Predict
+pub mod Inverse
+pub mod Samples
