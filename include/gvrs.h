@@ -1,5 +1,5 @@
-/* Gridfour Virtual Raster Store files, version 1.4: the check of a file, whole or in two halves, reads of its cells, its elements by
-   their names, the laying down of a new one, and the listing of a file.
+/* Gridfour Virtual Raster Store files, version 1.4: the check of a file, whole or in two halves, reads of its cells, compressed
+   ones too, M32 codes, its elements by their names, the laying down of a new one, and the listing of a file.
 
    Link with libgvrs_c.a, which `rt staticlib gvrs_c` writes to target/staticlib/. A file is the bytes of the whole file, n of
    them, but for gvrs_check_start. `out` takes the numbers that a function names, in their order; a shorter one takes those that
@@ -31,7 +31,7 @@ enum {
     GVRS_BODY = 8,         /* body of a tile or metadata record at fault: also its name or description */
     GVRS_DIRECTORY = 9,    /* directory at fault */
     GVRS_OUTSIDE = 10,     /* row, column, element or tile asked for not in the grid */
-    GVRS_COMPRESSED = 11,  /* content asked for is compressed, and not of the compressor index that is named, or of a Float */
+    GVRS_COMPRESSED = 11,  /* content asked for is compressed; of a cell: and not of the compressor index named, or of a Float */
     GVRS_INPUT = 12,       /* input wrong: of a lay-down, or more first bytes than the stated length */
     GVRS_ROOM = 13,        /* lay-down output too short */
     GVRS_MALFORMED = 14,   /* compressed content malformed, or a Short in it out of range */

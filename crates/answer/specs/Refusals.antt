@@ -1,5 +1,5 @@
--- Document 01, 'Thirteen refusals': the number and the place of each. Document 02 adds one, Req 12: 16, place 0, where a stage needs a
--- byte that is not given.
+-- Document 01, 'Thirteen refusals': the number and the place of each. Document 02 adds 14, at the tile
+-- record, where compressed content is malformed (Req 01), and 16, place 0, where a stage needs a byte that is not given (Req 12).
 use Prim.Native.Nat.{ℕ}
 use mathlib.Core.Bool.{Bool, true, false}
 use Rattle.answer.specs.declared.Refusal.{Refusal}

@@ -9,8 +9,8 @@ ghost use Rattle.answer.specs.Refusals.{refusalNumber, refusalPlace, ver
 ghost use Rattle.answer.specs.Values.{valueOf, valueType, valueBits};
 ghost use Rattle.answer.specs.Answers.{cellKind, cellType, cellBits, cellPlace, contentKind, contentPlace, contentLength, heldKind, heldPlace, lookupKind, lookupNumber, laidNumber};
 
-// Document 01's thirteen refusals, in their order, with a place where it gives one that varies; then document 02's: a byte that a stage
-// needs is not given.
+// Document 01's thirteen refusals, in their order, with a place where it gives one that varies; then document 02's:
+// compressed content is malformed, and a byte that a stage needs is not given.
 pub enum Refusal {
     Identification,
     Version,

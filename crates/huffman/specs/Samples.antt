@@ -1,4 +1,4 @@
--- Trees and symbols of three contents, in one table: two leaves 0 and 1, one leaf 255, and the first cut by its last byte but one.
+-- Trees and symbols of three contents, in one table: two leaves 0 and 1, one leaf 255, and the first without its last two bytes.
 use Prim.Native.Nat.{ℕ}
 use mathlib.Core.Path.{_≡_}
 use mathlib.Core.List.{List, [], _∷_}

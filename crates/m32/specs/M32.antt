@@ -42,7 +42,8 @@ firstStep y =
     (pick (eqb y 129) (More (begun true))
     (Number (y + 4294967040)))))
 
--- a byte that another follows: malformed is 'a sixth byte of magnitude', and so is a number of bits that no magnitude reaches
+-- a byte that another follows: malformed is 'a sixth byte of magnitude', and so is a number of bits that no
+-- code comes to; only a state that was made up has it
 unfoldable pub goOn : Partial → ℕ → Step
 goOn p v =
     pick (passes ((p .digits ≤? 3) ∷ (v ≤? largestInteger) ∷ []))

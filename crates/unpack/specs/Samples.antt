@@ -1,4 +1,4 @@
--- Contents and what they hold, in one table. The first two are those of `huffman`'s samples.
+-- Contents and what they hold, in one table. `two` and `one` are those of `huffman`'s samples.
 use Prim.Native.Nat.{ℕ}
 use mathlib.Core.Path.{_≡_}
 use mathlib.Core.List.{List, [], _∷_, map}
