@@ -7,7 +7,7 @@ use native.Mathlib.Omega.{arith}
 use native.Mathlib.Nat.{mod-lt, mul-le-mul}
 use lib.ListN.{length}
 use lib.Dec.{leb, eqb}
-use borrow.Author.Tests.{lt-leb, leb-true, eqb-true, eqb-false, ne-eqb}
+use borrow.Author.Tests.{leb-true, eqb-true, eqb-false, ne-eqb}
 use Rattle.wire.specs.Pick.{pick}
 use Rattle.wire.specs.Tests.{_≤?_, passes}
 use Rattle.wire.specs.Bytes.{byteAt, part, u32At, numberAt}
@@ -17,7 +17,6 @@ use Rattle.answer.specs.declared.Refusal.{Refusal}
 use Rattle.answer.specs.declared.Refusal.the-variants as refusal
 use Rattle.answer.specs.declared.Cell.{Cell}
 use Rattle.answer.specs.declared.Cell.the-variants as cell
-use Rattle.answer.specs.declared.Content.{Content}
 use Rattle.answer.specs.declared.Content.the-variants as content
 use Rattle.answer.specs.declared.Held.the-variants as held
 use Rattle.answer.specs.Values.{valueOf}
@@ -28,12 +27,12 @@ use Rattle.geometry.specs.Tiles.{tileCount, insideOf, cellInside, tilesIn, cell
 use Rattle.geometry.specs.Sizes.{cap, packingOf, elementPacking, cellOffset, uncompressed, elementBytes}
 use Rattle.geometry.specs.declared.Packing.the-variants.{Uncompressed, Compressed, Fault}
 use Rattle.geometry.proofs.SizeLaws.{size-range}
-use Rattle.check_header.specs.HeaderRecord.{positive, sidesRight}
+use Rattle.check_header.specs.HeaderRecord.{sidesRight}
 use Rattle.check_header.specs.Ceilings.{sidesWithin}
 use Rattle.check_header.specs.Passed.{Sides}
 use Rattle.check_header.proofs.PassedLaws.{sides-of}
 use Rattle.check_records.specs.TileBody.{sectionPacking, notFault, sectionRight}
-use Rattle.bodies.specs.TileRecord.{sectionAt, sectionStart, sectionLength, elementContentAt}
+use Rattle.bodies.specs.TileRecord.{sectionAt, sectionLength, elementContentAt}
 use Rattle.geometry.proofs.GridLaws.{grid-less, tile-less, along-most}
 use Rattle.record.specs.declared.Found.{Found}
 use Rattle.record.specs.declared.Found.the-variants.{Nothing, At}

@@ -9,7 +9,7 @@ use lib.ListN.{length, getD, set}
 use lib.Dec.{eqb}
 use borrow.Author.Tests.{eqb-true, eqb-false}
 use Rattle.wire.specs.Lists.{below}
-use Rattle.wire.specs.Bytes.{part, u32At, numberAt, put}
+use Rattle.wire.specs.Bytes.{part, numberAt, put}
 use Rattle.wire.proofs.PutLaws.{put-nil, put-not, pasted, pasted-none, pasted-more, pasted-all}
 use Rattle.header.specs.Fields.{tileRows, tileColumns}
 use Rattle.wire.proofs.TestLaws.{not-both}

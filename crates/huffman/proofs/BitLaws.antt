@@ -35,13 +35,12 @@ module _ (c : List ℕ) where
   pub bit-near : (i : ℕ) → bitAt c i < 2 → i < bitsIn
   bit-near i h = omega (arith, there i h)
 
+  pub bit-there : (i : ℕ) → i / 8 < bytesIn c → bitAt c i < 2
+  bit-there i h = let b : ℕ = byteAt c (i / 8) / 2 ^ (i % 8) in let e : bitAt c i ≡ b % 2 = bit-in i h in omega arith
+
   -- is so where one behind it is
   pub bit-before : (i j : ℕ) → i ≤ j → bitAt c j < 2 → bitAt c i < 2
-  bit-before i j h k =
-      let l : j / 8 < bytesIn c = there j k in
-      let b : ℕ = byteAt c (i / 8) / 2 ^ (i % 8) in
-      let e : bitAt c i ≡ b % 2 = bit-in i (omega arith) in
-      omega arith
+  bit-before i j h k = let l : j / 8 < bytesIn c = there j k in bit-there i (omega arith)
 
   -- what is told of a bit
 

@@ -24,13 +24,14 @@ pub record Subtree (t : Tree) (ns c : List ℕ) (from i pos : ℕ) : Type 0 wher
   pub here : Nodes ns i at
   pub same : symbolAt at c pos ≡ symbolAt t c from
 
-abbrev pub Walks : List ℕ → List ℕ → ℕ → ℕ → ℕ → Type 0
-Walks ns c from i pos = (t : Tree) → Nodes ns 0 t → Subtree t ns c from i pos
+-- a walk from node k on
+abbrev pub Walks : List ℕ → List ℕ → ℕ → ℕ → ℕ → ℕ → Type 0
+Walks ns c k from i pos = (t : Tree) → Nodes ns k t → Subtree t ns c from i pos
 
-pub start : (ns c : List ℕ) (from : ℕ) → Walks ns c from 0 from
-start ns c from t h = record { at = t; here = h; same = refl }
+pub start : (ns c : List ℕ) (k from : ℕ) → Walks ns c k from k from
+start ns c k from t h = record { at = t; here = h; same = refl }
 
-inside : (ns : List ℕ) (i : ℕ) (u : Tree) → Nodes ns i u → i < length ns
+pub inside : (ns : List ℕ) (i : ℕ) (u : Tree) → Nodes ns i u → i < length ns
 unfolding Nodes
 inside ns i (leaf y) h = h .0
 inside ns i (branch l r) h = h .0
@@ -64,17 +65,17 @@ step-at t ns c from i pos (branch l r) h e k z = by-cases (decLe (bitAt c pos) 0
         rw (ne-eqb (bitAt c pos) 0 b, q)
         (record { at = r; here = h .1 .1 .1; same = sym (rw (ne-eqb (bitAt c pos) 2 z, ne-eqb (bitAt c pos) 0 b)) ∙ e })
 
-module _ (ns c : List ℕ) (from i pos : ℕ) (w : Walks ns c from i pos) where
-  pub walk-out : length ns ≤ i → (t : Tree) → Nodes ns 0 t → End ≡ symbolAt t c from
+module _ (ns c : List ℕ) (k from i pos : ℕ) (w : Walks ns c k from i pos) where
+  pub walk-out : length ns ≤ i → (t : Tree) → Nodes ns k t → End ≡ symbolAt t c from
   walk-out h t x = absurd (omega (arith, inside ns i (w t x .at) (w t x .here)))
 
-  pub walk-symbol : getD ns i 0 < 256 → (t : Tree) → Nodes ns 0 t → Byte (getD ns i 0) pos ≡ symbolAt t c from
+  pub walk-symbol : getD ns i 0 < 256 → (t : Tree) → Nodes ns k t → Byte (getD ns i 0) pos ≡ symbolAt t c from
   walk-symbol h t x = symbol-at ns c i pos (w t x .at) (w t x .here) h ∙ w t x .same
 
-  pub walk-end : (b : ℕ) → 256 ≤ getD ns i 0 → b ≡ bitAt c pos → b ≡ 2 → (t : Tree) → Nodes ns 0 t → End ≡ symbolAt t c from
+  pub walk-end : (b : ℕ) → 256 ≤ getD ns i 0 → b ≡ bitAt c pos → b ≡ 2 → (t : Tree) → Nodes ns k t → End ≡ symbolAt t c from
   walk-end b h e f t x = ended-at ns c i pos (w t x .at) (w t x .here) h (sym e ∙ f) ∙ w t x .same
 
-  pub walk-on : (b j : ℕ) → 256 ≤ getD ns i 0 → b ≡ bitAt c pos → (b ≡ 2 → ⊥) → j ≡ childOf i (getD ns i 0) b → Walks ns c from j (pos + 1)
+  pub walk-on : (b j : ℕ) → 256 ≤ getD ns i 0 → b ≡ bitAt c pos → (b ≡ 2 → ⊥) → j ≡ childOf i (getD ns i 0) b → Walks ns c k from j (pos + 1)
   walk-on b j h e n f t x =
       let g : childOf i (getD ns i 0) (bitAt c pos) ≡ j = sym (f ∙ ap (childOf i (getD ns i 0)) e) in
       subst (λ (m : ℕ). Subtree t ns c from m (pos + 1)) g (step-at t ns c from i pos (w t x .at) (w t x .here) (w t x .same) h (λ q. n (e ∙ q)))
@@ -86,6 +87,14 @@ child-left i node bit h = rw (eq-eqb bit 0 h)
 pub child-right : (i node bit : ℕ) → (bit ≡ 0 → ⊥) → node - 256 ≡ childOf i node bit
 unfolding childOf
 child-right i node bit h = rw (ne-eqb bit 0 h)
+
+pub child-near : (i node bit m : ℕ) → i ≤ m → node < 4294967296 → 4294967040 ≤ m → childOf i node bit ≤ m + 1
+unfolding childOf
+child-near i node bit m h k l = go (eqb bit 0)
+  where
+    go : (b : Bool) → pick b (i + 1) (node - 256) ≤ m + 1
+    go true = omega arith
+    go false = omega arith
 
 -- the symbols among a tree's nodes are the tree's
 

@@ -19,8 +19,8 @@ pub fn bit_at(c: &[u8], i: usize) -> u32
     (c[j] as u32 >> (i % 8) as u32) % 2
 }
 
-// The eight bits from a position on, the first of them lowest, 256 where one lies past the end.
-pub fn octet_at(c: &[u8], i: usize) -> u32
+// The eight bits from a position on, one by one.
+fn octet_by_bits(c: &[u8], i: usize) -> u32
     ensures is { λ r. ⌜ r ≡ octetAt (now (c .entry)) i ⌝ }
     ensures small { λ r. ⌜ r ≤ 256 ⌝ }
 {
@@ -37,4 +37,19 @@ pub fn octet_at(c: &[u8], i: usize) -> u32
         v = bit_at(c, i + k) + 2 * v;
     }
     v
+}
+
+// The eight bits from a position on, the first of them lowest, 256 where one lies past the end. They lie in two bytes at most.
+pub fn octet_at(c: &[u8], i: usize) -> u32
+    ensures is { λ r. ⌜ r ≡ octetAt (now (c .entry)) i ⌝ }
+    ensures small { λ r. ⌜ r ≤ 256 ⌝ }
+{
+    if 17179869160 <= i {
+        return octet_by_bits(c, i);
+    }
+    let j = i / 8;
+    if c.len() <= j + 1 {
+        return octet_by_bits(c, i);
+    }
+    ((c[j] as u32 + 256 * c[j + 1] as u32) >> (i % 8) as u32) % 256
 }

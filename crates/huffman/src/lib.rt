@@ -1,14 +1,18 @@
 // Huffman codes: the bits of a content, the tree that is stored in them, and the symbols that the tree gives. The tree is held
 // flat, a number a node: a leaf is its symbol, a branch 256 and the number of its right child; its left child is the next node.
 pub mod bits;
+pub mod jumps;
 
 use bits::bit_at;
 use bits::octet_at;
+use jumps::child;
 ghost use mathlib.Core.Path.{_≡_};
 ghost use Prim.Native.Nat.{_+_, _*_, _≤_, _<_};
 ghost use lib.ListN.{length, take};
 ghost use Rattle.huffman.specs.Tree.{Tree, treeAt};
-ghost use Rattle.huffman.specs.Nodes.{Nodes, Laid, Below, outcome, rootOutcome, rootLaid, childOf, symbolsIn};
+ghost use Rattle.huffman.specs.Nodes.{Nodes, Laid, Below, outcome, rootOutcome, rootLaid, symbolsIn};
+ghost use Rattle.huffman.specs.Bits.{bitsIn};
+ghost use Rattle.huffman.specs.Jumps.{mostNodes, symbolIn, Jumps, Coded};
 ghost use Rattle.huffman.specs.Symbols.{symbolAt, distinct};
 
 // A tree that was read: the bit behind it, the node behind it, and how many of the symbols that it may have are left.
@@ -100,23 +104,12 @@ pub fn symbols_distinct(nodes: &[u32], n: usize) -> bool
     true
 }
 
-// The child of a branch: the bit 0 goes left, to the next node.
-fn child(i: usize, node: u32, bit: u32) -> usize
-    requires { ⌜ (i < 9223372036854775808) × (256 ≤ node) ⌝ }
-    ensures { λ r. ⌜ r ≡ childOf i node bit ⌝ }
-{
-    if bit == 0 {
-        return i + 1;
-    }
-    (node - 256) as usize
-}
-
-// The symbol whose code stands at bit `from`, by the nodes of a tree. Where the nodes are those of no tree, any answer is right.
-pub fn next_symbol(c: &[u8], nodes: &[u32], from: usize) -> Next
-    ensures { λ r. ⌜ ((t : Tree) → Nodes (now (nodes .entry)) 0 t → r ≡ symbolAt t (now (c .entry)) from) ⌝ }
+// The symbol whose code stands at bit `from`, bit by bit from a node on. Where that is no tree's, any answer is right.
+fn by_bits(c: &[u8], nodes: &[u32], start: usize, from: usize) -> Next
+    ensures { λ r. ⌜ ((t : Tree) → Nodes (now (nodes .entry)) start t → r ≡ symbolAt t (now (c .entry)) from) ⌝ }
 {
     let mut pos = from;
-    let mut i = 0;
+    let mut i = start;
     loop {
         if nodes.len() <= i {
             return Next::End;
@@ -132,4 +125,59 @@ pub fn next_symbol(c: &[u8], nodes: &[u32], from: usize) -> Next
         i = child(i, node, bit);
         pos += 1;
     }
+}
+
+// The symbol that a jump from bit pos leads to, and the bit behind its code.
+fn symbol_of(jump: u32, pos: usize) -> Next
+    requires { ⌜ (512 ≤ jump) × (pos < bitsIn) ⌝ }
+    ensures { λ r. ⌜ r ≡ symbolIn jump pos ⌝ }
+{
+    Next::Byte {
+        y: (jump % 256) as u8,
+        pos: pos + (jump / 512) as usize - 1,
+    }
+}
+
+// The same as by bits, four at a step while there is a jump.
+fn by_fours(c: &[u8], nodes: &[u32], jumps: &[u32], start: usize, from: usize) -> Next
+    requires { ⌜ start < mostNodes ⌝ }
+    ensures { λ r. ⌜ ((t : Tree) → Nodes (now (nodes .entry)) start t → Jumps (now (nodes .entry)) (now (jumps .entry)) → r ≡ symbolAt t (now (c .entry)) from) ⌝ }
+{
+    let mut pos = from;
+    let mut i = start;
+    loop {
+        let octet = octet_at(c, pos);
+        if octet == 256 {
+            return by_bits(c, nodes, i, pos);
+        }
+        let j = 256 + 16 * i + (octet % 16) as usize;
+        if jumps.len() <= j {
+            return by_bits(c, nodes, i, pos);
+        }
+        let jump = jumps[j];
+        if 512 <= jump {
+            return symbol_of(jump, pos);
+        }
+        i = jump as usize;
+        pos += 4;
+    }
+}
+
+// The symbol whose code stands at bit `from`, by the nodes of a tree and as many of its jumps as there are. Where the nodes are those of
+// no tree, or the jumps are not theirs, any answer is right.
+pub fn next_symbol(c: &[u8], nodes: &[u32], jumps: &[u32], from: usize) -> Next
+    ensures { λ r. ⌜ ((t : Tree) → Coded (now (nodes .entry)) (now (jumps .entry)) t → r ≡ symbolAt t (now (c .entry)) from) ⌝ }
+{
+    let first = octet_at(c, from);
+    if first == 256 {
+        return by_bits(c, nodes, 0, from);
+    }
+    if jumps.len() <= first as usize {
+        return by_bits(c, nodes, 0, from);
+    }
+    let jump = jumps[first as usize];
+    if 512 <= jump {
+        return symbol_of(jump, from);
+    }
+    by_fours(c, nodes, jumps, jump as usize, from + 8)
 }

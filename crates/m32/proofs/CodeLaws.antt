@@ -7,7 +7,7 @@ use lib.ListN.{length, getD, length-append}
 use lib.Dec.{leb}
 use borrow.Author.Tests.{le-leb, lt-leb, eq-eqb, ne-eqb}
 use Rattle.wire.specs.Pick.{pick}
-use Rattle.m32.specs.M32.{bases, absolute, continued, sevens, payload, wide, codeOf}
+use Rattle.m32.specs.M32.{bases, absolute, reached, continued, sevens, payload, wide, codeOf}
 
 module _ (x : ℕ) where
   pub plus : x ≤ 2147483647 → absolute x ≡ x
@@ -57,5 +57,13 @@ pub wide-is : (m k b : ℕ) → k ≡ continued m → b ≡ getD bases k 0 → p
 unfolding wide
 wide-is m k b e f = rw (f, e)
 
+small-continued : (m : ℕ) → m < 255 → 0 ≡ continued m
+unfolding continued reached
+small-continued m h = rw (lt-leb 255 m h)
+
 pub length-wide : (x m k : ℕ) → m ≡ absolute x → k ≡ continued m → 126 < m → (m ≡ 2147483648 → ⊥) → k + 2 ≡ length (codeOf x)
 length-wide x m k e f h n = rw (code-wide x m e h n, f) (omega (arith, wide-length m))
+
+-- a magnitude of one byte
+pub length-two : (x m : ℕ) → m ≡ absolute x → 126 < m → m < 255 → 2 ≡ length (codeOf x)
+length-two x m e h k = length-wide x m 0 e (small-continued m k) h (λ q. absurd (omega arith))

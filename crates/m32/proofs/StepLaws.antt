@@ -1,17 +1,19 @@
 -- A code a step at a time, over any source of bytes. Assumes nothing.
-use Prim.Native.Nat.{ℕ, zero, suc, _+_, _-_, _*_, _≤_, _<_}
+use Prim.Native.Nat.{ℕ, zero, suc, _+_, _-_, _*_, _%_, _≤_, _<_}
 use mathlib.Core.Path.{_≡_, refl, sym, ap, _∙_}
 use mathlib.Core.List.{List, [], _∷_}
 use mathlib.Core.Bool.{Bool, true, false}
 use native.Mathlib.Omega.{arith}
 use lib.ListN.{length, getD}
 use lib.Dec.{leb}
-use borrow.Author.Tests.{le-leb, lt-leb}
+use mathlib.Core.Logic.{by-cases}
+use native.Mathlib.Decide.{decLe}
+use borrow.Author.Tests.{le-leb, lt-leb, eq-eqb, ne-eqb}
 use Rattle.wire.specs.Pick.{pick}
 use Rattle.wire.specs.Tests.{_≤?_, passes}
 use Rattle.wire.specs.Bytes.{largestInteger}
 use Rattle.wire.proofs.TestLaws.{yes, no}
-use Rattle.m32.specs.M32.{bases, signed, firstStep, goOn, ended, furtherStep, Next, byte, end, bytesNext, after, settle, magnitude, readCode}
+use Rattle.m32.specs.M32.{bases, signed, lowest, begun, firstStep, goOn, ended, furtherStep, Next, byte, end, bytesNext, after, settle, magnitude, readCode}
 use Rattle.m32.specs.declared.Partial.{Partial}
 use Rattle.m32.specs.declared.Step.{Step}
 use Rattle.m32.specs.declared.Step.the-variants.{Number, More, Bad}
@@ -24,6 +26,36 @@ abbrev room : Step → ℕ
 room (Number x) = 0
 room (More p) = 5 - p .digits
 room Bad = 0
+
+-- the first byte, as it is read
+
+module _ (y : ℕ) where
+  pub first-up : y ≡ 127 → More (begun false) ≡ firstStep y
+  unfolding firstStep
+  first-up e = let l : 126 < y = omega arith in rw (lt-leb y 126 l, eq-eqb y 127 e)
+
+  pub first-lowest : y ≡ 128 → Number lowest ≡ firstStep y
+  unfolding firstStep
+  first-lowest e = let l : 126 < y = omega arith in rw (lt-leb y 126 l, ne-eqb y 127 (λ q. absurd (omega arith)), eq-eqb y 128 e)
+
+  pub first-down : y ≡ 129 → More (begun true) ≡ firstStep y
+  unfolding firstStep
+  first-down e =
+      let l : 126 < y = omega arith in
+      rw (lt-leb y 126 l, ne-eqb y 127 (λ q. absurd (omega arith)), ne-eqb y 128 (λ q. absurd (omega arith)), eq-eqb y 129 e)
+
+  -- one that is the number itself, widened by its remainders
+  pub first-itself :
+      y < 256 → (y ≡ 127 → ⊥) → (y ≡ 128 → ⊥) → (y ≡ 129 → ⊥) → Number (((y + 128) % 256 + 4294967168) % 4294967296) ≡ firstStep y
+  unfolding firstStep
+  first-itself h a b d =
+      by-cases (decLe y 126)
+      (λ k. let e : ((y + 128) % 256 + 4294967168) % 4294967296 ≡ y = omega arith in rw (le-leb y 126 k, e))
+      (λ k.
+      let l : 126 < y = omega arith in
+      let n : 129 < y = omega (arith, a, b, d) in
+      let e : ((y + 128) % 256 + 4294967168) % 4294967296 ≡ y + 4294967040 = omega arith in
+      rw (lt-leb y 126 l, ne-eqb y 127 a, ne-eqb y 128 b, ne-eqb y 129 d, e))
 
 -- no base is below the first
 pub base-least : (k : ℕ) → k ≤ 4 → 127 ≤ getD bases k 0

@@ -46,13 +46,10 @@ pub fn base(digits: u32) -> u32
     }
 }
 
-// The first byte of a code.
+// The first byte of a code. A byte that is itself the number is widened without a branch, since its sign is as good as random.
 pub fn first(b: u8) -> Step
     ensures { λ r. ⌜ r ≡ firstStep b ⌝ }
 {
-    if b <= 126 {
-        return Step::Number(b as u32);
-    }
     if b == 127 {
         return Step::More(Partial {
             negative: false,
@@ -70,7 +67,7 @@ pub fn first(b: u8) -> Step
             sum: 0,
         });
     }
-    Step::Number(b as u32 + 4294967040)
+    Step::Number((((b as u64 + 128) % 256 + 4294967168) % 4294967296) as u32)
 }
 
 // A byte that another follows: v is the number of the seven bits of each up to it.

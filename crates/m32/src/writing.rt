@@ -37,14 +37,17 @@ fn continued(m: u32) -> u32
     4
 }
 
-// The length of a number's code.
+// The length of a number's code, of small numbers first.
 pub fn length_of(x: u32) -> usize
     ensures is { λ r. ⌜ r ≡ length (codeOf x) ⌝ }
     ensures few { λ r. ⌜ r ≤ 6 ⌝ }
 {
     let m = absolute(x);
-    if m <= 126 {
-        return 1;
+    if m < 255 {
+        if m <= 126 {
+            return 1;
+        }
+        return 2;
     }
     if m == 2147483648 {
         return 1;

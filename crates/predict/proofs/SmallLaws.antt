@@ -4,7 +4,7 @@ use mathlib.Core.List.{List, [], _∷_, _++_}
 use native.Mathlib.Omega.{arith}
 use native.Mathlib.Nat.{mod-lt}
 use lib.ListN.{getD, take, drop}
-use Rattle.predict.specs.Predict.{plus, predicted, rowFrom, rowOf, cellRows, noRow, tileCells}
+use Rattle.predict.specs.Predict.{plus, rowFrom, rowOf, cellRows, noRow, tileCells}
 
 append-small : (n : ℕ) → 0 < n → (a b : List ℕ) → ((j : ℕ) → getD a j 0 < n) → ((j : ℕ) → getD b j 0 < n) → (j : ℕ) → getD (a ++ b) j 0 < n
 append-small n h [] b f g j = g j

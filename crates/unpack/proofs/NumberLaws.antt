@@ -1,6 +1,6 @@
 -- A number read from the bits of a content, a symbol at a time. Assumes nothing.
 use Prim.Native.Nat.{ℕ, suc, _+_, _-_, _*_, _≤_, _<_}
-use mathlib.Core.Path.{_≡_, refl, sym, ap, _∙_}
+use mathlib.Core.Path.{_≡_, refl, sym, ap, subst, _∙_}
 use mathlib.Core.List.{List, [], _∷_}
 use mathlib.Core.Bool.{Bool, true, false}
 use native.Mathlib.Omega.{arith}
@@ -19,7 +19,7 @@ use Rattle.m32.specs.declared.Found.the-variants.{Nothing}
 use Rattle.m32.specs.declared.Found.the-variants as found
 use Rattle.m32.proofs.StepLaws.{outcome, is-number, is-bad, asks, lacks, begins, begins-not, longer}
 use Rattle.huffman.specs.Tree.{Tree}
-use Rattle.huffman.specs.Nodes.{Nodes}
+use Rattle.huffman.specs.Jumps.{Coded}
 use Rattle.huffman.specs.Symbols.{symbolAt}
 use Rattle.huffman.specs.declared.Next.{Next}
 use Rattle.huffman.specs.declared.Next.the-variants.{Byte, End}
@@ -31,10 +31,10 @@ weight (Number x) = 0
 weight (More p) = suc (5 - p .digits)
 weight Bad = 0
 
-pub lighter : (s u : Step) (p : Partial) (y : ℕ) → s ≡ More p → u ≡ furtherStep p y → weight u < weight s
+pub lighter : (u : Step) (p q : Partial) (y : ℕ) → u ≡ furtherStep p y → u ≡ More q → weight (More q) < weight (More p)
 unfolding furtherStep goOn ended
-lighter s u p y e f =
-    rw (e, f)
+lighter u p q y f e =
+    subst (λ (v : Step). weight v < weight (More p)) (sym f ∙ e)
     (go (leb 128 y) (passes ((p .digits ≤? 3) ∷ (p .sum * 128 + (y - 128) ≤? largestInteger) ∷ [])) refl
     (passes ((p .digits ≤? 4) ∷ (p .sum * 128 + y + getD bases (p .digits) 0 ≤? largestInteger) ∷ [])))
   where
@@ -47,10 +47,10 @@ lighter s u p y e f =
     go false b g true = omega arith
     go false b g false = omega arith
 
-module _ (c nodes : List ℕ) where
+module _ (c nodes jumps : List ℕ) where
   -- s is the symbol at a bit, by whatever tree the nodes are
   abbrev Gives : ℕ → Next → Type 0
-  Gives at s = (t : Tree) → Nodes nodes 0 t → s ≡ symbolAt t c at
+  Gives at s = (t : Tree) → Coded nodes jumps t → s ≡ symbolAt t c at
 
   a-byte : (t : Tree) (at y q : ℕ) (s : Next) → s ≡ symbolAt t c at → s ≡ Byte y q → symbols t c at ≡ byte y q
   unfolding symbols
@@ -63,11 +63,11 @@ module _ (c nodes : List ℕ) where
   module _ (from : ℕ) where
     -- r is the number at the bit `from`
     abbrev Is : Found → Type 0
-    Is r = (t : Tree) → Nodes nodes 0 t → r ≡ readCode (symbols t c) from
+    Is r = (t : Tree) → Coded nodes jumps t → r ≡ readCode (symbols t c) from
 
     -- what the step u comes to at a bit is the number at `from`
     abbrev pub Coming : Step → ℕ → Type 0
-    Coming u at = (t : Tree) → Nodes nodes 0 t → outcome (symbols t c) u at ≡ readCode (symbols t c) from
+    Coming u at = (t : Tree) → Coded nodes jumps t → outcome (symbols t c) u at ≡ readCode (symbols t c) from
 
     pub came-none : (s : Next) → Gives from s → s ≡ End → Is Nothing
     came-none s g e t h = sym (begins-not (symbols t c) from (no-byte t from s (g t h) e))
@@ -79,14 +79,15 @@ module _ (c nodes : List ℕ) where
       pub came-number : (x : ℕ) → u ≡ Number x → Is (found.Number x at)
       came-number x e t h = sym (is-number (symbols t c) x at) ∙ ap (λ (w : Step). outcome (symbols t c) w at) (sym e) ∙ inv t h
 
+      pub came-part : (p : Partial) → u ≡ More p → Coming (More p) at
+      came-part p e t h = ap (λ (w : Step). outcome (symbols t c) w at) (sym e) ∙ inv t h
+
       pub came-bad : u ≡ Bad → Is Nothing
       came-bad e t h = sym (is-bad (symbols t c) at) ∙ ap (λ (w : Step). outcome (symbols t c) w at) (sym e) ∙ inv t h
 
-      pub came-ended : (p : Partial) (s : Next) → u ≡ More p → Gives at s → s ≡ End → Is Nothing
-      came-ended p s e g f t h =
-          sym (lacks (symbols t c) p at (no-byte t at s (g t h) f)) ∙ ap (λ (w : Step). outcome (symbols t c) w at) (sym e) ∙ inv t h
+    module _ (p : Partial) (at : ℕ) (inv : Coming (More p) at) where
+      pub came-ended : (s : Next) → Gives at s → s ≡ End → Is Nothing
+      came-ended s g f t h = sym (lacks (symbols t c) p at (no-byte t at s (g t h) f)) ∙ inv t h
 
-      pub came-more : (p : Partial) (s : Next) (y q : ℕ) (v : Step) → u ≡ More p → Gives at s → s ≡ Byte y q → v ≡ furtherStep p y → Coming v q
-      came-more p s y q v e g f k t h =
-          rw k
-          (sym (asks (symbols t c) p at y q (a-byte t at y q s (g t h) f)) ∙ ap (λ (w : Step). outcome (symbols t c) w at) (sym e) ∙ inv t h)
+      pub came-more : (s : Next) (y q : ℕ) (v : Step) → Gives at s → s ≡ Byte y q → v ≡ furtherStep p y → Coming v q
+      came-more s y q v g f k t h = rw k (sym (asks (symbols t c) p at y q (a-byte t at y q s (g t h) f)) ∙ inv t h)

@@ -18,7 +18,7 @@ use Rattle.m32.proofs.BackLaws.{read-more}
 use Rattle.m32.proofs.ReadLaws.{read-none, read-full}
 use Rattle.m32.proofs.CodeLaws.{wide-length}
 use Rattle.huffman.specs.Tree.{Tree}
-use Rattle.huffman.specs.Nodes.{Nodes}
+use Rattle.huffman.specs.Jumps.{Coded}
 use Rattle.predict.specs.Predict.{rowOf}
 use Rattle.unpack.specs.Unpack.{symbols, inRange}
 use Rattle.unpack.specs.Steps.{filling, LineGood, Lined, Rowed, Few}
@@ -72,19 +72,19 @@ module _ (next : ℕ → Next) (start from : ℕ) (a : List ℕ) where
 
 -- the same by whatever tree the nodes are
 
-module _ (c nodes : List ℕ) (start from : ℕ) (a : List ℕ) where
+module _ (c nodes jumps : List ℕ) (start from : ℕ) (a : List ℕ) where
   abbrev pub Fills : List ℕ → ℕ → ℕ → Type 0
-  Fills row i pos = (t : Tree) → Nodes nodes 0 t → Filling (symbols t c) start from a row i pos
+  Fills row i pos = (t : Tree) → Coded nodes jumps t → Filling (symbols t c) start from a row i pos
 
   pub fills-start : Fills a from start
   fills-start t n = fill-start (symbols t c) start from a
 
   abbrev Lines : List ℕ → Behind → Type 0
-  Lines row r = (t : Tree) → Nodes nodes 0 t → Lined (symbols t c) start from a row r
+  Lines row r = (t : Tree) → Coded nodes jumps t → Lined (symbols t c) start from a row r
 
   module _ (row : List ℕ) (i pos : ℕ) (f : Fills row i pos) (l : length row ≡ length a) (h : from ≤ i) where
     abbrev Is : Found → Type 0
-    Is r = (t : Tree) → Nodes nodes 0 t → r ≡ readCode (symbols t c) pos
+    Is r = (t : Tree) → Coded nodes jumps t → r ≡ readCode (symbols t c) pos
 
     pub fills-one : (r : Found) (x q : ℕ) → i < length a → Is r → r ≡ found.Number x q → Fills (set row i x) (i + 1) q
     fills-one r x q k e g t n = fill-one (symbols t c) start from a row i pos (f t n) l h x q k (sym g ∙ e t n)
@@ -124,27 +124,27 @@ codes-few (x ∷ xs) = omega (arith, length-append (codeOf x) (codes xs), code-f
 
 -- the row of cells
 
-module _ (c nodes : List ℕ) (start from : ℕ) (a b : List ℕ) (r : Behind) (e : Lines c nodes start from a b r) where
+module _ (c nodes jumps : List ℕ) (start from : ℕ) (a b : List ℕ) (r : Behind) (e : Lines c nodes jumps start from a b r) where
   module _ (p : ℕ) (short : Bool) (above : List ℕ) where
-    pub row-short : (d : List ℕ) → r ≡ behind.Bad → ((t : Tree) → Nodes nodes 0 t → Rowed (symbols t c) p short start from above a d made.Bad) × Few made.Bad
+    pub row-short : (d : List ℕ) → r ≡ behind.Bad → ((t : Tree) → Coded nodes jumps t → Rowed (symbols t c) p short start from above a d made.Bad) × Few made.Bad
     unfolding Rowed Lined Few
     row-short d f = ((λ t n g h. subst (λ (x : Behind). Lined (symbols t c) start from a b x) f (e t n) g), tt)
 
     module _ (d : List ℕ) (s : Bool) (q : ℕ) (f : r ≡ behind.At q) (g : d ≡ rowOf p above b) (h : s ≡ inRange short d) where
-      line : (t : Tree) → Nodes nodes 0 t → LineGood (symbols t c) start from a b q
+      line : (t : Tree) → Coded nodes jumps t → LineGood (symbols t c) start from a b q
       unfolding Lined
       line t n = subst (λ (x : Behind). Lined (symbols t c) start from a b x) f (e t n)
 
-      same-row : (t : Tree) (n : Nodes nodes 0 t) → d ≡ rowOf p above (take from a ++ filling (symbols t c) start from a .numbers)
+      same-row : (t : Tree) (n : Coded nodes jumps t) → d ≡ rowOf p above (take from a ++ filling (symbols t c) start from a .numbers)
       same-row t n = g ∙ ap (rowOf p above) (line t n .is)
 
-      pub row-out : s ≡ false → ((t : Tree) → Nodes nodes 0 t → Rowed (symbols t c) p short start from above a d made.Bad) × Few made.Bad
+      pub row-out : s ≡ false → ((t : Tree) → Coded nodes jumps t → Rowed (symbols t c) p short start from above a d made.Bad) × Few made.Bad
       unfolding Rowed Few
       row-out k = ((λ t n u v. not-both v (ap (inRange short) (sym (same-row t n)) ∙ sym h ∙ k)), tt)
 
       pub row-good :
           (n : ℕ) → s ≡ true → n ≡ length (codes (take (length b - from) (drop from b))) → from ≤ length a → length b ≤ 4096 →
-          ((t : Tree) → Nodes nodes 0 t → Rowed (symbols t c) p short start from above a d (made.Row q n)) × Few (made.Row q n)
+          ((t : Tree) → Coded nodes jumps t → Rowed (symbols t c) p short start from above a d (made.Row q n)) × Few (made.Row q n)
       unfolding Rowed Few
       row-good n k m l o = (
         λ t i.

@@ -17,7 +17,7 @@ use Rattle.m32.specs.declared.Found.{Found}
 use Rattle.m32.specs.declared.Found.the-variants.{Number, Nothing}
 use Rattle.m32.proofs.ReadLaws.{read-full}
 use Rattle.huffman.specs.Tree.{Tree}
-use Rattle.huffman.specs.Nodes.{Nodes}
+use Rattle.huffman.specs.Jumps.{Coded}
 use Rattle.predict.specs.Predict.{rowOf, cellRows}
 use Rattle.unpack.specs.Unpack.{symbols, allShort, inRange, bitsOf}
 use Rattle.unpack.specs.Steps.{filling, Rowed, Few, fitted, tileNumbers, tileValues, Tiled}
@@ -276,13 +276,13 @@ sizes-more w n lo above row out above′ row′ out′ left at from bytes b s h 
 
 -- the same by whatever tree the nodes are
 
-module _ (c nodes : List ℕ) (p : ℕ) (short : Bool) (start rows inside n : ℕ) (a r d : List ℕ) where
+module _ (c nodes jumps : List ℕ) (p : ℕ) (short : Bool) (start rows inside n : ℕ) (a r d : List ℕ) where
   abbrev pub Goes : List ℕ → List ℕ → List ℕ → ℕ → ℕ → ℕ → ℕ → ℕ → ℕ → Type 0
   Goes above row out left at from pos bytes value =
-      (t : Tree) → Nodes nodes 0 t → Going (symbols t c) p short start rows inside n a r d above row out left at from pos bytes value
+      (t : Tree) → Coded nodes jumps t → Going (symbols t c) p short start rows inside n a r d above row out left at from pos bytes value
 
   abbrev Tiles : List ℕ → Tile → Type 0
-  Tiles out x = (t : Tree) → Nodes nodes 0 t → Tiled (symbols t c) p short start rows inside a r d out x
+  Tiles out x = (t : Tree) → Coded nodes jumps t → Tiled (symbols t c) p short start rows inside a r d out x
 
   pub goes-start : Goes a r d rows 0 1 start 0 0
   goes-start t i = going-start (symbols t c) p short start rows inside n a r d
@@ -290,7 +290,7 @@ module _ (c nodes : List ℕ) (p : ℕ) (short : Bool) (start rows inside n : �
   module _ (above row out : List ℕ) (left at from pos bytes value : ℕ) (g : Goes above row out left at from pos bytes value)
       (s : Sizes (length r) n (length d) above row out left at from bytes) where
     abbrev Rows : List ℕ → Made → Type 0
-    Rows row′ x = (t : Tree) → Nodes nodes 0 t → Rowed (symbols t c) p short pos from above row row′ x
+    Rows row′ x = (t : Tree) → Coded nodes jumps t → Rowed (symbols t c) p short pos from above row row′ x
 
     pub goes-not : (x : Made) (row′ out′ : List ℕ) → 0 < left → 1 ≤ length r → n ≡ rows * length r → Rows row′ x → x ≡ made.Bad → Tiles out′ tile.Bad
     unfolding Tiled

@@ -17,6 +17,7 @@ ghost use Prim.Native.Nat.{_*_, _≤_};
 ghost use lib.ListN.{length};
 ghost use Rattle.huffman.specs.Tree.{Tree, got};
 ghost use Rattle.huffman.specs.Nodes.{Nodes};
+ghost use Rattle.huffman.specs.Jumps.{mostNodes, Coded};
 ghost use Rattle.unpack.specs.Unpack.{predictorOf, headRight, treeIn, treeRight, symbols, unpacked};
 ghost use Rattle.unpack.specs.Steps.{Lined, Rowed, Few, Tiled, Answered};
 
@@ -42,14 +43,21 @@ pub struct Plan {
 }
 
 // Reads numbers from bit `start` on into a row, from column `from` to its end.
-fn read_row(c: &[u8], nodes: &[u32], start: usize, from: usize, row: &mut [u32]) -> Behind
+fn read_row(
+    c: &[u8],
+    nodes: &[u32],
+    jumps: &[u32],
+    start: usize,
+    from: usize,
+    row: &mut [u32],
+) -> Behind
     requires { ⌜ from ≤ length (now row) ⌝ }
-    ensures { λ r. ⌜ ((t : Tree) → Nodes (now (nodes .entry)) 0 t → Lined (symbols t (now (c .entry))) start from (now (row .entry)) (now (row .exit)) r) ⌝ }
+    ensures { λ r. ⌜ ((t : Tree) → Coded (now (nodes .entry)) (now (jumps .entry)) t → Lined (symbols t (now (c .entry))) start from (now (row .entry)) (now (row .exit)) r) ⌝ }
 {
     let mut i = from;
     let mut pos = start;
     while i < row.len() {
-        match number_at(c, nodes, pos) {
+        match number_at(c, nodes, jumps, pos) {
             Found::Nothing => return Behind::Bad,
             Found::Number { x, at } => {
                 row[i] = x;
@@ -65,6 +73,7 @@ fn read_row(c: &[u8], nodes: &[u32], start: usize, from: usize, row: &mut [u32])
 fn next_row(
     c: &[u8],
     nodes: &[u32],
+    jumps: &[u32],
     plan: Plan,
     start: usize,
     from: usize,
@@ -72,10 +81,10 @@ fn next_row(
     row: &mut [u32],
 ) -> Made
     requires { ⌜ (from ≤ length (now row)) × (length (now row) ≤ 4096) ⌝ }
-    ensures is { λ r. ⌜ ((t : Tree) → Nodes (now (nodes .entry)) 0 t → Rowed (symbols t (now (c .entry))) (plan .predictor) (plan .short) start from (now (above .entry)) (now (row .entry)) (now (row .exit)) r) ⌝ }
+    ensures is { λ r. ⌜ ((t : Tree) → Coded (now (nodes .entry)) (now (jumps .entry)) t → Rowed (symbols t (now (c .entry))) (plan .predictor) (plan .short) start from (now (above .entry)) (now (row .entry)) (now (row .exit)) r) ⌝ }
     ensures few { λ r. ⌜ Few r ⌝ }
 {
-    match read_row(c, nodes, start, from, row) {
+    match read_row(c, nodes, jumps, start, from, row) {
         Behind::Bad => Made::Bad,
         Behind::At(pos) => {
             let bytes = m32::writing::codes_length(&row[from..]);
@@ -92,6 +101,7 @@ fn next_row(
 fn unpack_rows(
     c: &[u8],
     nodes: &[u32],
+    jumps: &[u32],
     plan: Plan,
     start: usize,
     above: &mut [u32],
@@ -100,7 +110,7 @@ fn unpack_rows(
 ) -> Tile
     requires sides { ⌜ (1 ≤ plan .rows) × ((plan .rows ≤ 4096) × ((1 ≤ length (now row)) × (length (now row) ≤ 4096))) ⌝ }
     requires shape { ⌜ (length (now above) ≡ length (now row)) × ((plan .cells ≡ plan .rows * length (now row)) × (plan .cells ≤ 16777216)) ⌝ }
-    ensures { λ r. ⌜ ((t : Tree) → Nodes (now (nodes .entry)) 0 t → Tiled (symbols t (now (c .entry))) (plan .predictor) (plan .short) start (plan .rows) (plan .inside) (now (above .entry)) (now (row .entry)) (now (out .entry)) (now (out .exit)) r) ⌝ }
+    ensures { λ r. ⌜ ((t : Tree) → Coded (now (nodes .entry)) (now (jumps .entry)) t → Tiled (symbols t (now (c .entry))) (plan .predictor) (plan .short) start (plan .rows) (plan .inside) (now (above .entry)) (now (row .entry)) (now (out .entry)) (now (out .exit)) r) ⌝ }
 {
     let mut left = plan.rows;
     let mut at = 0;
@@ -109,7 +119,7 @@ fn unpack_rows(
     let mut bytes = 0;
     let mut value = 0;
     while 0 < left {
-        match next_row(c, nodes, plan, pos, from, above, row) {
+        match next_row(c, nodes, jumps, plan, pos, from, above, row) {
             Made::Bad => return Tile::Bad,
             Made::Row { pos: q, bytes: n } => {
                 pos = q;
@@ -126,6 +136,46 @@ fn unpack_rows(
     Tile::Done { bytes, value }
 }
 
+// The same by the nodes alone, with room for jumps, of which as many are made as there is room for.
+fn rows_with(
+    c: &[u8],
+    nodes: &[u32],
+    jumps: &mut [u32],
+    plan: Plan,
+    start: usize,
+    above: &mut [u32],
+    row: &mut [u32],
+    out: &mut [u32],
+) -> Tile
+    requires few { ⌜ length (now nodes) ≤ mostNodes ⌝ }
+    requires sides { ⌜ (1 ≤ plan .rows) × ((plan .rows ≤ 4096) × ((1 ≤ length (now row)) × (length (now row) ≤ 4096))) ⌝ }
+    requires shape { ⌜ (length (now above) ≡ length (now row)) × ((plan .cells ≡ plan .rows * length (now row)) × (plan .cells ≤ 16777216)) ⌝ }
+    ensures { λ r. ⌜ ((t : Tree) → Nodes (now (nodes .entry)) 0 t → Tiled (symbols t (now (c .entry))) (plan .predictor) (plan .short) start (plan .rows) (plan .inside) (now (above .entry)) (now (row .entry)) (now (out .entry)) (now (out .exit)) r) ⌝ }
+{
+    huffman::jumps::make_jumps(nodes, jumps);
+    unpack_rows(c, nodes, jumps, plan, start, above, row, out)
+}
+
+// And by the nodes alone. A tree of n + 1 leaves has 2 n + 1 nodes; the root has 256 jumps, and each node 16 behind them.
+fn all_rows(
+    c: &[u8],
+    nodes: &[u32],
+    plan: Plan,
+    start: usize,
+    above: &mut [u32],
+    row: &mut [u32],
+    out: &mut [u32],
+) -> Tile
+    requires few { ⌜ length (now nodes) ≤ mostNodes ⌝ }
+    requires sides { ⌜ (1 ≤ plan .rows) × ((plan .rows ≤ 4096) × ((1 ≤ length (now row)) × (length (now row) ≤ 4096))) ⌝ }
+    requires shape { ⌜ (length (now above) ≡ length (now row)) × ((plan .cells ≡ plan .rows * length (now row)) × (plan .cells ≤ 16777216)) ⌝ }
+    ensures { λ r. ⌜ ((t : Tree) → Nodes (now (nodes .entry)) 0 t → Tiled (symbols t (now (c .entry))) (plan .predictor) (plan .short) start (plan .rows) (plan .inside) (now (above .entry)) (now (row .entry)) (now (out .entry)) (now (out .exit)) r) ⌝ }
+{
+    let mut jumps = [0u32; 8432];
+    let made = 272 + 32 * wire::byte_at(c, 10) as usize;
+    rows_with(c, nodes, &mut jumps[..made], plan, start, above, row, out)
+}
+
 // Makes the cells of a tile whose head is right and whose tree stands in the nodes, in two rows that are lent. Where the content is
 // malformed, what `out` then holds is free.
 fn unpack_tile(
@@ -137,13 +187,14 @@ fn unpack_tile(
     row: &mut [u32],
     out: &mut [u32],
 ) -> Unpacked
+    requires few { ⌜ length (now nodes) ≤ mostNodes ⌝ }
     requires head { ⌜ headRight (now c) (plan .rows) (length (now row)) ≡ true ⌝ }
     requires shape { ⌜ (length (now above) ≡ length (now row)) × ((plan .cells ≡ plan .rows * length (now row)) × (plan .predictor ≡ predictorOf (now c))) ⌝ }
     ensures { λ r. ⌜ ((t : Tree) → Nodes (now (nodes .entry)) 0 t → treeIn (now (c .entry)) ≡ got t start → treeRight (now (c .entry)) ≡ true → Answered (unpacked (now (c .entry)) (plan .rows) (length (now (row .entry))) (plan .short)) (plan .inside) (now (out .entry)) (now (out .exit)) r) ⌝ }
 {
     clear(above);
     row[0] = wire::u32_at(c, 2);
-    match unpack_rows(c, nodes, plan, start, above, row, out) {
+    match all_rows(c, nodes, plan, start, above, row, out) {
         Tile::Bad => Unpacked::Malformed,
         Tile::Done { bytes, value } => {
             let count = wire::u32_at(c, 6);

@@ -1,33 +1,30 @@
 -- `huffman::next_symbol` meets its contract. Assumes nothing.
-use borrow.Author.Needs.{needs}
-use Rattle.huffman.proofs.SymbolLaws.{Walks, start, walk-out, walk-symbol, walk-end, walk-on}
-use Rattle.huffman.specs.Bits.{bitsIn}
-use Prim.Native.Nat.{_-_}
+use Rattle.huffman.proofs.JumpLaws.{octet-near, told-eight, jump-rest, jump-symbol, jump-on}
+use Rattle.huffman.proofs.SymbolLaws.{start}
 use native.Mathlib.Omega.{arith}
+use mathlib.Core.Path.{refl}
+use Rattle.huffman.specs.Jumps.{Coded}
+use borrow.Author.Needs.{needs}
 use Rattle.huffman.proofs.next_symbol.Statement.{statement}
 use Rattle.huffman.proofs.next_symbol.Tie as tie
 
-abbrev Inv-loop : tie.InvT-loop
-Inv-loop c nodes from pos₀ i₀ pos i = Walks nodes c from i pos
-
-abbrev μ-loop : tie.MeasureT-loop
-μ-loop c nodes from pos₀ i₀ pos i = bitsIn - pos
-
 pub next-symbol-spec : {M : Type 1} → statement M
+unfolding Coded
 next-symbol-spec =
     tie.close
     (tie.spec
-    Inv-loop
-    μ-loop
-    (λ c. start _ _ _)
-    (λ c. walk-out _ _ _ _ _ (c .before .loop .inv) (omega arith))
-    (λ c. search needs)
-    (λ c. search needs)
-    (λ c. search needs)
-    (λ c. walk-symbol _ _ _ _ _ (c .before .before .before .loop .inv) (omega arith))
     (λ c κs. search needs)
-    (λ c. walk-end _ _ _ _ _ (c .before .before .before .before .before .loop .inv) _ (omega arith) (c .before .bit-at .ensures .0) (c .if3 .taken))
     (λ c κs. search needs)
-    (λ c. omega (arith, c .before .before .bit-at .ensures .1 .1 (omega arith)))
-    (λ c. omega (arith, c .before .before .bit-at .ensures .1 .1 (omega arith)))
-    (λ c. walk-on _ _ _ _ _ (c .before .before .before .before .before .before .loop .inv) _ _ (omega arith) (c .before .before .bit-at .ensures .0) (c .before .if3 .left) (c .child .ensures)))
+    (λ c t z. jump-rest _ _ _ _ _ _ _ _ (λ t x h. c .by-bits .ensures t x) (λ h. start _ _ _ _) t (z .0) (z .1))
+    (λ c. search needs)
+    (λ c κs. search needs)
+    (λ c t z. jump-rest _ _ _ _ _ _ _ _ (λ t x h. c .by-bits2 .ensures t x) (λ h. start _ _ _ _) t (z .0) (z .1))
+    (λ c. search needs)
+    (λ c. search needs)
+    (λ c. search needs)
+    (λ c κs. omega (arith, octet-near _ _ _ (c .before .before .before .before .octet-at .ensures .0) (λ q. absurd (omega arith))))
+    (λ c t z. jump-symbol _ _ _ _ _ _ _ _ (told-eight _ _ _ _ _ _ _ _ (c .before .before .before .before .before .octet-at .ensures .0) (λ q. absurd (omega arith)) (λ h. start _ _ _ _) refl (omega arith)) _ (c .symbol-of .ensures) (omega arith) t (z .0) (z .1))
+    (λ c. search needs)
+    (λ c. omega (arith, octet-near _ _ _ (c .before .before .before .before .octet-at .ensures .0) (λ q. absurd (omega arith))))
+    (λ c κs. search needs)
+    (λ c t z. jump-rest _ _ _ _ _ _ _ _ (c .by-fours .ensures) (jump-on _ _ _ _ _ _ _ _ (told-eight _ _ _ _ _ _ _ _ (c .before .before .before .before .before .octet-at .ensures .0) (λ q. absurd (omega arith)) (λ h. start _ _ _ _) refl (omega arith)) (omega arith)) t (z .0) (z .1)))

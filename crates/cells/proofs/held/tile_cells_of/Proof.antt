@@ -1,7 +1,5 @@
 -- `cells::held::tile_cells_of` meets its contract. Assumes nothing.
 use native.Mathlib.Omega.{arith}
-use mathlib.Core.Path.{ap₂}
-use Prim.Native.Nat.{_*_}
 use Rattle.cells.proofs.HeldLaws.{cells-told}
 use borrow.Author.Needs.{needs}
 use Rattle.cells.proofs.held.tile_cells_of.Statement.{statement}

@@ -30,7 +30,7 @@ unpack-into-spec =
     (λ c. sym (cut-long _ (sides (c .before .before .before .before .before .before .before .before .before) .1 .1 .1 .0)))
     (λ c. sides (c .before .before .before .before .before .before .before .before .before) .1 .1 .1 .0)
     (λ c. sym (cut-long _ (sides (c .before .before .before .before .before .before .before .before .before .before) .1 .1 .1 .0)))
-    (λ c κs. let e = cut-long _ (sides (c .before .before .before .before .before .before .before .before .before .before .before) .1 .1 .1 .0) in (head-by _ _ _ _ _ (c .before .before .before .before .before .before .before .before .before .before .before .before .head-right .ensures) (c .before .before .before .before .before .before .before .before .before .before .before .if1 .taken) e, (e ∙ sym e, (ap (λ (k : ℕ). c .before .before .before .before .before .before .before .before .before .before .before .before .before .before .before .args .rows * k) (sym e), c .before .before .before .before .byte-at .ensures .0))))
+    (λ c κs. let e = cut-long _ (sides (c .before .before .before .before .before .before .before .before .before .before .before) .1 .1 .1 .0) in (search needs, (head-by _ _ _ _ _ (c .before .before .before .before .before .before .before .before .before .before .before .before .head-right .ensures) (c .before .before .before .before .before .before .before .before .before .before .before .if1 .taken) e, (e ∙ sym e, (ap (λ (k : ℕ). c .before .before .before .before .before .before .before .before .before .before .before .before .before .before .before .args .rows * k) (sym e), c .before .before .before .before .byte-at .ensures .0)))))
     (λ c. search needs)
     (λ c. answer-tile _ _ _ _ _ _ _ _ _ _ _ _ (c .before .before .before .before .before .before .before .before .before .before .before .before .before .before .read-root .ensures (omega arith)) (c .before .before .before .before .before .before .before .before .before .before .before .start .given .1) (cut-long _ (sides (c .before .before .before .before .before .before .before .before .before .before .before .before .before .before .before .before) .1 .1 .1 .0)) (c .before .before .before .before .unpack-tile .ensures))
     (λ c. answer-head _ _ _ _ _ _ _ _ (c .before .head-right .ensures) (c .if1 .left)))

@@ -1,9 +1,9 @@
--- `huffman::child` meets its contract. Assumes nothing.
+-- `huffman::jumps::child` meets its contract. Assumes nothing.
 use native.Mathlib.Omega.{arith}
 use Rattle.huffman.proofs.SymbolLaws.{child-left, child-right}
 use borrow.Author.Needs.{needs}
-use Rattle.huffman.proofs.child.Statement.{statement}
-use Rattle.huffman.proofs.child.Tie as tie
+use Rattle.huffman.proofs.jumps.child.Statement.{statement}
+use Rattle.huffman.proofs.jumps.child.Tie as tie
 
 pub child-spec : {M : Type 1} → statement M
 child-spec =
