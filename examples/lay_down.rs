@@ -5,14 +5,20 @@
 use std::{env, fs, process};
 
 extern "C" {
+    fn gvrs_page(file: *const u8, n: u64, out: *mut u64, out_n: u64) -> u32;
     fn gvrs_cell(file: *const u8, n: u64, row: u64, column: u64, element: u64, route: u32, out: *mut u64, out_n: u64) -> u32;
     fn gvrs_content(file: *const u8, n: u64, tile: u64, element: u64, out: *mut u64, out_n: u64) -> u32;
     fn gvrs_lay_down(front: *const u8, front_n: u64, time: u64, indexes: *const u32, indexes_n: u64, cells: *const u8,
                      cells_n: u64, file: *mut u8, file_n: u64, out: *mut u64, out_n: u64) -> u32;
 }
 
-// The three calls are safe: each pointer is a slice's, with as many elements as are named, so that it is aligned and not null,
+// The four calls are safe: each pointer is a slice's, with as many elements as are named, so that it is aligned and not null,
 // and what is written is borrowed for the call alone, so that it overlaps nothing. The main thread has stack enough.
+fn page_numbers(file: &[u8]) -> (u32, [u64; 13]) {
+    let (n, mut out) = (file.len() as u64, [0; 13]);
+    (unsafe { gvrs_page(file.as_ptr(), n, out.as_mut_ptr(), 13) }, out)
+}
+
 fn cell(file: &[u8], row: u64, column: u64) -> (u32, [u64; 3]) {
     let (n, mut out) = (file.len() as u64, [0; 3]);
     (unsafe { gvrs_cell(file.as_ptr(), n, row, column, 0, 0, out.as_mut_ptr(), 3) }, out)
@@ -31,13 +37,13 @@ fn lay_down(front: &[u8], time: u64, tile: u32, cells: &[u8], file: &mut [u8]) -
 
 // The time modified, in milliseconds since 1970; a real program takes the clock's.
 const TIME: u64 = 1;
-const WORDS: [&str; 14] = [
-    "accepted", "not a GVRS file", "not version 1.4", "header at fault", "a ceiling is passed", "opened for writing",
-    "chain at fault", "checksum at fault", "body of a record at fault", "directory at fault", "not in the grid", "compressed",
-    "input of the lay-down wrong", "buffer too short"];
+// The C header has the refusals in words, a line for each.
+const HEADER: &str = include_str!("../include/gvrs.h");
 
 fn refused(number: u32, place: u64) -> ! {
-    println!("refused {number} at {place}: {}", WORDS.get(number as usize).unwrap_or(&"no refusal"));
+    let beginning = format!("    case {number}: return \"");
+    let words = HEADER.lines().find_map(|line| line.strip_prefix(&beginning)?.strip_suffix("\";"));
+    println!("refused {number} at {place}: {}", words.unwrap_or("no refusal"));
     process::exit(1)
 }
 
@@ -52,18 +58,18 @@ fn main() {
     let tile: u32 = tile.parse().unwrap_or_else(|_| failed(format!("{tile}: not a number of a tile")));
     let page = fs::read(page_name).unwrap_or_else(|error| failed(format!("{page_name}: {error}")));
 
+    let (tile_rows, tile_columns, across, elements, front) = match page_numbers(&page) {
+        (0, [_, _, rows, columns, _, across, elements, _, front, ..]) => (rows, columns, across, elements, &page[..front as usize]),
+        (number, [place, ..]) => refused(number, place),
+    };
     let mut cells = Vec::new(); // the tile's bytes, all elements in order
-    for element in 0.. {
+    for element in 0..elements {
         match content(&page, tile, element) {
             (32, [start, length]) => cells.extend(&page[start as usize..(start + length) as usize]),
             (33, _) => { println!("tile {tile} is not stored"); process::exit(1) }
-            (10, _) if element > 0 => break, // the page has no such element
             (number, [place, _]) => refused(number, place),
         }
     }
-    // the page is accepted, so what is read of its header here stands in it
-    let number_at = |at: usize| u32::from_le_bytes([page[at], page[at + 1], page[at + 2], page[at + 3]]);
-    let front = &page[..16 + number_at(16) as usize];
     let mut file = vec![0; front.len() + cells.len()]; // not enough yet
     loop {
         match lay_down(front, TIME, tile, &cells, &mut file) {
@@ -74,10 +80,8 @@ fn main() {
     }
     fs::write(new_name, &file).unwrap_or_else(|error| failed(format!("{new_name}: {error}")));
 
-    // read back the tile's first cell; the grid's columns stand at 108, a tile's rows and columns at 112 and 116
-    let (rows, columns) = (number_at(112), number_at(116));
-    let across = number_at(108).div_ceil(columns);
-    let (row, column) = (u64::from(tile / across * rows), u64::from(tile % across * columns));
+    // read back the tile's first cell
+    let (row, column) = (u64::from(tile) / across * tile_rows, u64::from(tile) % across * tile_columns);
     let found = match cell(&file, row, column) {
         (32, [_, bits, place]) => format!("stored {bits} at {place}"),
         (33, [_, bits, _]) => format!("fill {bits}"),

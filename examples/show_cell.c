@@ -13,13 +13,9 @@
 static uint8_t file[16777216 + 1];
 
 static const char *const TYPES[] = {"Integer", "integer-coded", "Float", "Short"};
-static const char *const WORDS[] = {
-    "accepted", "not a GVRS file", "not version 1.4", "header at fault", "a ceiling is passed", "opened for writing",
-    "chain at fault", "checksum at fault", "body of a record at fault", "directory at fault", "not in the grid", "compressed"};
 
 static int refused(uint32_t number, uint64_t place) {
-    const char *word = number < sizeof WORDS / sizeof *WORDS ? WORDS[number] : "no refusal of a read";
-    printf("refused %" PRIu32 " at %" PRIu64 ": %s\n", number, place, word);
+    printf("refused %" PRIu32 " at %" PRIu64 ": %s\n", number, place, gvrs_refusal(number));
     return 1;
 }
 

@@ -1,14 +1,16 @@
-/* Gridfour Virtual Raster Store files, version 1.4: the check of a file, whole or in two halves, reads of its cells, compressed
-   ones too, M32 codes, its elements by their names, the laying down of a new one, and the listing of a file.
+/* Gridfour Virtual Raster Store files, version 1.4: the check of a file, whole or in two halves, what a page is, reads of its cells,
+   compressed ones too, M32 codes, its elements by their names, the laying down of a new one, and the listing of a file.
 
    Link with libgvrs_c.a, which `rt staticlib gvrs_c` writes to target/staticlib/. A file is the bytes of the whole file, n of
    them, but for gvrs_check_start. `out` takes the numbers that a function names, in their order; a shorter one takes those that
    fit, and the answer is the same. A lay-down also writes the buffer that it is given for the file, a listing the buffer for its
-   text, an unpacking that for the cells, M32 those for bytes and numbers. Nothing else is written.
+   text, an unpacking that for the cells, gvrs_cells those for kinds and bits and the memory lent to it, M32 those for bytes and
+   numbers. Nothing else is written.
 
    The caller sees to it that each pointer is that of as many elements as are named, and that none is null, also where it names
-   none; that what is written (`out` and the buffers) overlaps nothing else that is passed; that numbers of 32 bits are aligned to 4
-   bytes and `out` to 8; and that the calling thread has 320 KiB of stack left. */
+   none; that what is written (`out`, the buffers and the memory) overlaps nothing else that is passed; that numbers of 32 bits are
+   aligned to 4 bytes and `out` to 8; and that the calling thread has 320 KiB of stack left. Any number of threads may call at once, the same
+   function too: a call uses nothing but what it is passed and its own stack. What one call writes is passed to no other meanwhile. */
 #ifndef GVRS_H
 #define GVRS_H
 
@@ -20,7 +22,7 @@ extern "C" {
 
 /* What a function answers: a refusal's number, or what it found. */
 enum {
-    GVRS_ACCEPTED = 0,     /* the file is accepted, the page is laid down */
+    GVRS_ACCEPTED = 0,     /* the file is accepted, the page is laid down, the page, the element or the rectangle is there */
     GVRS_NOT_GVRS = 1,     /* fewer than 16 bytes, or the first twelve differ */
     GVRS_VERSION = 2,      /* not version 1.4 */
     GVRS_HEADER = 3,       /* header record at fault: also a name or a text, as gvrs_is_identifier and gvrs_is_utf8 say */
@@ -30,16 +32,45 @@ enum {
     GVRS_CHECKSUM = 7,     /* checksum at fault */
     GVRS_BODY = 8,         /* body of a tile or metadata record at fault: also its name or description */
     GVRS_DIRECTORY = 9,    /* directory at fault */
-    GVRS_OUTSIDE = 10,     /* row, column, element or tile asked for not in the grid */
+    GVRS_OUTSIDE = 10,     /* row, column, element, tile or rectangle asked for not in the grid */
     GVRS_COMPRESSED = 11,  /* content asked for is compressed; of a cell: and not of the compressor index named, or of a Float */
     GVRS_INPUT = 12,       /* input wrong: of a lay-down, or more first bytes than the stated length */
-    GVRS_ROOM = 13,        /* lay-down output too short */
+    GVRS_ROOM = 13,        /* lay-down output, or a buffer for the cells of a rectangle, too short */
     GVRS_MALFORMED = 14,   /* compressed content malformed, or a Short in it out of range */
     GVRS_INCOMPLETE = 16,  /* a byte that a stage needs is not given */
     GVRS_STORED = 32,      /* the cell is stored, the content is present, the name is found */
     GVRS_FILL = 33,        /* the cell is fill, the tile is absent, no element has the name */
     GVRS_UNPACKED = 34     /* the cell comes out of compressed content */
 };
+
+/* A refusal in words, by its number; README.md's table of refusals says more of each. Of any other number `no refusal`. */
+#if defined(__cplusplus) || (defined(__STDC_VERSION__) && __STDC_VERSION__ >= 199901L)
+static inline
+#elif defined(__GNUC__)
+static __inline__
+#else
+static
+#endif
+const char *gvrs_refusal(uint32_t number) {
+    switch (number) {
+    case 1: return "no GVRS file";
+    case 2: return "not version 1.4";
+    case 3: return "header record at fault";
+    case 4: return "more than this store takes";
+    case 5: return "opened for writing and not closed";
+    case 6: return "records do not follow each other up to the last byte";
+    case 7: return "a record's checksum is wrong";
+    case 8: return "what a tile or metadata record holds is at fault";
+    case 9: return "a directory is at fault";
+    case 10: return "what is asked for is not in the grid";
+    case 11: return "the content asked for is compressed";
+    case 12: return "input wrong";
+    case 13: return "a buffer is too short";
+    case 14: return "the compressed content asked for is malformed";
+    case 16: return "a byte that a stage needs is not given";
+    default: return "no refusal";
+    }
+}
 
 /* How a cell is found: every number but 1 and 2 is the directory. */
 enum {
@@ -60,6 +91,17 @@ uint32_t gvrs_check_start(const uint8_t *first, uint64_t first_n, uint64_t lengt
 /* The whole check, of the whole file, which begins by repeating gvrs_check_start; its answers are those of gvrs_check. */
 uint32_t gvrs_check_rest(const uint8_t *file, uint64_t n, uint64_t *out, uint64_t out_n);
 
+/* What a page is: 0, and out[0] to out[12] are its grid rows and grid columns, its tile rows and tile columns, its tiles down and tiles
+   across, its elements, the bytes of a tile (uncompressed, all elements together), the length of the front (where the header ends),
+   the number of its tile records, that of its metadata records, the time modified, and 1 where checksums are on, else 0. Else the
+   refusal's number, out[0] is its place, and the others are 0. The front is the first out[8] bytes of the file. */
+uint32_t gvrs_page(const uint8_t *file, uint64_t n, uint64_t *out, uint64_t out_n);
+
+/* What an element is, by its number, counted from 0: 0, and out[0] is its type code (0 Integer, 1 integer-coded, 2 Float, 3 Short), out[1]
+   the bits of its fill (16 of a Short), out[2] where its name starts in the file and out[3] the name's length, 1 to 32. Else the
+   refusal's number, 10 where the page has no such element, out[0] is its place, and the others are 0. */
+uint32_t gvrs_element(const uint8_t *file, uint64_t n, uint64_t element, uint64_t *out, uint64_t out_n);
+
 /* A cell, by row, column and element number, each counted from 0: 32 stored, 33 fill, else the refusal's number. out[0] is the
    type code (0 Integer, 1 integer-coded, 2 Float, 3 Short), out[1] the bits of the value, out[2] the place of a stored cell's
    first byte, 0 of a fill; on a refusal they are 0, 0 and its place. */
@@ -78,6 +120,22 @@ uint32_t gvrs_cell_with(const uint8_t *file, uint64_t n, uint64_t row, uint64_t 
    where they fit whole, and what stands behind them stays; else it is as it was. */
 uint32_t gvrs_unpack(const uint8_t *file, uint64_t n, uint64_t tile, uint64_t element, uint32_t compressor,
                      uint32_t *cells, uint64_t cells_n, uint64_t *out, uint64_t out_n);
+
+/* The cells of an element in a rectangle, by rows: `rows` rows from `row` on and `columns` columns from `column` on. 0, and out[0] is
+   their number, rows times columns; else the refusal's number, out[0] is its place, and kinds and bits are as they were. Refused, in
+   this order: as by gvrs_check; 10 where the page has no such element, or where row + rows is more than the grid's rows or column +
+   columns more than its columns (an empty rectangle too; the sums do not wrap); 13, at 0, where kinds_n or bits_n is less than the
+   number of cells.
+
+   The cell in row r and column c of the rectangle, each counted from 0, has kinds[r * columns + c] and bits[r * columns + c]: what
+   gvrs_cell_with answers for it with that compressor index, which is 32, 33, 34, 11 or 14, and the bits of its value, 0 where it is
+   11 or 14. What stands behind the last cell's stays.
+
+   memory is numbers that the call may use, memory_n of them, in any state, left in any: 524,288 let every tile be unpacked once;
+   fewer, or none, cost time on compressed tiles and change no answer. */
+uint32_t gvrs_cells(const uint8_t *file, uint64_t n, uint32_t compressor, uint64_t element, uint64_t row, uint64_t column,
+                    uint64_t rows, uint64_t columns, uint32_t *memory, uint64_t memory_n, uint32_t *kinds, uint64_t kinds_n,
+                    uint32_t *bits, uint64_t bits_n, uint64_t *out, uint64_t out_n);
 
 /* The M32 codes of numbers, one behind the other: their length. `bytes` takes them where they fit, and what stands behind them stays;
    else it is as it was. A number is that of its 32 bits. */

@@ -1,10 +1,13 @@
 //! Times the library's check, checksum, reads, lay-down and unpacking against the second
-//! implementation's, in one run. Fails where unpacking takes longer than its bound.
+//! implementation's, in one run, and the cells of rectangles. Fails where unpacking or the cells of
+//! a rectangle take longer than their bounds.
 
+mod cells;
 mod checksum;
 mod descriptions;
 mod lay_downs;
 mod look_up;
+mod packed;
 mod reads;
 mod shapes;
 mod unpack;
@@ -39,7 +42,10 @@ fn main() -> ExitCode {
     reads::measure();
     look_up::measure();
     lay_downs::measure();
-    if unpack::measure() {
+    let pages = packed::pages();
+    let unpacking = unpack::measure(&pages);
+    let cells = cells::measure(&pages);
+    if unpacking && cells {
         ExitCode::SUCCESS
     } else {
         ExitCode::FAILURE

@@ -1,7 +1,9 @@
 //! Files to measure, each of one shape that is costly in its own way.
 
 use gvrs_tests::build::bytes_of;
-use gvrs_tests::page::{Body, Metadata, Page, Record, Tile, TileDirectory};
+use gvrs_tests::page::{
+    Body, Element, Metadata, Page, Record, Tile, TileDirectory, INTEGER, SHORT,
+};
 
 /// The longest file (document 01, house ceilings).
 pub const CEILING: usize = 16 * MEBIBYTE;
@@ -9,7 +11,17 @@ pub const MEBIBYTE: usize = 1 << 20;
 
 /// Fifteen tiles of 1 MiB, uncompressed, and one compressed tile that fills the file.
 pub fn few_large_tiles(checksums: bool) -> Vec<u8> {
-    let mut page = Page::of_sides([65_536, 64], [4096, 64]);
+    large_tiles(INTEGER, 64, checksums)
+}
+
+/// The same of Shorts.
+pub fn few_large_tiles_of_shorts() -> Vec<u8> {
+    large_tiles(SHORT, 128, true)
+}
+
+fn large_tiles(type_code: u8, columns: u32, checksums: bool) -> Vec<u8> {
+    let mut page = Page::of_sides([65_536, columns], [4096, columns]);
+    page.elements = vec![Element::new(type_code, b"z")];
     page.checksums = checksums;
     for index in 0..15 {
         page.records.push(tile(index, MEBIBYTE));

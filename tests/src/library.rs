@@ -2,6 +2,7 @@
 
 use crate::second::cells::Spot;
 use crate::second::check::Answer;
+use crate::second::rectangles::Rectangle;
 use crate::second::start::Start;
 
 extern "C" {
@@ -54,6 +55,26 @@ extern "C" {
         out: *mut u64,
         out_n: u64,
     ) -> u32;
+    fn gvrs_cells(
+        file: *const u8,
+        n: u64,
+        compressor: u32,
+        element: u64,
+        row: u64,
+        column: u64,
+        rows: u64,
+        columns: u64,
+        memory: *mut u32,
+        memory_n: u64,
+        kinds: *mut u32,
+        kinds_n: u64,
+        bits: *mut u32,
+        bits_n: u64,
+        out: *mut u64,
+        out_n: u64,
+    ) -> u32;
+    fn gvrs_page(file: *const u8, n: u64, out: *mut u64, out_n: u64) -> u32;
+    fn gvrs_element(file: *const u8, n: u64, element: u64, out: *mut u64, out_n: u64) -> u32;
     fn gvrs_m32_write(numbers: *const u32, numbers_n: u64, bytes: *mut u8, bytes_n: u64) -> u64;
     fn gvrs_m32_read(
         bytes: *const u8,
@@ -203,6 +224,60 @@ pub fn unpack_into(
     let (out, out_n) = (out.as_mut_ptr(), out.len() as u64);
     // All three slices are alive for the whole call and do not overlap.
     unsafe { gvrs_unpack(bytes, n, tile, element, compressor, cells, cells_n, out, out_n) }
+}
+
+/// What a call for the cells of a rectangle is lent: memory that it may use, and room for kinds and
+/// bits, each of any length.
+pub struct Lent<'a> {
+    pub memory: &'a mut [u32],
+    pub kinds: &'a mut [u32],
+    pub bits: &'a mut [u32],
+}
+
+/// The number. The cells of a rectangle go into what is lent.
+pub fn cells_into(
+    file: &[u8],
+    rectangle: Rectangle,
+    compressor: u32,
+    lent: Lent,
+    out: &mut [u64],
+) -> u32 {
+    let Rectangle { element, row, column, rows, columns } = rectangle;
+    let Lent { memory, kinds, bits } = lent;
+    // All five slices are alive for the whole call and do not overlap.
+    unsafe {
+        gvrs_cells(
+            file.as_ptr(),
+            file.len() as u64,
+            compressor,
+            element,
+            row,
+            column,
+            rows,
+            columns,
+            memory.as_mut_ptr(),
+            memory.len() as u64,
+            kinds.as_mut_ptr(),
+            kinds.len() as u64,
+            bits.as_mut_ptr(),
+            bits.len() as u64,
+            out.as_mut_ptr(),
+            out.len() as u64,
+        )
+    }
+}
+
+/// The number. What a page is goes into the caller's `out`, of any length.
+pub fn page_into(file: &[u8], out: &mut [u64]) -> u32 {
+    // Both slices are alive for the whole call and do not overlap.
+    unsafe { gvrs_page(file.as_ptr(), file.len() as u64, out.as_mut_ptr(), out.len() as u64) }
+}
+
+/// The same of an element.
+pub fn element_into(file: &[u8], element: u64, out: &mut [u64]) -> u32 {
+    let (bytes, n) = (file.as_ptr(), file.len() as u64);
+    // Both slices are alive for the whole call and do not overlap.
+    unsafe { gvrs_element(bytes, n, element, out.as_mut_ptr(), out.len() as u64) }
 }
 
 /// The length of the codes, which go into the caller's buffer, of any length.

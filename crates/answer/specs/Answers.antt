@@ -66,17 +66,20 @@ lookupNumber (lookup.Number e) = e
 lookupNumber lookup.Absent = 0
 lookupNumber (lookup.Refused r) = refusalPlace r
 
--- of all cells of an element in a tile: where their content starts, or the refusal's place
+-- of all cells of an element in a tile: where their content starts, or the refusal's place. Cells that are looked up one by one are not
+-- judged, so as an answer of all they have no kind: 0, place 0. No function of the C interface gives it
 abbrev pub heldKind : Held → ℕ
 heldKind (held.Stored at) = 32
 heldKind (held.Unpacked at) = 34
 heldKind held.Absent = 33
+heldKind held.Alone = 0
 heldKind (held.Refused r) = refusalNumber r
 
 abbrev pub heldPlace : Held → ℕ
 heldPlace (held.Stored at) = at
 heldPlace (held.Unpacked at) = at
 heldPlace held.Absent = 0
+heldPlace held.Alone = 0
 heldPlace (held.Refused r) = refusalPlace r
 
 -- 0 where a page was laid down, else the refusal's number

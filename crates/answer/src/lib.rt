@@ -66,11 +66,13 @@ pub enum Lookup {
     Refused(Refusal),
 }
 
-// What is said of all cells of an element in a tile: where their content starts, stored or unpacked.
+// What is said of all cells of an element in a tile: where their content starts, stored or unpacked. Alone: it is compressed, and the
+// room that was lent is too short for all of them, so that each is looked up by itself.
 pub enum Held {
     Stored(usize),
     Unpacked(usize),
     Absent,
+    Alone,
     Refused(Refusal),
 }
 
@@ -343,6 +345,7 @@ pub fn held_kind(x: Held) -> u32
         Held::Stored(_) => 32,
         Held::Unpacked(_) => 34,
         Held::Absent => 33,
+        Held::Alone => 0,
         Held::Refused(r) => refusal_number(r),
     }
 }
@@ -354,6 +357,7 @@ pub fn held_place(x: Held) -> usize
         Held::Stored(at) => at,
         Held::Unpacked(at) => at,
         Held::Absent => 0,
+        Held::Alone => 0,
         Held::Refused(r) => refusal_place(r),
     }
 }

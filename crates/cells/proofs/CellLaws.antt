@@ -40,8 +40,8 @@ use Rattle.unpack.specs.declared.Unpacked.{Unpacked}
 use Rattle.unpack.specs.declared.Unpacked.the-variants as out
 use Rattle.unpack.specs.Unpack.{unpacked, cellAt}
 use Rattle.cells.specs.Asked.{inGrid, inTiles}
-use Rattle.cells.specs.inner.Lookups.{sidesLawful, reachedBy, cellReached, contentReached, heldReached}
-use Rattle.cells.specs.TileCells.{offsetIn, packed, placeIn, storedAt, fillOf, unpackable, unpackedIn, packedCell, cellIn, contentIn, cellOf, contentOf, heldOf}
+use Rattle.cells.specs.inner.Lookups.{sidesLawful, reachedBy, cellReached, contentReached, roomReached}
+use Rattle.cells.specs.TileCells.{offsetIn, packed, placeIn, storedAt, fillOf, unpackable, unpackedIn, packedCell, cellIn, contentIn, cellOf, contentOf, roomOf}
 
 -- what is asked for
 
@@ -192,9 +192,9 @@ unfolding cellSize
 bits-other s k at r h e = rw (ne-eqb k 3 h) e
 
 pub stored-is :
-    (s : List ℕ) (e at k b : ℕ) (v : Value) → k ≡ element s e .kind → b ≡ numberAt (cellSize k) s at → v ≡ valueOf k b → cell.Stored v at ≡ storedAt s e at
+    (s : List ℕ) (e at k b : ℕ) (v : Value) → k ≡ element s e .kind → b ≡ numberAt (cellSize k) s (at + 0) → v ≡ valueOf k b → cell.Stored v at ≡ storedAt s e at
 unfolding storedAt
-stored-is s e at k b v p q f = ap (λ (x : Value). cell.Stored x at) (f ∙ rw (q, p))
+stored-is s e at k b v p q f = let z : at + 0 ≡ at = omega arith in ap (λ (x : Value). cell.Stored x at) (f ∙ rw (q, p, z))
 
 pub fill-is : (s : List ℕ) (e : ℕ) (x : Element) (v : Value) → x ≡ element s e → v ≡ valueOf (x .kind) (x .fill) → cell.Fill v ≡ fillOf s e
 unfolding fillOf
@@ -287,5 +287,5 @@ module _ (s : List ℕ) (f : Found) (x : ℕ) (p : f ≡ At x) (h : length s ≤
   pub content-lost : (e : ℕ) → content.Refused refusal.Directory ≡ contentReached s e f
   content-lost e = reached-lost content.Refused (contentOf s e) s f x p h
 
-  pub held-lost : (ci e : ℕ) → held.Refused refusal.Directory ≡ heldReached s ci e f
-  held-lost ci e = reached-lost held.Refused (heldOf s ci e) s f x p h
+  pub held-lost : (ci e room : ℕ) → held.Refused refusal.Directory ≡ roomReached s ci e room f
+  held-lost ci e room = reached-lost held.Refused (roomOf s ci e room) s f x p h

@@ -48,7 +48,7 @@ use Rattle.cells.specs.Reads.{readByDirectory, readByWalk, readByRecords
 use Rattle.cells.specs.Demand2.{Demand2Bits, RightBits}
 use Rattle.cells.specs.Compressor.{OldReads, ContentStays, OnlyPacked, UnpackedWhere, EachCell, HeldEach, HeldCounted}
 use Rattle.cells.proofs.CellLaws.{grid-means, tiles-mean, tiles-in, sides-mean, above-bytes}
-use Rattle.cells.proofs.HeldLaws.{stored-cell, stored-long}
+use Rattle.cells.proofs.HeldLaws.{stored-cell, stored-long, in-at}
 use Rattle.cells.proofs.RouteLaws.{meant-is}
 use Rattle.cells.proofs.ApartLaws.{content-extent, stored-as, cell-extent, cells-apart, whole-least}
 use Rattle.cells.proofs.ReadLaws.{way-means, check-lawful, accepted-finds, walked-finds, passed-bodies}
@@ -213,16 +213,12 @@ unpacked-where s ci x row column e = go (packed s x e) refl (unpackable s ci x e
 
 -- what is said of all cells of an element in a tile
 
-not-whole-cell : (x : Cells) (i : ℕ) → isWhole x ≡ false → cellAt x i ≡ out.Malformed
+pub not-whole-cell : (x : Cells) (i : ℕ) → isWhole x ≡ false → cellAt x i ≡ out.Malformed
 unfolding isWhole cellAt
 not-whole-cell (cells vs) i e = not-both refl e
 not-whole-cell malformed i e = refl
 
-in-at : (s : List ℕ) (x e : ℕ) → unpackedIn s x e ≡ unpackedAt s e (elementContentAt s x e)
-unfolding unpackedIn elementContentAt sectionLength
-in-at s x e = let z : sectionAt s x e + 4 - 4 ≡ sectionAt s x e = omega arith in rw z
-
-content-long : (s : List ℕ) (x e : ℕ) → isWhole (unpackedIn s x e) ≡ true → length (cellsIn (unpackedAt s e (elementContentAt s x e))) ≡ tileRows s * tileColumns s
+pub content-long : (s : List ℕ) (x e : ℕ) → isWhole (unpackedIn s x e) ≡ true → length (cellsIn (unpackedAt s e (elementContentAt s x e))) ≡ tileRows s * tileColumns s
 content-long s x e w = whole-long _ (tileRows s) (tileColumns s) _ (ap isWhole (sym (in-at s x e)) ∙ w)
 
 pub held-each : HeldEach

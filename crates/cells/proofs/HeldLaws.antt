@@ -1,22 +1,23 @@
 -- All cells of an element in a tile: copied or unpacked. Assumes nothing.
-use Prim.Native.Nat.{ℕ, zero, suc, _+_, _-_, _*_, _≤_, _<_}
+use Prim.Native.Nat.{ℕ, _+_, _-_, _*_, _≤_, _<_}
 use mathlib.Core.Path.{_≡_, refl, sym, ap, _∙_}
-use mathlib.Core.List.{List, [], _∷_, _++_, map}
+use mathlib.Core.List.{List, [], _∷_}
 use mathlib.Core.Bool.{Bool, true, false}
 use native.Mathlib.Omega.{arith}
 use native.Mathlib.Nat.{mul-le-mul}
 use lib.ListN.{length, getD, set}
 use lib.Dec.{eqb}
-use borrow.Author.Tests.{eqb-true, eqb-false}
-use Rattle.wire.specs.Lists.{below}
 use Rattle.wire.specs.Bytes.{part, numberAt, put}
+use Rattle.wire.proofs.ListLaws.{below-long, below-at}
 use Rattle.wire.proofs.PutLaws.{put-nil, put-not, pasted, pasted-none, pasted-more, pasted-all}
 use Rattle.header.specs.Fields.{tileRows, tileColumns}
-use Rattle.wire.proofs.TestLaws.{not-both}
+use Rattle.wire.specs.Tests.{Test, _≤?_, is, Holds}
+use Rattle.wire.proofs.TestLaws.{not-both, yes, no}
 use Rattle.answer.specs.declared.Refusal.{Refusal}
 use Rattle.answer.specs.declared.Refusal.the-variants as refusal
 use Rattle.answer.specs.declared.Held.{Held}
 use Rattle.answer.specs.declared.Held.the-variants as held
+use Rattle.answer.specs.Answers.{heldKind}
 use Rattle.record.specs.declared.Found.{Found}
 use Rattle.record.specs.declared.Found.the-variants.{Nothing, At}
 use Rattle.header.specs.Element.{cellSize, element}
@@ -24,51 +25,18 @@ use Rattle.geometry.specs.Sizes.{cellOffset}
 use Rattle.check_header.specs.Ceilings.{mostTileSide}
 use Rattle.bodies.specs.TileRecord.{sectionAt, sectionLength, elementContentAt}
 use Rattle.unpack.specs.Unpack.{Cells, cells, malformed, unpacked, cellsIn, isWhole}
-use Rattle.cells.specs.TileCells.{packed, unpackable, unpackedIn, unpackedAt, heldIn, heldOf, storedBits, heldBits}
-use Rattle.cells.specs.inner.Lookups.{sidesLawful, heldReached}
-use Rattle.cells.proofs.CellLaws.{sides-mean, offset-small, reached-none, reached-at, held-lost}
+use Rattle.cells.specs.Asked.{inTiles}
+use Rattle.cells.specs.TileCells.{packed, unpackable, unpackedIn, unpackedAt, heldIn, staysAlone, heldRoom, roomOf, unpackedBits, storedBits, heldBits}
+use Rattle.cells.specs.inner.Lookups.{sidesLawful, reachedBy, roomReached, guarded, lookedTile, lookedUpHeld, lookedUpRoom}
+use Rattle.cells.proofs.CellLaws.{sides-mean, reached-none, reached-at, held-lost}
 
 -- the number of cells
 
-pub cells-few : (s : List ℕ) → sidesLawful s ≡ true → tileRows s * tileColumns s ≤ mostTileSide * mostTileSide
-cells-few s l = let a = sides-mean s l in mul-le-mul (a .tile-rows .1) (a .tile-columns .1)
-
-pub cells-told :
-    (s : List ℕ) (h w : ℕ) → sidesLawful s ≡ true → h ≡ tileRows s → w ≡ tileColumns s → (h * w ≡ tileRows s * tileColumns s) × (h * w ≤ mostTileSide * mostTileSide)
-cells-told s h w l p q = (rw (p, q), rw (p, q) (cells-few s l))
-
--- a function of the numbers below n, by its place
-
-length-snoc : (l : List ℕ) (x : ℕ) → length (l ++ (x ∷ [])) ≡ suc (length l)
-length-snoc [] x = refl
-length-snoc (y ∷ ys) x = ap suc (length-snoc ys x)
-
-map-snoc : (f : ℕ → ℕ) (l : List ℕ) (x : ℕ) → map f (l ++ (x ∷ [])) ≡ map f l ++ (f x ∷ [])
-map-snoc f [] x = refl
-map-snoc f (y ∷ ys) x = ap (λ (l : List ℕ). f y ∷ l) (map-snoc f ys x)
-
-snoc-at : (l : List ℕ) (x i : ℕ) → (i < length l → getD (l ++ (x ∷ [])) i 0 ≡ getD l i 0) × (i ≡ length l → getD (l ++ (x ∷ [])) i 0 ≡ x)
-snoc-at [] x zero = ((λ h. absurd (omega arith)), (λ h. refl))
-snoc-at [] x (suc i) = ((λ h. absurd (omega arith)), (λ h. absurd (omega arith)))
-snoc-at (y ∷ ys) x zero = ((λ h. refl), (λ h. absurd (omega arith)))
-snoc-at (y ∷ ys) x (suc i) = let r = snoc-at ys x i in ((λ h. r .0 (omega arith)), (λ h. r .1 (omega arith)))
-
-below-long : (f : ℕ → ℕ) (n : ℕ) → length (map f (below n)) ≡ n
-unfolding below
-below-long f zero = refl
-below-long f (suc n) = ap length (map-snoc f (below n) n) ∙ length-snoc (map f (below n)) (f n) ∙ ap suc (below-long f n)
-
-pub below-at : (f : ℕ → ℕ) (n i : ℕ) → i < n → getD (map f (below n)) i 0 ≡ f i
-unfolding below
-below-at f zero i h = absurd (omega arith)
-below-at f (suc n) i h = ap (λ (l : List ℕ). getD l i 0) (map-snoc f (below n) n) ∙ go (eqb i n) refl (below-at f n i)
-  where
-    go : (b : Bool) → eqb i n ≡ b → (i < n → getD (map f (below n)) i 0 ≡ f i) → getD (map f (below n) ++ (f n ∷ [])) i 0 ≡ f i
-    go true e r = let z = eqb-true i n e in snoc-at (map f (below n)) (f n) i .1 (z ∙ sym (below-long f n)) ∙ ap f (sym z)
-    go false e r =
-        let z = eqb-false i n e in
-        let k : i < n = omega arith in
-        snoc-at (map f (below n)) (f n) i .0 (omega (arith, below-long f n)) ∙ r k
+pub cells-few : (s : List ℕ) (n : ℕ) → sidesLawful s ≡ true → n ≡ tileRows s * tileColumns s → n ≤ mostTileSide * mostTileSide
+cells-few s n l e =
+    let a = sides-mean s l in
+    let m : tileRows s * tileColumns s ≤ mostTileSide * mostTileSide = mul-le-mul (a .tile-rows .1) (a .tile-columns .1) in
+    omega arith
 
 -- stored cells, a copy under way
 
@@ -99,10 +67,7 @@ module _ (s : List ℕ) (kind at n : ℕ) where
     pub stored-done : (out : List ℕ) (i : ℕ) → out ≡ pasted d 0 (storedBits s kind at n) i → i ≡ n → n ≤ length d → out ≡ put d 0 (storedBits s kind at n)
     stored-done out i e f h = e ∙ pasted-all d 0 (storedBits s kind at n) i (f ∙ sym stored-long) (omega (arith, stored-long))
 
-pub stored-near : (kind i n : ℕ) → i < n → n ≤ mostTileSide * mostTileSide → cellOffset kind i ≤ mostTileSide * mostTileSide * 4
-stored-near kind i n h k = omega (arith, offset-small kind i (omega arith))
-
--- what the content of a malformed one holds is nothing
+-- the content of a malformed one holds nothing
 
 not-whole : (x : Cells) → isWhole x ≡ false → cellsIn x ≡ []
 unfolding isWhole cellsIn
@@ -112,57 +77,127 @@ not-whole malformed e = refl
 nothing-put : (d : List ℕ) → d ≡ put d 0 []
 nothing-put d = sym (put-nil d 0)
 
--- all cells, by the tile record at x
+-- where the content of element e of the tile record at x starts, it holds what the record's does
+pub in-at : (s : List ℕ) (x e : ℕ) → unpackedIn s x e ≡ unpackedAt s e (elementContentAt s x e)
+unfolding unpackedIn elementContentAt sectionLength
+in-at s x e = let z : sectionAt s x e + 4 - 4 ≡ sectionAt s x e = omega arith in rw z
 
-module _ (s : List ℕ) (ci x e p : ℕ) (ep : p ≡ sectionAt s x e) (a : Bool) (ea : a ≡ packed s x e) where
-  pub held-stored :
-      (k n : ℕ) (d o : List ℕ) → a ≡ false → k ≡ element s e .kind → n ≡ tileRows s * tileColumns s → o ≡ put d 0 (storedBits s k (p + 4) n) →
-      (held.Stored (p + 4) ≡ heldIn s ci x e) × (o ≡ put d 0 (heldBits s e (held.Stored (p + 4))))
-  unfolding heldIn elementContentAt
-  held-stored k n d o f ek en eo = (rw (← ea, f, ep), eo ∙ rw (ek, en))
+pub all-unpacked :
+    (s c : List ℕ) (x e k h w : ℕ) (t : Bool) → k ≡ element s e .kind → h ≡ tileRows s → w ≡ tileColumns s → t ≡ eqb k 3 →
+    c ≡ part s (elementContentAt s x e) (sectionLength s x e) → (r : Bool) (d o : List ℕ) → r ≡ isWhole (unpacked c h w t) →
+    o ≡ put d 0 (cellsIn (unpacked c h w t)) → (r ≡ isWhole (unpackedIn s x e)) × (o ≡ put d 0 (cellsIn (unpackedIn s x e)))
+unfolding unpackedIn
+all-unpacked s c x e k h w t ek eh ew et ec r d o p q = (p ∙ rw (ec, eh, ew, et, ek), q ∙ rw (ec, eh, ew, et, ek))
+
+-- all cells, by the tile record at x: as without a bound on their number, unless they stay alone
+
+module _ (s : List ℕ) (ci x e room : ℕ) where
+  abbrev alone : List Test
+  alone = is (packed s x e) ∷ is (unpackable s ci x e) ∷ (room + 1 ≤? tileRows s * tileColumns s) ∷ []
+
+  as-in : (Holds alone → ⊥) → heldRoom s ci x e room ≡ heldIn s ci x e
+  unfolding heldRoom staysAlone
+  as-in f = rw (← no alone f)
+
+  pub room-all : tileRows s * tileColumns s ≤ room → heldRoom s ci x e room ≡ heldIn s ci x e
+  room-all h = as-in (λ y. omega (arith, y .1 .1 .0))
+
+  pub room-stored : packed s x e ≡ false → heldRoom s ci x e room ≡ held.Stored (elementContentAt s x e)
+  unfolding heldIn
+  room-stored f = as-in (λ y. not-both (y .0) f) ∙ rw f
+
+  module _ (f : packed s x e ≡ true) where
+    pub room-packed : unpackable s ci x e ≡ false → heldRoom s ci x e room ≡ held.Refused (refusal.Compressed x)
+    unfolding heldIn
+    room-packed g = as-in (λ y. not-both (y .1 .0) g) ∙ rw (f, g)
+
+    module _ (g : unpackable s ci x e ≡ true) where
+      pub room-alone : room < tileRows s * tileColumns s → heldRoom s ci x e room ≡ held.Alone
+      unfolding heldRoom staysAlone
+      room-alone h = rw (← yes alone (f, (g, (omega arith, tt))))
+
+      module _ (h : tileRows s * tileColumns s ≤ room) where
+        pub room-unpacked : isWhole (unpackedIn s x e) ≡ true → heldRoom s ci x e room ≡ held.Unpacked (elementContentAt s x e)
+        unfolding heldIn
+        room-unpacked w = room-all h ∙ rw (f, g, w)
+
+        pub room-malformed : isWhole (unpackedIn s x e) ≡ false → heldRoom s ci x e room ≡ held.Refused (refusal.Malformed x)
+        unfolding heldIn
+        room-malformed w = room-all h ∙ rw (f, g, w)
+
+-- as the functions below answer
+
+module _ (s : List ℕ) (ci x e room : ℕ) (a : Bool) (ea : a ≡ packed s x e) (d : List ℕ) where
+  pub held-stored : (p : ℕ) → p ≡ sectionAt s x e → a ≡ false → (held.Stored (p + 4) ≡ heldRoom s ci x e room) × (d ≡ put d 0 (unpackedBits s e (held.Stored (p + 4))))
+  unfolding elementContentAt
+  held-stored p ep f = (rw ep (sym (room-stored s ci x e room (sym ea ∙ f))), nothing-put d)
 
   module _ (f : a ≡ true) (b : Bool) (eb : b ≡ unpackable s ci x e) where
-    pub held-packed : (d : List ℕ) → b ≡ false → (held.Refused (refusal.Compressed x) ≡ heldIn s ci x e) × (d ≡ put d 0 (heldBits s e (held.Refused (refusal.Compressed x))))
-    unfolding heldIn
-    held-packed d g = (rw (← ea, f, ← eb, g), nothing-put d)
+    pub held-packed : b ≡ false → (held.Refused (refusal.Compressed x) ≡ heldRoom s ci x e room) × (d ≡ put d 0 (unpackedBits s e (held.Refused (refusal.Compressed x))))
+    held-packed g = (sym (room-packed s ci x e room (sym ea ∙ f) (sym eb ∙ g)), nothing-put d)
 
-    module _
-        (g : b ≡ true) (k h w : ℕ) (t m : Bool) (c d o : List ℕ) (ek : k ≡ element s e .kind) (eh : h ≡ tileRows s) (ew : w ≡ tileColumns s) (et : t ≡ eqb k 3)
-        (ec : c ≡ part s (elementContentAt s x e) (sectionLength s x e)) (em : m ≡ isWhole (unpacked c h w t)) (eo : o ≡ put d 0 (cellsIn (unpacked c h w t))) where
-      same-in : unpacked c h w t ≡ unpackedIn s x e
-      unfolding unpackedIn
-      same-in = rw (ec, eh, ew, et, ek)
+    module _ (g : b ≡ true) (n : ℕ) (en : n ≡ tileRows s * tileColumns s) where
+      pub held-alone : room < n → (held.Alone ≡ heldRoom s ci x e room) × (d ≡ put d 0 (unpackedBits s e held.Alone))
+      held-alone h = (sym (room-alone s ci x e room (sym ea ∙ f) (sym eb ∙ g) (omega arith)), nothing-put d)
 
-      same-at : unpacked c h w t ≡ unpackedAt s e (p + 4)
-      unfolding elementContentAt sectionLength
-      same-at = let z : p + 4 - 4 ≡ p = omega arith in rw (ec, eh, ew, et, ek, z, ep)
+      module _ (h : n ≤ room) (w : Bool) (o : List ℕ) (ew : w ≡ isWhole (unpackedIn s x e)) (eo : o ≡ put d 0 (cellsIn (unpackedIn s x e))) where
+        pub held-unpacked :
+            (p : ℕ) → p ≡ sectionAt s x e → w ≡ true → (held.Unpacked (p + 4) ≡ heldRoom s ci x e room) × (o ≡ put d 0 (unpackedBits s e (held.Unpacked (p + 4))))
+        unfolding elementContentAt
+        held-unpacked p ep q =
+            (rw ep (sym (room-unpacked s ci x e room (sym ea ∙ f) (sym eb ∙ g) (omega arith) (sym ew ∙ q))), eo ∙ rw (in-at s x e, ep))
 
-      pub held-unpacked : m ≡ true → (held.Unpacked (p + 4) ≡ heldIn s ci x e) × (o ≡ put d 0 (heldBits s e (held.Unpacked (p + 4))))
-      unfolding heldIn elementContentAt
-      held-unpacked q =
-          let u : isWhole (unpackedIn s x e) ≡ true = ap isWhole (sym same-in) ∙ sym em ∙ q in
-          (rw (← ea, f, ← eb, g, u, ep), eo ∙ rw same-at)
+        pub held-malformed :
+            w ≡ false → (held.Refused (refusal.Malformed x) ≡ heldRoom s ci x e room) × (o ≡ put d 0 (unpackedBits s e (held.Refused (refusal.Malformed x))))
+        held-malformed q =
+            (sym (room-malformed s ci x e room (sym ea ∙ f) (sym eb ∙ g) (omega arith) (sym ew ∙ q)), eo ∙ rw (not-whole (unpackedIn s x e) (sym ew ∙ q)))
 
-      pub held-malformed : m ≡ false → (held.Refused (refusal.Malformed x) ≡ heldIn s ci x e) × (o ≡ put d 0 (heldBits s e (held.Refused (refusal.Malformed x))))
-      unfolding heldIn
-      held-malformed q =
-          let u : isWhole (unpackedIn s x e) ≡ false = ap isWhole (sym same-in) ∙ sym em ∙ q in
-          (rw (← ea, f, ← eb, g, u), eo ∙ rw (not-whole (unpacked c h w t) (sym em ∙ q)))
+-- by what was found, and by a look-up: where nothing is unpacked, nothing is written
 
--- by what was found, and by a look-up: where nothing is held, nothing is written
+module _ (s : List ℕ) (ci e room : ℕ) (f : Found) (d : List ℕ) where
+  pub held-none : f ≡ Nothing → (held.Absent ≡ roomReached s ci e room f) × (d ≡ put d 0 (unpackedBits s e held.Absent))
+  held-none p = (reached-none held.Refused (roomOf s ci e room) s f held.Absent p refl, nothing-put d)
 
-pub held-none : (s : List ℕ) (ci e : ℕ) (f : Found) (d : List ℕ) → f ≡ Nothing → (held.Absent ≡ heldReached s ci e f) × (d ≡ put d 0 (heldBits s e held.Absent))
-held-none s ci e f d p = (reached-none held.Refused (heldOf s ci e) s f held.Absent p refl, nothing-put d)
+  pub held-at :
+      (x : ℕ) (r : Held) (o : List ℕ) → f ≡ At x → x < length s → r ≡ heldRoom s ci x e room → o ≡ put d 0 (unpackedBits s e r) →
+      (r ≡ roomReached s ci e room f) × (o ≡ put d 0 (unpackedBits s e r))
+  held-at x r o p h q u = (reached-at held.Refused (roomOf s ci e room) s f x r p h q, u)
 
-pub held-at :
-    (s : List ℕ) (ci e : ℕ) (f : Found) (x : ℕ) (r : Held) (d o : List ℕ) → f ≡ At x → x < length s → r ≡ heldIn s ci x e → o ≡ put d 0 (heldBits s e r) →
-    (r ≡ heldReached s ci e f) × (o ≡ put d 0 (heldBits s e r))
-held-at s ci e f x r d o p h q u = (reached-at held.Refused (heldOf s ci e) s f x r p h q, u)
-
-pub held-past :
-    (s : List ℕ) (ci e : ℕ) (f : Found) (x : ℕ) (d : List ℕ) → f ≡ At x → length s ≤ x →
-    (held.Refused refusal.Directory ≡ heldReached s ci e f) × (d ≡ put d 0 (heldBits s e (held.Refused refusal.Directory)))
-held-past s ci e f x d p h = (held-lost s f x p h ci e, nothing-put d)
+  pub held-past :
+      (x : ℕ) → f ≡ At x → length s ≤ x → (held.Refused refusal.Directory ≡ roomReached s ci e room f) × (d ≡ put d 0 (unpackedBits s e (held.Refused refusal.Directory)))
+  held-past x p h = (held-lost s f x p h ci e room, nothing-put d)
 
 pub refused-keeps : (r : Refusal) (x : Held) (d : List ℕ) → held.Refused r ≡ x → (held.Refused r ≡ x) × (d ≡ put d 0 [])
 refused-keeps r x d p = (p, nothing-put d)
+
+-- all bits: with room for the cells of any lawful tile none stay alone, and what is stored is copied
+
+room-held : (s : List ℕ) (ci : ℕ) (way : ℕ → Found) (tile e room : ℕ) → mostTileSide * mostTileSide ≤ room → lookedUpRoom s ci way tile e room ≡ lookedUpHeld s ci way tile e
+unfolding lookedTile guarded reachedBy
+room-held s ci way tile e room h = go (sidesLawful s) refl (way tile) refl
+  where
+    go : (b : Bool) → sidesLawful s ≡ b → (f : Found) → way tile ≡ f → lookedUpRoom s ci way tile e room ≡ lookedUpHeld s ci way tile e
+    go false l f j = rw l
+    go true l Nothing j = rw j
+    go true l (At x) j = rw (j, room-all s ci x e room (omega (arith, cells-few s _ l refl)))
+
+pub stored-lawful : (s : List ℕ) (said : Found → Held) (way : ℕ → Found) (tile e at : ℕ) (x : Held) → x ≡ lookedTile held.Refused said s way tile e → x ≡ held.Stored at → sidesLawful s ≡ true
+unfolding lookedTile guarded
+stored-lawful s said way tile e at x p q = go (inTiles s tile e) refl (sidesLawful s) refl
+  where
+    go : (a : Bool) → inTiles s tile e ≡ a → (b : Bool) → sidesLawful s ≡ b → sidesLawful s ≡ true
+    go a i true l = l
+    go false i false l = let h : held.Refused refusal.OutsideGrid ≡ held.Stored at = sym (p ∙ rw i) ∙ q in absurd (omega (arith, ap heldKind h))
+    go true i false l = let h : held.Refused refusal.Directory ≡ held.Stored at = sym (p ∙ rw (i, l)) ∙ q in absurd (omega (arith, ap heldKind h))
+
+module _ (s : List ℕ) (ci : ℕ) (way : ℕ → Found) (tile e : ℕ) (x : Held) (d o : List ℕ) (p : x ≡ lookedUpRoom s ci way tile e (mostTileSide * mostTileSide))
+    (q : o ≡ put d 0 (unpackedBits s e x)) where
+  pub all-copied :
+      (at : ℕ) (o2 : List ℕ) → x ≡ held.Stored at → o2 ≡ put o 0 (storedBits s (element s e .kind) at (tileRows s * tileColumns s)) →
+      (held.Stored at ≡ lookedUpHeld s ci way tile e) × (o2 ≡ put d 0 (heldBits s e (held.Stored at)))
+  all-copied at o2 f g =
+      let k : o ≡ d = q ∙ rw f (put-nil d 0) in
+      (sym f ∙ p ∙ room-held s ci way tile e _ (omega arith), g ∙ rw k)
+
+  pub all-kept : (y : Held) → x ≡ y → unpackedBits s e y ≡ heldBits s e y → (y ≡ lookedUpHeld s ci way tile e) × (o ≡ put d 0 (heldBits s e y))
+  all-kept y f g = (sym f ∙ p ∙ room-held s ci way tile e _ (omega arith), q ∙ rw (f, g))

@@ -4,3 +4,4 @@ pub mod RouteLaws
 pub mod ReadLaws
 pub mod HeldLaws
 pub mod DemandLaws
+pub mod ManyLaws

@@ -45,7 +45,7 @@ use Rattle.cells.specs.Asked.{inGrid, inTiles}
 use Rattle.cells.specs.Routes.{carries, meant, referredTo, walkedTo, cellBy, tileBy, contentBy, foundBy}
 use Rattle.cells.specs.Meaning.{meaning, contentMeaning, heldMeaning}
 use Rattle.cells.specs.Reads.{readByDirectory, readByWalk, readByRecords, readMeaning, recordsMeaning, readContent, readHeld}
-use Rattle.cells.specs.inner.Lookups.{sidesLawful, inReach, reachedBy, cellReached, lookedUp, lookedTile, lookedUpContent, lookedUpHeld}
+use Rattle.cells.specs.inner.Lookups.{sidesLawful, inReach, reachedBy, cellReached, guarded, lookedUp, lookedTile, lookedUpContent, lookedUpHeld}
 use Rattle.cells.specs.TileCells.{contentOf, heldOf}
 use Rattle.cells.proofs.CellLaws.{sides-mean, grid-means, tiles-mean}
 use Rattle.cells.proofs.RouteLaws.{walk-finds, directory-finds, meant-is, cell-same, tile-same}
@@ -100,34 +100,32 @@ found-walked s w at i f p q = rw p q
 
 -- what a look-up answers, by its tests
 
-module _ (s : List ℕ) (way : ℕ → Found) (ci row column e : ℕ) (b : Bool) (p : b ≡ inGrid s row column e) where
-  pub looked-outside : b ≡ false → cell.Refused OutsideGrid ≡ lookedUp s ci way row column e
+module _ {A : Type 0} (refused : Refusal → A) (s : List ℕ) (there b : Bool) (p : b ≡ there) (x : A) where
+  pub guarded-outside : b ≡ false → refused OutsideGrid ≡ guarded refused there s x
+  unfolding guarded
+  guarded-outside f = rw (← p, f)
+
+  module _ (c : Bool) (q : c ≡ sidesLawful s) (f : b ≡ true) where
+    pub guarded-unlawful : c ≡ false → refused Directory ≡ guarded refused there s x
+    unfolding guarded
+    guarded-unlawful g = rw (← p, f, ← q, g)
+
+    pub guarded-answer : (y : A) → c ≡ true → y ≡ x → y ≡ guarded refused there s x
+    unfolding guarded
+    guarded-answer y g k = rw (← p, f, ← q, g) k
+
+module _ (s : List ℕ) (b c : Bool) (q : c ≡ sidesLawful s) (f : b ≡ true) (h : c ≡ true) where
+  pub looked-found :
+      (way : ℕ → Found) (ci row column e : ℕ) → b ≡ inGrid s row column e → (i : ℕ) (g : Found) (x : Cell) → i ≡ cellTile s row column → g ≡ way i →
+      x ≡ cellReached s ci row column e g → x ≡ lookedUp s ci way row column e
   unfolding lookedUp
-  looked-outside f = rw (← p, f)
+  looked-found way ci row column e p i g x t m k = guarded-answer cell.Refused s _ b p _ c q f x h (k ∙ rw (m, t))
 
-  module _ (c : Bool) (q : c ≡ sidesLawful s) (f : b ≡ true) where
-    pub looked-unlawful : c ≡ false → cell.Refused Directory ≡ lookedUp s ci way row column e
-    unfolding lookedUp
-    looked-unlawful g = rw (← p, f, ← q, g)
-
-    pub looked-found :
-        (i : ℕ) (g : Found) (x : Cell) → c ≡ true → i ≡ cellTile s row column → g ≡ way i → x ≡ cellReached s ci row column e g → x ≡ lookedUp s ci way row column e
-    unfolding lookedUp
-    looked-found i g x h t m k = rw (← p, f, ← q, h, ← t, ← m) k
-
-module _ {A : Type 0} (refused : Refusal → A) (said : Found → A) (s : List ℕ) (way : ℕ → Found) (tile e : ℕ) (b : Bool) (p : b ≡ inTiles s tile e) where
-  pub tile-outside : b ≡ false → refused OutsideGrid ≡ lookedTile refused said s way tile e
+  pub tile-looked :
+      {A : Type 0} (refused : Refusal → A) (said : Found → A) (way : ℕ → Found) (tile e : ℕ) → b ≡ inTiles s tile e → (i : ℕ) (g : Found) (x : A) → i ≡ tile → g ≡ way i →
+      x ≡ reachedBy refused said s g → x ≡ lookedTile refused said s way tile e
   unfolding lookedTile
-  tile-outside f = rw (← p, f)
-
-  module _ (c : Bool) (q : c ≡ sidesLawful s) (f : b ≡ true) where
-    pub tile-unlawful : c ≡ false → refused Directory ≡ lookedTile refused said s way tile e
-    unfolding lookedTile
-    tile-unlawful g = rw (← p, f, ← q, g)
-
-    pub tile-looked : (i : ℕ) (g : Found) (x : A) → c ≡ true → i ≡ tile → g ≡ way i → x ≡ reachedBy refused said s g → x ≡ lookedTile refused said s way tile e
-    unfolding lookedTile
-    tile-looked i g x h t m k = rw (← p, f, ← q, h, ← t, ← m) k
+  tile-looked refused said way tile e p i g x t m k = guarded-answer refused s _ b p _ c q f x h (k ∙ rw (m, t))
 
 -- where the sides are lawful and a way finds what is meant, a look-up by it is the meaning
 
@@ -146,7 +144,7 @@ module _ (s : List ℕ) (way : ℕ → Found) (lawful : sidesLawful s ≡ true) 
       cell-same s way (meant s) finds ci row column e (omega (arith, d .tile-rows .0)) (omega (arith, d .tile-columns .0))
 
   pub looked-means : (ci row column e : ℕ) → lookedUp s ci way row column e ≡ meaning s ci row column e
-  unfolding lookedUp reachedBy meaning cellBy
+  unfolding lookedUp guarded reachedBy meaning cellBy
   looked-means ci row column e = go (inGrid s row column e) refl
     where
       go : (b : Bool) → inGrid s row column e ≡ b → lookedUp s ci way row column e ≡ cellBy s ci (meant s) row column e
@@ -158,7 +156,7 @@ module _ (s : List ℕ) (way : ℕ → Found) (lawful : sidesLawful s ≡ true) 
       go false f = rw f
 
   pub tile-looked-means : {A : Type 0} (refused : Refusal → A) (said : Found → A) (tile e : ℕ) → lookedTile refused said s way tile e ≡ tileBy refused said s (meant s) tile e
-  unfolding lookedTile reachedBy tileBy
+  unfolding lookedTile guarded reachedBy tileBy
   tile-looked-means refused said tile e = go (inTiles s tile e) refl
     where
       go : (b : Bool) → inTiles s tile e ≡ b → lookedTile refused said s way tile e ≡ tileBy refused said s (meant s) tile e

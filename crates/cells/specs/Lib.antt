@@ -9,7 +9,8 @@
 --
 -- `content` finds the tile's record through the directory, without a pass over the chain. Its contract does not say so: document 01
 -- names two routes for a cell and none for an element's content, and a contract that is the meaning leaves the body free.
--- The pages stand in the order in which to read them; `inner` only serves faster bodies, and no rule rests on it.
+-- The pages stand in the order in which to read them; `inner` only serves faster bodies and many reads after one check, and no read
+-- rests on it.
 pub mod Asked
 pub mod TileCells
 pub mod Routes
@@ -19,3 +20,4 @@ pub mod Compressor
 pub mod Demand2
 pub mod Demand3
 pub mod inner
+pub mod Many

@@ -4,7 +4,7 @@ use mathlib.Core.List.{List, [], _∷_, map}
 use mathlib.Core.Bool.{Bool}
 use Rattle.wire.specs.Pick.{pick}
 use lib.Dec.{eqb}
-use Rattle.wire.specs.Tests.{_≤?_, _≡?_, _≢?_, passes}
+use Rattle.wire.specs.Tests.{_≤?_, _≡?_, _≢?_, is, passes}
 use Rattle.wire.specs.Lists.{below}
 use Rattle.wire.specs.Bytes.{byteAt, part, u32At, numberAt}
 use Rattle.answer.specs.declared.Refusal.the-variants as refusal
@@ -103,7 +103,27 @@ abbrev pub heldOf : List ℕ → ℕ → ℕ → Found → Held
 heldOf s ci e Nothing = held.Absent
 heldOf s ci e (At x) = heldIn s ci x e
 
--- their bits, row by row: those of the stored cells one behind the other, or those that the content holds
+-- Req 07: a caller who goes on from cell to cell lends memory for the unpacked ones, `room` numbers. A compressed content of the caller's
+-- index stays alone where the tile has more cells: it is not judged, and each cell is looked up by itself
+unfoldable pub staysAlone : List ℕ → ℕ → ℕ → ℕ → ℕ → Bool
+staysAlone s ci x e room = passes (is (packed s x e) ∷ is (unpackable s ci x e) ∷ (room + 1 ≤? tileRows s * tileColumns s) ∷ [])
+
+unfoldable pub heldRoom : List ℕ → ℕ → ℕ → ℕ → ℕ → Held
+heldRoom s ci x e room = pick (staysAlone s ci x e room) held.Alone (heldIn s ci x e)
+
+abbrev pub roomOf : List ℕ → ℕ → ℕ → ℕ → Found → Held
+roomOf s ci e room Nothing = held.Absent
+roomOf s ci e room (At x) = heldRoom s ci x e room
+
+-- what the memory takes: the bits that a compressed content holds, row by row; nothing of what is stored
+abbrev pub unpackedBits : List ℕ → ℕ → Held → List ℕ
+unpackedBits s e (held.Stored at) = []
+unpackedBits s e (held.Unpacked at) = cellsIn (unpackedAt s e at)
+unpackedBits s e held.Absent = []
+unpackedBits s e held.Alone = []
+unpackedBits s e (held.Refused r) = []
+
+-- the bits of all cells, row by row: those of the stored cells one behind the other, or those that the content holds
 unfoldable pub storedBits : List ℕ → ℕ → ℕ → ℕ → List ℕ
 storedBits s kind at n = map (λ i. numberAt (cellSize kind) s (at + cellOffset kind i)) (below n)
 
@@ -111,6 +131,7 @@ abbrev pub heldBits : List ℕ → ℕ → Held → List ℕ
 heldBits s e (held.Stored at) = storedBits s (element s e .kind) at (tileRows s * tileColumns s)
 heldBits s e (held.Unpacked at) = cellsIn (unpackedAt s e at)
 heldBits s e held.Absent = []
+heldBits s e held.Alone = []
 heldBits s e (held.Refused r) = []
 
 -- and how many there are
@@ -118,4 +139,5 @@ abbrev pub heldCount : List ℕ → Held → ℕ
 heldCount s (held.Stored at) = tileRows s * tileColumns s
 heldCount s (held.Unpacked at) = tileRows s * tileColumns s
 heldCount s held.Absent = 0
+heldCount s held.Alone = 0
 heldCount s (held.Refused r) = 0

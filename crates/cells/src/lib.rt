@@ -2,6 +2,7 @@
 pub mod asked;
 mod held;
 pub mod lookups;
+pub mod many;
 pub mod reads;
 pub mod routes;
 pub mod tile_cells;

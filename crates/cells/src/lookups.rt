@@ -13,13 +13,16 @@ use check_header::ceilings;
 use check_header::header_record;
 use geometry::tiles;
 ghost use mathlib.Core.Path.{_≡_};
-ghost use Rattle.cells.specs.inner.Lookups.{sidesLawful, lookedUp, lookedUpContent, lookedUpHeld};
+ghost use Rattle.cells.specs.inner.Lookups.{sidesLawful, lookedUp, lookedUpContent, lookedUpHeld, lookedUpRoom};
 ghost use Rattle.wire.specs.Bytes.{put};
-ghost use Rattle.cells.specs.TileCells.{heldBits};
+ghost use Rattle.cells.specs.TileCells.{heldBits, unpackedBits};
 ghost use Rattle.cells.specs.Routes.{foundBy};
 
+// The most cells that a tile with lawful sides has.
+const MOST_CELLS: usize = 16777216;
+
 // The sides keep stages 3 and 4.
-fn sides_lawful(s: &[u8]) -> bool
+pub(crate) fn sides_lawful(s: &[u8]) -> bool
     ensures { λ r. ⌜ r ≡ sidesLawful (now (s .entry)) ⌝ }
 {
     if header_record::sides_right(s) {
@@ -64,7 +67,31 @@ pub fn look_up_content(s: &[u8], route: Route, tile: u64, e: u64) -> Content
     Content::Refused(Refusal::OutsideGrid)
 }
 
-// All cells of an element in a tile, by a route.
+// What is said of all cells of an element in a tile, by a route: stored ones stay where they are, compressed ones are unpacked into
+// the memory, where they are at most `room`.
+pub fn look_up_room(
+    s: &[u8],
+    compressor: u32,
+    route: Route,
+    tile: u64,
+    e: u64,
+    room: usize,
+    memory: &mut [u32],
+) -> Held
+    ensures is { λ r. ⌜ r ≡ lookedUpRoom (now (s .entry)) compressor (foundBy (now (s .entry)) route) tile e room ⌝ }
+    ensures holds { λ r. ⌜ now (memory .exit) ≡ put (now (memory .entry)) 0 (unpackedBits (now (s .entry)) e r) ⌝ }
+{
+    if asked::in_tiles(s, tile, e) {
+        if sides_lawful(s) {
+            let found = routes::found_by(s, route, tile as u32);
+            return held::hold_reached(s, compressor, found, e as u32, room, memory);
+        }
+        return Held::Refused(Refusal::Directory);
+    }
+    Held::Refused(Refusal::OutsideGrid)
+}
+
+// The same with all their bits: stored ones are copied, and compressed ones are judged also where they do not fit.
 pub fn look_up_held(
     s: &[u8],
     compressor: u32,
@@ -76,12 +103,14 @@ pub fn look_up_held(
     ensures is { λ r. ⌜ r ≡ lookedUpHeld (now (s .entry)) compressor (foundBy (now (s .entry)) route) tile e ⌝ }
     ensures holds { λ r. ⌜ now (out .exit) ≡ put (now (out .entry)) 0 (heldBits (now (s .entry)) e r) ⌝ }
 {
-    if asked::in_tiles(s, tile, e) {
-        if sides_lawful(s) {
-            let found = routes::found_by(s, route, tile as u32);
-            return held::hold_reached(s, compressor, found, e as u32, out);
+    match look_up_room(s, compressor, route, tile, e, MOST_CELLS, out) {
+        Held::Stored(at) => {
+            held::put_stored(s, e as usize, at, out);
+            Held::Stored(at)
         }
-        return Held::Refused(Refusal::Directory);
+        Held::Unpacked(at) => Held::Unpacked(at),
+        Held::Absent => Held::Absent,
+        Held::Alone => Held::Alone,
+        Held::Refused(r) => Held::Refused(r),
     }
-    Held::Refused(Refusal::OutsideGrid)
 }

@@ -52,7 +52,7 @@ pub(crate) fn is_packed(s: &[u8], x: usize, e: u32) -> bool
 }
 
 // Where a cell starts in its element's content.
-fn offset_in(s: &[u8], row: u32, column: u32, e: u32) -> u64
+pub(crate) fn offset_in(s: &[u8], row: u32, column: u32, e: u32) -> u64
     requires { ⌜ sidesLawful (now s) ≡ true ⌝ }
     ensures is { λ r. ⌜ r ≡ offsetIn (now (s .entry)) row column e ⌝ }
     ensures near { λ r. ⌜ r ≤ mostTileSide * mostTileSide * 4 ⌝ }
@@ -69,23 +69,23 @@ fn place_in(s: &[u8], x: usize, row: u32, column: u32, e: u32) -> usize
     at + 4 + offset_in(s, row, column, e) as usize
 }
 
-// The bit pattern at a place, of an element of a type code.
-pub(crate) fn bits_at(s: &[u8], kind: u32, place: usize) -> u32
-    ensures { λ r. ⌜ r ≡ numberAt (cellSize kind) (now (s .entry)) place ⌝ }
+// The bit pattern d behind a position, however large the sum, of an element of a type code.
+pub(crate) fn bits_at(s: &[u8], kind: u32, at: usize, d: usize) -> u32
+    ensures { λ r. ⌜ r ≡ numberAt (cellSize kind) (now (s .entry)) (at + d) ⌝ }
 {
     if kind == entries::SHORT {
-        return wire::u16_at(s, place);
+        return wire::u16_off(s, at, d);
     }
-    wire::u32_at(s, place)
+    wire::u32_off(s, at, d)
 }
 
 // The cell that is stored there.
-fn stored_at(s: &[u8], e: u32, place: usize) -> Cell
+pub(crate) fn stored_at(s: &[u8], e: u32, place: usize) -> Cell
     ensures { λ r. ⌜ r ≡ storedAt (now (s .entry)) e place ⌝ }
 {
     let kind = kind_of(s, e);
     Cell::Stored {
-        value: answer::value_of(kind, bits_at(s, kind, place)),
+        value: answer::value_of(kind, bits_at(s, kind, place, 0)),
         place,
     }
 }
@@ -163,7 +163,7 @@ fn cell_in(s: &[u8], compressor: u32, x: usize, row: u32, column: u32, e: u32) -
 }
 
 // A cell of an absent tile.
-fn fill_of(s: &[u8], e: u32) -> Cell
+pub(crate) fn fill_of(s: &[u8], e: u32) -> Cell
     ensures { λ r. ⌜ r ≡ fillOf (now (s .entry)) e ⌝ }
 {
     let x = entries::element(s, e as usize);

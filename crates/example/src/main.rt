@@ -1,12 +1,15 @@
 // crates/example/src/main.rt
 //
-// A product above the store: it prints some elements, cells and contents of the page that its first argument names. It lists the crates
-// `store` and `answer`, and none below them.
+// A product above the store: it prints what the page is that its first argument names, and some of its elements, cells and contents. It
+// lists the crates `store` and `answer`, and none below them.
 use answer::Cell;
 use answer::Content;
 use answer::Lookup;
 use answer::Refusal;
 use libc::STDOUT_FILENO;
+use store::description;
+use store::description::Described;
+use store::description::Specified;
 ghost use mathlib.Core.Path.{_≡_};
 ghost use Rattle.store.specs.Face.{readMeaning};
 
@@ -26,6 +29,41 @@ fn print(text: &[u8], number: u64) {
 fn print_refusal(r: Refusal) {
     print(b"refused ", answer::refusal_number(r) as u64);
     print(b" at ", answer::refusal_place(r) as u64);
+}
+
+// The tiles of the page, and where its header ends.
+fn print_tiles(label: &[u8], file: &[u8]) {
+    io::write_all(STDOUT_FILENO, label);
+    match description::describe(file) {
+        Described::Page(x) => {
+            print(b"down ", x.tiles_down as u64);
+            print(b", across ", x.tiles_across as u64);
+            print(b", bytes in each ", x.tile_bytes);
+            print(b", behind a front of ", x.front as u64);
+        }
+        Described::Refused(r) => print_refusal(r),
+    }
+    io::write_all(STDOUT_FILENO, b"\n");
+}
+
+// What an element is.
+fn print_specification(label: &[u8], file: &[u8], e: u64) {
+    io::write_all(STDOUT_FILENO, label);
+    match description::specify(file, e) {
+        Specified::Element {
+            kind,
+            fill,
+            name,
+            name_length,
+        } => {
+            print(b"type ", kind as u64);
+            print(b", fill ", fill as u64);
+            print(b", name at ", name as u64);
+            print(b", bytes ", name_length as u64);
+        }
+        Specified::Refused(r) => print_refusal(r),
+    }
+    io::write_all(STDOUT_FILENO, b"\n");
 }
 
 // The number of the element with a name.
@@ -76,6 +114,9 @@ fn print_content(label: &[u8], file: &[u8], tile: u64) {
 }
 
 fn print_page(file: &[u8]) {
+    print_tiles(b"tiles: ", file);
+    print_specification(b"element 0: ", file, 0);
+    print_specification(b"element 1: ", file, 1);
     print_element(b"element z: ", file, b"z");
     print_element(b"element Z: ", file, b"Z");
     print_cell(b"cell 2 1 by the directory: ", cell(file, 2, 1, false));

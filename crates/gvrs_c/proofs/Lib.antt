@@ -1,1 +1,3 @@
 pub mod ReportLaws
+pub mod DescriptionLaws
+pub mod RectangleLaws

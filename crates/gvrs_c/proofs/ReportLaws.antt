@@ -17,8 +17,6 @@ use Rattle.answer.specs.declared.Verdict.{Verdict}
 use Rattle.answer.specs.declared.Cell.{Cell}
 use Rattle.answer.specs.declared.Content.{Content}
 use Rattle.answer.specs.declared.Held.{Held}
-use Rattle.answer.specs.declared.Held.the-variants as held
-use Rattle.answer.specs.declared.Refusal.{Refusal}
 use Rattle.answer.specs.declared.Laid.{Laid}
 use Rattle.answer.specs.Refusals.{verdictNumber, verdictPlace}
 use Rattle.answer.specs.Answers.{cellKind, cellType, cellBits, cellPlace, contentKind, contentPlace, contentLength, heldKind, heldPlace, laidNumber}
@@ -26,7 +24,6 @@ use Rattle.check_header.specs.Start.{checkStart, needed}
 use Rattle.page_check.specs.Stages.{check}
 use Rattle.cells.specs.Reads.{readByDirectory, readByWalk, readByRecords, readMeaning, recordsMeaning}
 use Rattle.cells.proofs.ReadLaws.{directory-read, walk-read, records-read}
-use Rattle.header.specs.Fields.{tileRows, tileColumns}
 use Rattle.cells.specs.TileCells.{heldBits, heldCount}
 use Rattle.gvrs_c.specs.Report.{reported, startNumbers, cellNumbers, contentNumbers, heldNumbers, laidReport}
 use Rattle.gvrs_c.specs.Route.{readBy, meaningBy, RouteMeans}
@@ -136,18 +133,8 @@ small-product a b h k =
     let m : a * b ≤ 4294967295 * 4294967295 = mul-le-mul p q in
     omega arith
 
-module _ (s : List ℕ) (x : Held) (r : ℕ) where
-  pub count-held : (h w at : ℕ) → x ≡ held.Stored at → h ≡ tileRows s → w ≡ tileColumns s → r ≡ h * w → r ≡ heldCount s x
-  count-held h w at p q t e = e ∙ rw (p, q, t)
-
-  pub count-unpacked : (h w at : ℕ) → x ≡ held.Unpacked at → h ≡ tileRows s → w ≡ tileColumns s → r ≡ h * w → r ≡ heldCount s x
-  count-unpacked h w at p q t e = e ∙ rw (p, q, t)
-
-pub count-absent : (s : List ℕ) (x : Held) → x ≡ held.Absent → 0 ≡ heldCount s x
-count-absent s x p = rw p
-
-pub count-refused : (s : List ℕ) (x : Held) (r : Refusal) → x ≡ held.Refused r → 0 ≡ heldCount s x
-count-refused s x r p = rw p
+pub counted : (s : List ℕ) (x y : Held) (r : ℕ) → x ≡ y → r ≡ heldCount s y → r ≡ heldCount s x
+counted s x y r p q = rw p q
 
 pub held-told :
     (s : List ℕ) (e : ℕ) (o p q d m : List ℕ) (x y : Held) (n a b : ℕ) → x ≡ y → m ≡ put d 0 (heldBits s e x) → a ≡ heldPlace x → p ≡ set o 0 a → b ≡ heldCount s x →

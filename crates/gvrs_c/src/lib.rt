@@ -1,4 +1,7 @@
 // The C interface: what a C program calls, declared in include/gvrs.h. A slice is a pointer and a count of elements.
+mod description;
+mod rectangle;
+
 use answer::Cell;
 use answer::Held;
 use answer::Laid;
@@ -30,7 +33,7 @@ ghost use Rattle.gvrs_c.specs.Report.{reported, startNumbers, cellNumber
 ghost use Rattle.gvrs_c.specs.Route.{readBy, meaningBy};
 
 // A number of an answer at its place in `out`, if `out` is long enough.
-fn report(out: &mut [u64], k: usize, v: u64)
+pub(crate) fn report(out: &mut [u64], k: usize, v: u64)
     ensures { λ _. ⌜ now (out .exit) ≡ set (now (out .entry)) k v ⌝ }
 {
     if k < out.len() {
@@ -166,6 +169,7 @@ fn held_count(file: &[u8], held: Held) -> u64
         Held::Stored(_) => fields::tile_rows(file) as u64 * fields::tile_columns(file) as u64,
         Held::Unpacked(_) => fields::tile_rows(file) as u64 * fields::tile_columns(file) as u64,
         Held::Absent => 0,
+        Held::Alone => 0,
         Held::Refused(_) => 0,
     }
 }

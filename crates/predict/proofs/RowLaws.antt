@@ -4,13 +4,10 @@ use mathlib.Core.Path.{_≡_, refl, sym, ap, _∙_}
 use mathlib.Core.List.{List, _++_, append-nil}
 use native.Mathlib.Omega.{arith}
 use native.Mathlib.Numerals.{add-one}
-use lib.ListN.{length, getD, set, take, drop, drop-of-length-le, List·getD-eq-default}
+use lib.ListN.{length, getD, set, take, drop, drop-of-length-le}
 use lib.Seq.{drop-cons, take-suc-set, drop-set-lt, append-snoc, take-all}
 use borrow.Author.Tests.{eq-eqb, ne-eqb}
 use Rattle.predict.specs.Predict.{plus, minus, linear, triangle, predicted, rowFrom, rowOf}
-
-pub none-in : (row : List ℕ) (i : ℕ) → length row ≤ i → 0 ≡ getD row i 0
-none-in row i h = sym (List·getD-eq-default row 0 h)
 
 pub summed : (a b c s r : ℕ) → s ≡ (a + b) % 4294967296 → (r + c) % 4294967296 ≡ s → r < 4294967296 → r ≡ minus (plus a b) c
 unfolding plus minus

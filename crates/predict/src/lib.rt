@@ -1,17 +1,6 @@
 // The predictors for integer data, a row at a time and in place: residuals become cells. A number is passed as the u32 of its bits.
 ghost use mathlib.Core.Path.{_≡_};
-ghost use lib.ListN.{getD};
 ghost use Rattle.predict.specs.Predict.{plus, minus, predicted, rowOf};
-
-// The number in a column, 0 where there is none.
-fn number_in(row: &[u32], i: usize) -> u32
-    ensures { λ r. ⌜ r ≡ getD (now (row .entry)) i 0 ⌝ }
-{
-    if i < row.len() {
-        return row[i];
-    }
-    0
-}
 
 // Two numbers added and one taken away.
 fn sum_less(a: u32, b: u32, c: u32) -> u32
@@ -26,7 +15,7 @@ fn predicted(p: u32, above: &[u32], i: usize, left: u32, second: u32) -> u32
     ensures { λ r. ⌜ r ≡ predicted p (now (above .entry)) i left second ⌝ }
 {
     if i == 0 {
-        return number_in(above, 0);
+        return wire::number_in(above, 0);
     }
     if p == 0 {
         return left;
@@ -37,8 +26,8 @@ fn predicted(p: u32, above: &[u32], i: usize, left: u32, second: u32) -> u32
         }
         return sum_less(left, left, second);
     }
-    let up = number_in(above, i);
-    let corner = number_in(above, i - 1);
+    let up = wire::number_in(above, i);
+    let corner = wire::number_in(above, i - 1);
     sum_less(left, up, corner)
 }
 

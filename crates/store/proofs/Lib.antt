@@ -1,3 +1,5 @@
 pub mod OpenedLaws
 pub mod LookupLaws
+pub mod DescriptionLaws
+pub mod ManyLaws
 pub mod Held

@@ -60,7 +60,7 @@ number-found (At x) e p = let z : x ≡ e = cc in ap At z
 number-found Nothing e p = let z : _≡_ {A = ℕ} 0 1 = cc in absurd (omega arith)
 
 module _ (s : List ℕ) (a : check s ≡ Accepted) where
-  right : (e : ℕ) → e < elementCount s → elementRight s e ≡ true
+  pub right : (e : ℕ) → e < elementCount s → elementRight s e ≡ true
   unfolding headerRight elementsRight
   right e h =
       let o = accepted-obeys s a in

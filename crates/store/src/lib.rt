@@ -1,6 +1,6 @@
-// The public face: the opened page. It keeps hold of the file's own bytes, of the compressor index that its opener named, and of two
-// positions that the bytes give, from which the two routes start. Whoever makes one may put any numbers there: a read on it answers as
-// one on the bytes with that index, whatever the positions are.
+// The public face: the opened page, and many reads after one check. A page keeps hold of the file's own bytes, of the compressor index
+// that its opener named, and of two positions that the bytes give, from which the two routes start. Whoever makes one may put any
+// numbers there: a read on it answers as one on the bytes with that index, whatever the positions are.
 //
 // Opening refuses nothing: a read gives the check's refusal, whatever page it is asked on. Of bytes that are refused 0 is held, where
 // neither a record nor a directory can start.
@@ -8,9 +8,14 @@
 // A read takes its route as a bool. There are two behind the whole check, and no number is left over that is no route. The walk
 // without stage 9 is for files whose directories are at fault, and such bytes have no positions that a page holds; `cells` has it.
 //
+// A read makes the check each time. A product that makes one check and then asks for many cells goes by `many`: its look-ups do not
+// repeat the check, are no reads, and have names that say so. The C interface does not pass them on.
+//
 // A function that has a page in a local is proved by hand. `cell_of` and `content_of` ask the same of bytes, without a page, so that
 // no proof of a product above goes through one.
+pub mod description;
 mod elements;
+pub mod many;
 pub mod reads;
 
 use answer::Cell;
@@ -20,6 +25,7 @@ ghost use mathlib.Core.Path.{_≡_};
 ghost use Prim.Native.Nat.{_+_};
 ghost use Rattle.wire.specs.Bytes.{part, partAt};
 ghost use Rattle.answer.specs.Answers.{contentPlace, contentLength};
+ghost use Rattle.page_check.specs.Stages.{check};
 ghost use Rattle.cells.specs.Reads.{readMeaning, readContent};
 ghost use Rattle.store.specs.Opened.{heldEnd, heldDirectory, plainRead};
 ghost use Rattle.store.specs.Lookup.{readElementNamed};
@@ -90,6 +96,13 @@ pub fn content_of(file: &[u8], tile: u64, e: u64) -> &[u8]
     ensures offset { λ r. ⌜ r .ptr .1 ≡ file .entry .ptr .1 + partAt (now (file .entry)) (contentPlace (readContent (now (file .entry)) tile e)) (contentLength (readContent (now (file .entry)) tile e)) ⌝ }
 {
     cells::reads::content_part(file, tile, e)
+}
+
+// The check, for a product that asks many things behind one.
+pub fn check(file: &[u8]) -> Verdict
+    ensures { λ r. ⌜ r ≡ check (now (file .entry)) ⌝ }
+{
+    page_check::check(file)
 }
 
 // The number of the element with a name, which is any bytes. Its time is one check, and a comparison with the names of at most 16

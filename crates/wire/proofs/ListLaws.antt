@@ -1,12 +1,15 @@
--- Rules over a list of numbers, and its members; lists that increase. Assumes nothing.
-use Prim.Native.Nat.{ℕ, _+_, _≤_}
+-- Rules over a list of numbers, and its members; lists that increase; a function of the numbers below a bound. Assumes nothing.
+use Prim.Native.Nat.{ℕ, zero, suc, _+_, _≤_, _<_}
 use mathlib.Core.Path.{_≡_, refl, sym, ap, _∙_}
-use mathlib.Core.List.{List, [], _∷_, _++_, List·Memᴰ, List·Memᴰ·head, List·Memᴰ·tail, List·Memᴰ·not-nil, List·Memᴰ·cases-cons}
+use mathlib.Core.List.{List, [], _∷_, _++_, map, List·Memᴰ, List·Memᴰ·head, List·Memᴰ·tail, List·Memᴰ·not-nil, List·Memᴰ·cases-cons}
 use mathlib.Core.Logic.{_⊎_, ⊎-elim}
 use mathlib.Core.Bool.{Bool, true, false, _||_}
 use native.Mathlib.Omega.{arith}
+use lib.ListN.{length, getD}
+use lib.Dec.{eqb}
+use borrow.Author.Tests.{eqb-true, eqb-false}
 use Rattle.wire.specs.Pick.{pick}
-use Rattle.wire.specs.Lists.{select, every, some}
+use Rattle.wire.specs.Lists.{select, every, some, below}
 use Rattle.wire.proofs.TestLaws.{means, yes, not-both}
 
 -- every number of a list that keeps a rule
@@ -135,3 +138,36 @@ behind-select p a (x ∷ xs) i = go (p x) (behind-select p (x + 1) xs (i .1))
     go : (b : Bool) → Behind (x + 1) (select p xs) → Behind a (pick b (x ∷ select p xs) (select p xs))
     go true r = (i .0, r)
     go false r = behind-more a (x + 1) (select p xs) (omega (arith, i .0)) r
+
+-- a function of the numbers below n, by its place
+
+length-snoc : (l : List ℕ) (x : ℕ) → length (l ++ (x ∷ [])) ≡ suc (length l)
+length-snoc [] x = refl
+length-snoc (y ∷ ys) x = ap suc (length-snoc ys x)
+
+map-snoc : (f : ℕ → ℕ) (l : List ℕ) (x : ℕ) → map f (l ++ (x ∷ [])) ≡ map f l ++ (f x ∷ [])
+map-snoc f [] x = refl
+map-snoc f (y ∷ ys) x = ap (λ (l : List ℕ). f y ∷ l) (map-snoc f ys x)
+
+snoc-at : (l : List ℕ) (x i : ℕ) → (i < length l → getD (l ++ (x ∷ [])) i 0 ≡ getD l i 0) × (i ≡ length l → getD (l ++ (x ∷ [])) i 0 ≡ x)
+snoc-at [] x zero = ((λ h. absurd (omega arith)), (λ h. refl))
+snoc-at [] x (suc i) = ((λ h. absurd (omega arith)), (λ h. absurd (omega arith)))
+snoc-at (y ∷ ys) x zero = ((λ h. refl), (λ h. absurd (omega arith)))
+snoc-at (y ∷ ys) x (suc i) = let r = snoc-at ys x i in ((λ h. r .0 (omega arith)), (λ h. r .1 (omega arith)))
+
+pub below-long : (f : ℕ → ℕ) (n : ℕ) → length (map f (below n)) ≡ n
+unfolding below
+below-long f zero = refl
+below-long f (suc n) = ap length (map-snoc f (below n) n) ∙ length-snoc (map f (below n)) (f n) ∙ ap suc (below-long f n)
+
+pub below-at : (f : ℕ → ℕ) (n i : ℕ) → i < n → getD (map f (below n)) i 0 ≡ f i
+unfolding below
+below-at f zero i h = absurd (omega arith)
+below-at f (suc n) i h = ap (λ (l : List ℕ). getD l i 0) (map-snoc f (below n) n) ∙ go (eqb i n) refl (below-at f n i)
+  where
+    go : (b : Bool) → eqb i n ≡ b → (i < n → getD (map f (below n)) i 0 ≡ f i) → getD (map f (below n) ++ (f n ∷ [])) i 0 ≡ f i
+    go true e r = let z = eqb-true i n e in snoc-at (map f (below n)) (f n) i .1 (z ∙ sym (below-long f n)) ∙ ap f (sym z)
+    go false e r =
+        let z = eqb-false i n e in
+        let k : i < n = omega arith in
+        snoc-at (map f (below n)) (f n) i .0 (omega (arith, below-long f n)) ∙ r k

@@ -42,6 +42,13 @@ module _ (d : List ℕ) (at : ℕ) (v : List ℕ) where
       ∙ part-within (take at d) v (drop (at + length v) d) 0 (length v) (omega arith)
       ∙ part-whole v)
 
+  pub put-each : (i : ℕ) → i < length v → at + length v ≤ length d → getD (put d at v) (at + i) 0 ≡ getD v i 0
+  unfolding byteAt
+  put-each i l h =
+      let k : length (take at d) + i ≡ at + i = rw length-take (omega arith) in
+      let m : at + i < length (take at d ++ v) = simp (length-append, length-take) (omega arith) in
+      rw (put-fits d at v h, List·getD-append (take at d ++ v) (drop (at + length v) d) 0 (at + i) m, ← k) (byte-behind (take at d) v i)
+
   put-lower : (i : ℕ) → i < at → at + length v ≤ length d → byteAt d i ≡ byteAt (put d at v) i
   unfolding byteAt
   put-lower i l h =

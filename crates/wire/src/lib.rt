@@ -3,7 +3,7 @@ pub mod writing;
 
 ghost use mathlib.Core.Path.{_≡_};
 ghost use Prim.Native.Nat.{_+_, _<_, min};
-ghost use lib.ListN.{length};
+ghost use lib.ListN.{length, getD};
 ghost use Rattle.wire.specs.Bytes.{byteAt, part, numberAt, partAt, sameBytes};
 ghost use Rattle.wire.specs.Compare.{compared};
 
@@ -96,6 +96,16 @@ pub fn u64_off(s: &[u8], at: usize, d: usize) -> u64
     ensures { λ r. ⌜ r ≡ numberAt 8 (now (s .entry)) (at + d) ⌝ }
 {
     u64_at(s, clipped(s, at, d))
+}
+
+// A number of a slice of numbers, 0 past the end.
+pub fn number_in(numbers: &[u32], i: usize) -> u32
+    ensures { λ r. ⌜ r ≡ getD (now (numbers .entry)) i 0 ⌝ }
+{
+    if i < numbers.len() {
+        return numbers[i];
+    }
+    0
 }
 
 // The n bytes from a position on, as that part of the slice itself; the empty part where they do not lie whole in it.

@@ -114,8 +114,8 @@ impl Cells {
 
 /// What reads start from: the records, or the refusal that comes before everything else.
 pub struct Opened<'a> {
-    file: &'a [u8],
-    passed: Result<Passed<'a>, Answer>,
+    pub(super) file: &'a [u8],
+    pub(super) passed: Result<Passed<'a>, Answer>,
 }
 
 impl<'a> Opened<'a> {
@@ -194,7 +194,13 @@ fn cell(file: &[u8], passed: &Passed, spot: Spot, compressor: u32) -> Cell {
 }
 
 /// Refused as a cell read is.
-fn cells(file: &[u8], passed: &Passed, tile: u64, element_number: u64, compressor: u32) -> Cells {
+pub(super) fn cells(
+    file: &[u8],
+    passed: &Passed,
+    tile: u64,
+    element_number: u64,
+    compressor: u32,
+) -> Cells {
     let header = &passed.header;
     let Some(element) = element(header, element_number) else {
         return Cells::Refused((10, 0));
@@ -260,17 +266,17 @@ fn content(passed: &Passed, tile: u64, element_number: u64) -> Content {
     Content::Present { start: part.start as u64, length: part.length as u64 }
 }
 
-fn element(header: &Header, number: u64) -> Option<&Element> {
+pub(super) fn element(header: &Header, number: u64) -> Option<&Element> {
     header.elements.get(usize::try_from(number).ok()?)
 }
 
 /// Document 01: "Cell (r, c) is in tile (r / tile rows) × across + (c / tile columns)."
-fn tile_of(header: &Header, spot: Spot) -> u64 {
+pub(super) fn tile_of(header: &Header, spot: Spot) -> u64 {
     spot.row / header.tile_rows * tiles_across(header) + spot.column / header.tile_columns
 }
 
 /// Document 01: "Its number inside is (r mod tile rows) × tile columns + (c mod tile columns)."
-fn number_inside(header: &Header, spot: Spot) -> u64 {
+pub(super) fn number_inside(header: &Header, spot: Spot) -> u64 {
     spot.row % header.tile_rows * header.tile_columns + spot.column % header.tile_columns
 }
 

@@ -22,6 +22,7 @@ const ELEMENTS_OFFSET: usize = 268;
 pub struct Header {
     /// Position behind the header record.
     pub end: usize,
+    pub time_modified: u64,
     pub time_opened: u64,
     pub file_space_reference: u64,
     pub metadata_reference: u64,
@@ -40,6 +41,8 @@ pub struct Header {
 pub struct Element {
     pub type_code: u8,
     pub name: Vec<u8>,
+    /// The position of the name's first byte in the file.
+    pub name_at: usize,
     /// The bits of the fill, as they are: 16 of a Short, else 32.
     pub fill: u32,
 }
@@ -79,6 +82,7 @@ pub fn header_of(first: &[u8], length: u64) -> Option<Header> {
     }
     Some(Header {
         end: HEADER_START + record.len(),
+        time_modified: long_at(fields, 24)?,
         time_opened: long_at(fields, 32)?,
         file_space_reference: long_at(fields, 40)?,
         metadata_reference: long_at(fields, 48)?,
@@ -147,6 +151,7 @@ fn element(reader: &mut Reader) -> Option<Element> {
     let type_code = reader.byte()?;
     let _continuous_and_reserved = reader.take(7)?;
     let name = reader.string()?;
+    let name_at = HEADER_START + reader.at() - name.len();
     let fill = fill(type_code, reader.take(range_block_length(type_code)?)?)?;
     reader.fill_to_four()?;
     let label = reader.string()?;
@@ -157,7 +162,7 @@ fn element(reader: &mut Reader) -> Option<Element> {
         && is_utf8(label)
         && is_utf8(description)
         && is_utf8(unit_of_measure);
-    good.then(|| Element { type_code, name: name.to_vec(), fill })
+    good.then(|| Element { type_code, name: name.to_vec(), name_at, fill })
 }
 
 /// Document 01, stage 3: "each of a type of G's Table 2". Codes of G Table 8, lengths of G Tables 9

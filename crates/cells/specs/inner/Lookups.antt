@@ -20,7 +20,7 @@ use Rattle.geometry.specs.Tiles.{cellTile}
 use Rattle.check_header.specs.HeaderRecord.{sidesRight}
 use Rattle.check_header.specs.Ceilings.{sidesWithin}
 use Rattle.cells.specs.Asked.{inGrid, inTiles}
-use Rattle.cells.specs.TileCells.{cellOf, contentOf, heldOf}
+use Rattle.cells.specs.TileCells.{cellOf, contentOf, heldOf, roomOf}
 
 -- the sides keep stages 3 and 4; so no number of a cell or tile is large
 unfoldable pub sidesLawful : List ℕ → Bool
@@ -41,22 +41,26 @@ cellReached s ci row column e f = reachedBy cell.Refused (cellOf s ci row column
 abbrev pub contentReached : List ℕ → ℕ → Found → Content
 contentReached s e f = reachedBy content.Refused (contentOf s e) s f
 
-abbrev pub heldReached : List ℕ → ℕ → ℕ → Found → Held
-heldReached s ci e f = reachedBy held.Refused (heldOf s ci e) s f
+abbrev pub roomReached : List ℕ → ℕ → ℕ → ℕ → Found → Held
+roomReached s ci e room f = reachedBy held.Refused (roomOf s ci e room) s f
 
--- 10 outside the grid; then 9 where the sides are not lawful
+-- what is said of a cell or tile: 10 where there is no such; then 9 where the sides are not lawful
+unfoldable pub guarded : {A : Type 0} → (Refusal → A) → Bool → List ℕ → A → A
+guarded refused there s x = pick there (pick (sidesLawful s) x (refused Directory)) (refused OutsideGrid)
+
 unfoldable pub lookedUp : List ℕ → ℕ → (ℕ → Found) → ℕ → ℕ → ℕ → Cell
 lookedUp s ci way row column e =
-    pick (inGrid s row column e)
-    (pick (sidesLawful s) (cellReached s ci row column e (way (cellTile s row column))) (cell.Refused Directory))
-    (cell.Refused OutsideGrid)
+    guarded cell.Refused (inGrid s row column e) s (cellReached s ci row column e (way (cellTile s row column)))
 
 unfoldable pub lookedTile : {A : Type 0} → (Refusal → A) → (Found → A) → List ℕ → (ℕ → Found) → ℕ → ℕ → A
-lookedTile refused said s way tile e =
-    pick (inTiles s tile e) (pick (sidesLawful s) (reachedBy refused said s (way tile)) (refused Directory)) (refused OutsideGrid)
+lookedTile refused said s way tile e = guarded refused (inTiles s tile e) s (reachedBy refused said s (way tile))
 
 abbrev pub lookedUpContent : List ℕ → (ℕ → Found) → ℕ → ℕ → Content
 lookedUpContent s way tile e = lookedTile content.Refused (contentOf s e) s way tile e
 
 abbrev pub lookedUpHeld : List ℕ → ℕ → (ℕ → Found) → ℕ → ℕ → Held
 lookedUpHeld s ci way tile e = lookedTile held.Refused (heldOf s ci e) s way tile e
+
+-- with memory for so many unpacked cells
+abbrev pub lookedUpRoom : List ℕ → ℕ → (ℕ → Found) → ℕ → ℕ → ℕ → Held
+lookedUpRoom s ci way tile e room = lookedTile held.Refused (roomOf s ci e room) s way tile e

@@ -1,7 +1,8 @@
 -- `gvrs_c::held_count` meets its contract. Assumes nothing.
 use native.Mathlib.Omega.{arith}
-use mathlib.Core.Path.{refl}
-use Rattle.gvrs_c.proofs.ReportLaws.{count-held, count-unpacked, count-absent, count-refused, small-product}
+use mathlib.Core.Path.{refl, ap₂}
+use Prim.Native.Nat.{_*_}
+use Rattle.gvrs_c.proofs.ReportLaws.{counted, small-product}
 use borrow.Author.Needs.{needs}
 use Rattle.gvrs_c.proofs.held_count.Statement.{statement}
 use Rattle.gvrs_c.proofs.held_count.Tie as tie
@@ -24,7 +25,9 @@ held-count-spec =
     (λ c. record { fits = small-product _ _ (omega arith) (omega arith) })
     (λ c. search needs)
     (λ c. search needs)
-    (λ c. count-held _ _ _ _ _ _ (c .before .before .enum-told .given .1) (c .before .tile-rows .ensures) (c .tile-columns .ensures) refl)
-    (λ c. count-unpacked _ _ _ _ _ _ (c .before .before .enum-told2 .given .1) (c .before .tile-rows2 .ensures) (c .tile-columns2 .ensures) refl)
-    (λ c. search (needs, count-absent))
-    (λ c. search (needs, count-refused)))
+    (λ c. search needs)
+    (λ c. counted _ _ _ _ (c .before .before .enum-told .given .1) (ap₂ _*_ (c .before .tile-rows .ensures) (c .tile-columns .ensures)))
+    (λ c. counted _ _ _ _ (c .before .before .enum-told2 .given .1) (ap₂ _*_ (c .before .tile-rows2 .ensures) (c .tile-columns2 .ensures)))
+    (λ c. counted _ _ _ _ (c .enum-told3 .given .1) refl)
+    (λ c. counted _ _ _ _ (c .enum-told4 .given .1) refl)
+    (λ c. counted _ _ _ _ (c .enum-told5 .given .1) refl))

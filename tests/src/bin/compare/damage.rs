@@ -3,6 +3,8 @@
 use gvrs_tests::build::{build, make_checksums_good, Built};
 use gvrs_tests::page::Page;
 use gvrs_tests::prng::Prng;
+use gvrs_tests::random_page::random_page;
+use gvrs_tests::second::check::{check, Answer};
 
 /// A sentence of document 01 and a damage that it refuses.
 pub struct Aim {
@@ -39,6 +41,9 @@ pub enum At {
 }
 
 const TIMES: usize = 200;
+
+/// Pages tried for one aim, as not every damage can be done to every page.
+const MOST_TRIES: usize = 4000;
 
 impl Aim {
     pub fn description(
@@ -89,7 +94,30 @@ pub fn damaged(page: &Page, damages: &[Damage], random: &mut Prng) -> Option<(Ve
     Some((built.bytes, place))
 }
 
-/// The same with the places of fields as they were before. What later stages judge is damaged
+/// Some files damaged with an aim, each with the page that it was and the refusal aimed at. Where
+/// the damage misses its aim the comparison of checks has said so, and the file is left out.
+pub fn each_damaged(
+    aim: &Aim,
+    times: usize,
+    random: &mut Prng,
+    mut asked: impl FnMut(&Page, &[u8], Answer, &mut Prng),
+) {
+    let mut left = times;
+    for _ in 0..MOST_TRIES {
+        if left == 0 {
+            break;
+        }
+        let page = random_page(random);
+        if let Some((file, place)) = damaged(&page, &[aim.damage], random) {
+            left -= 1;
+            if check(&file) == (aim.stage, place) {
+                asked(&page, &file, (aim.stage, place), random);
+            }
+        }
+    }
+}
+
+/// As `damaged`, with the places of fields as they were before. What later stages judge is damaged
 /// first, while what it depends on is still whole.
 pub fn damaged_built(page: &Page, damages: &[Damage], random: &mut Prng) -> Option<(Built, At)> {
     let mut page = page.clone();

@@ -9,13 +9,10 @@ use gvrs_tests::second::check::{check, Answer};
 use gvrs_tests::second::elements::{find_element, ABSENT, FOUND};
 
 use crate::aims;
-use crate::damage::{damaged, Aim};
+use crate::damage::{each_damaged, Aim};
 use crate::run::Run;
 
 const MARK: u64 = 0x5a5a_5a5a_a5a5_a5a5;
-
-/// Pages tried for one aim, as not every damage can be done to every page.
-const MOST_TRIES: usize = 4000;
 
 /// What has to come about.
 const WANTED: [u32; 11] = [1, 2, 3, 4, 5, 6, 7, 8, 9, FOUND, ABSENT];
@@ -113,22 +110,11 @@ fn nearly_equal_names(run: &mut Run, random: &mut Prng) {
 
 /// The check's refusal with its place, whatever name is asked for.
 fn of_aim(run: &mut Run, aim: &Aim, random: &mut Prng) {
-    let mut left = run.times(8.min(aim.times));
-    for _ in 0..MOST_TRIES {
-        if left == 0 {
-            break;
+    each_damaged(aim, run.times(8.min(aim.times)), random, |page, file, refusal, _| {
+        for asked in [&page.elements[0].name[..], b"", b"none"] {
+            run.looked_up(aim.sentence, file, asked, refusal);
         }
-        let page = random_page(random);
-        if let Some((file, place)) = damaged(&page, &[aim.damage], random) {
-            left -= 1;
-            // Where the damage misses its aim the comparison of checks has said so.
-            if check(&file) == (aim.stage, place) {
-                for asked in [&page.elements[0].name[..], b"", b"none"] {
-                    run.looked_up(aim.sentence, &file, asked, (aim.stage, place));
-                }
-            }
-        }
-    }
+    });
 }
 
 fn bytes_changed(run: &mut Run, random: &mut Prng) {

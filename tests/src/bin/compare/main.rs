@@ -10,6 +10,8 @@ mod allowed;
 mod bytes_changed;
 mod closing;
 mod damage;
+mod face;
+mod guarded;
 mod hostile;
 mod lay_downs;
 mod lengths;
@@ -58,7 +60,7 @@ fn main() -> ExitCode {
 
 /// Every section. Each has a generator of its own, so that one can change without the others.
 fn whole_run(seed: u64, small: bool) -> bool {
-    let sections: [fn(&mut Run, &mut Prng); 18] = [
+    let sections: [fn(&mut Run, &mut Prng); 19] = [
         sample_sums::section,
         made::section,
         allowed::section,
@@ -77,6 +79,7 @@ fn whole_run(seed: u64, small: bool) -> bool {
         name_pairs::section,
         look_ups::section,
         packed::section,
+        face::section,
     ];
     let mut run = Run::new(small);
     for (number, section) in sections.into_iter().enumerate() {

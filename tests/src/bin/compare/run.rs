@@ -7,6 +7,7 @@ use gvrs_tests::library;
 use gvrs_tests::second::check::{check, Answer};
 
 use crate::closing;
+use crate::face;
 use crate::lay_downs;
 use crate::listings;
 use crate::packed;
@@ -32,6 +33,7 @@ pub struct Run {
     pub listings: listings::tally::Tally,
     pub starts: starts::tally::Tally,
     pub packed: packed::tally::Tally,
+    pub face: face::tally::Tally,
     /// Names asked about.
     pub names: usize,
     /// Texts asked about.
@@ -71,6 +73,7 @@ impl Run {
             listings: listings::tally::Tally::new(),
             starts: starts::tally::Tally::new(),
             packed: packed::tally::Tally::new(),
+            face: face::tally::Tally::new(),
             names: 0,
             texts: 0,
             name_pairs: 0,
@@ -203,6 +206,7 @@ impl Run {
         self.listings.report();
         self.starts.report();
         self.packed.report();
+        self.face.report();
         closing::report(&self.functions());
         if !self.small {
             self.missed();
@@ -266,6 +270,10 @@ impl Run {
         }
         for thing in self.packed.missed() {
             println!("FAULT: packed contents: never or wrongly reached: {thing}");
+            self.faults += 1;
+        }
+        for thing in self.face.missed() {
+            println!("FAULT: rectangles, pages and elements: never or wrongly reached: {thing}");
             self.faults += 1;
         }
         for number in self.look_ups_missed() {

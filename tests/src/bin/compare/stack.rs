@@ -4,12 +4,13 @@
 use std::thread;
 
 use gvrs_tests::build::build;
-use gvrs_tests::library::{self, DIRECTORY, WALK, WALK_WITHOUT_STAGE_9};
+use gvrs_tests::library::{self, Lent, DIRECTORY, WALK, WALK_WITHOUT_STAGE_9};
 use gvrs_tests::prng::Prng;
 use gvrs_tests::random_page::random_page;
 use gvrs_tests::second::cells::{Spot, UNPACKED};
 use gvrs_tests::second::check::check;
 use gvrs_tests::second::lay_down::Given;
+use gvrs_tests::second::rectangles::Rectangle;
 
 use crate::lay_downs::draft::Draft;
 use crate::packed::holder::Holder;
@@ -33,20 +34,31 @@ pub fn section(run: &mut Run, random: &mut Prng) {
         };
         let thread = thread::Builder::new().stack_size(ASKED + AROUND).spawn(asked);
         let answer = thread.expect("a thread is started").join().expect("the thread returns");
-        if answer != (check(&file).0, UNPACKED) {
+        if answer != (check(&file).0, [UNPACKED; 3]) {
             run.fault("little stack: another answer", &file);
         }
     }
 }
 
-/// A content whose tree is a comb of depth 255: the number of the whole tile. A cell by each route
-/// too.
-fn ask_packed(comb: &Holder, spot: Spot) -> u32 {
+/// A content whose tree is a comb of depth 255: the number of the whole tile, and the kind of a
+/// cell of it in a rectangle, with memory to unpack the tile and without. A cell by each route too.
+fn ask_packed(comb: &Holder, spot: Spot) -> [u32; 3] {
     let (file, compressor) = (comb.file(), comb.index());
     for route in [DIRECTORY, WALK, WALK_WITHOUT_STAGE_9] {
         library::cell_with(file, spot, route, compressor);
     }
-    library::unpack_into(file, comb.place(), compressor, &mut vec![0; 400], &mut [0; 2])
+    let mut cells = vec![0; 400];
+    let whole = library::unpack_into(file, comb.place(), compressor, &mut cells, &mut [0; 2]);
+    let kind = |memory: &mut [u32]| in_rectangle(file, spot, compressor, memory);
+    [whole, kind(&mut cells), kind(&mut [])]
+}
+
+/// The kind of a cell.
+fn in_rectangle(file: &[u8], spot: Spot, compressor: u32, memory: &mut [u32]) -> u32 {
+    let mut kinds = [0];
+    let lent = Lent { memory, kinds: &mut kinds, bits: &mut [0] };
+    library::cells_into(file, Rectangle::of_one(spot), compressor, lent, &mut [0]);
+    kinds[0]
 }
 
 /// Asks all others, and those with a compressor once more; the check's number.
@@ -58,6 +70,9 @@ fn ask(file: &[u8], given: &Given) -> u32 {
     let compressor = u32::from(file[file.len() / 2]);
     library::cell_with(file, Spot { row: 0, column: 0, element: 0 }, DIRECTORY, compressor);
     library::unpack_into(file, (0, 0), compressor, &mut [0; 64], &mut [0; 2]);
+    in_rectangle(file, Spot { row: 0, column: 0, element: 0 }, compressor, &mut [0; 64]);
+    library::page_into(file, &mut [0; 13]);
+    library::element_into(file, 0, &mut [0; 4]);
     library::m32_write_into(&[u32::MAX, 1 << 31, 1 << 30], &mut [0; 18]);
     library::m32_read_into(&[127, 0x86, 0xfe, 0xfe, 0xfe, 0], &mut [0; 2], &mut [0]);
     let Given { front, time, indexes, cells } = given;

@@ -1,6 +1,8 @@
 -- `cells::held::tile_cells_of` meets its contract. Assumes nothing.
 use native.Mathlib.Omega.{arith}
-use Rattle.cells.proofs.HeldLaws.{cells-told}
+use mathlib.Core.Path.{ap₂}
+use Prim.Native.Nat.{_*_}
+use Rattle.geometry.proofs.TileLaws.{product}
 use borrow.Author.Needs.{needs}
 use Rattle.cells.proofs.held.tile_cells_of.Statement.{statement}
 use Rattle.cells.proofs.held.tile_cells_of.Tie as tie
@@ -13,5 +15,5 @@ tile-cells-of-spec =
     (λ c. search needs)
     (λ c κs. search needs)
     (λ c. search needs)
-    (λ c. let t = cells-told _ _ _ (c .before .before .before .pre) (c .before .tile-rows .ensures) (c .tile-columns .ensures) in record { fits = omega (arith, t .1) })
-    (λ c. cells-told _ _ _ (c .before .before .before .pre) (c .before .tile-rows .ensures) (c .tile-columns .ensures)))
+    (λ c. let k = product (c .before .tile-rows .result) (c .tile-columns .result) (omega arith) (omega arith) in record { fits = omega arith })
+    (λ c. ap₂ _*_ (c .before .tile-rows .ensures) (c .tile-columns .ensures)))

@@ -1,10 +1,6 @@
 -- `cells::lookups::look_up_held` meets its contract. Assumes nothing.
-use native.Mathlib.Omega.{arith}
-use mathlib.Core.Path.{refl, sym, _∙_}
-use Rattle.answer.specs.declared.Held.the-variants as held
-use Rattle.cells.proofs.CellLaws.{tiles-mean, sides-mean, count-small}
-use Rattle.cells.proofs.HeldLaws.{refused-keeps}
-use Rattle.cells.proofs.ReadLaws.{tile-outside, tile-unlawful, tile-looked}
+use mathlib.Core.Path.{refl}
+use Rattle.cells.proofs.HeldLaws.{stored-lawful, all-copied, all-kept}
 use borrow.Author.Needs.{needs}
 use Rattle.cells.proofs.lookups.look_up_held.Statement.{statement}
 use Rattle.cells.proofs.lookups.look_up_held.Tie as tie
@@ -14,12 +10,19 @@ look-up-held-spec =
     tie.close
     (tie.spec
     (λ c κs. search needs)
-    (λ c κs. search needs)
-    (λ c. let t = tiles-mean _ _ _ (sym (c .before .before .before .in-tiles .ensures .0) ∙ c .before .before .if1 .taken) in record { fits = omega (arith, t .0, count-small _ (sides-mean _ (sym (c .before .sides-lawful .ensures) ∙ c .if2 .taken))) })
-    (λ c κs. search needs)
-    (λ c. record { fits = omega (arith, c .before .before .before .before .in-tiles .ensures .1 (c .before .before .before .if1 .taken)) })
-    (λ c κs. sym (c .before .before .before .sides-lawful .ensures) ∙ c .before .before .if2 .taken)
     (λ c. search needs)
-    (λ c. (tile-looked held.Refused _ _ _ _ _ _ (c .before .before .before .before .before .before .before .before .in-tiles .ensures .0) _ (c .before .before .before .before .before .before .sides-lawful .ensures) (c .before .before .before .before .before .before .before .if1 .taken) _ _ _ (c .before .before .before .before .before .if2 .taken) refl (c .before .before .before .before .found-by .ensures) (c .before .before .hold-reached .ensures .0), c .before .before .hold-reached .ensures .1))
-    (λ c. refused-keeps _ _ _ (tile-unlawful held.Refused _ _ _ _ _ _ (c .before .before .before .in-tiles .ensures .0) _ (c .before .sides-lawful .ensures) (c .before .before .if1 .taken) (c .if2 .left)))
-    (λ c. refused-keeps _ _ _ (tile-outside held.Refused _ _ _ _ _ _ (c .before .in-tiles .ensures .0) (c .if1 .left))))
+    (λ c κs. stored-lawful _ _ _ _ _ _ _ (c .before .before .before .before .before .before .look-up-room .ensures .0) (c .before .before .at .given .1))
+    (λ c. search needs)
+    (λ c. search needs)
+    (λ c. search needs)
+    (λ c. search needs)
+    (λ c. search needs)
+    (λ c. all-copied _ _ _ _ _ _ _ _ (c .before .before .before .before .before .before .before .before .before .look-up-room .ensures .0) (c .before .before .before .before .before .before .before .before .before .look-up-room .ensures .1) _ _ (c .before .before .before .before .before .at .given .1) (c .before .before .put-stored .ensures))
+    (λ c. search needs)
+    (λ c. all-kept _ _ _ _ _ _ _ _ (c .before .before .before .before .before .look-up-room .ensures .0) (c .before .before .before .before .before .look-up-room .ensures .1) _ (c .before .at2 .given .1) refl)
+    (λ c. search needs)
+    (λ c. all-kept _ _ _ _ _ _ _ _ (c .before .before .before .before .look-up-room .ensures .0) (c .before .before .before .before .look-up-room .ensures .1) _ (c .enum-told .given .1) refl)
+    (λ c. search needs)
+    (λ c. all-kept _ _ _ _ _ _ _ _ (c .before .before .before .before .look-up-room .ensures .0) (c .before .before .before .before .look-up-room .ensures .1) _ (c .enum-told2 .given .1) refl)
+    (λ c. search needs)
+    (λ c. all-kept _ _ _ _ _ _ _ _ (c .before .before .before .before .before .look-up-room .ensures .0) (c .before .before .before .before .before .look-up-room .ensures .1) _ (c .before .r .given .1) refl))

@@ -5,13 +5,13 @@ use gvrs_tests::library::{cell_with, m32_read_into, m32_write_into, unpack_into}
 use gvrs_tests::second::cells::{Cell, Cells, Spot};
 use gvrs_tests::second::m32;
 
+use crate::guarded::{turns, Guarded};
 use crate::reads::ask::Asked;
 use crate::run::Run;
 
 const MARK: u64 = 0x5a5a_5a5a_a5a5_a5a5;
 const CELL_MARK: u32 = 0xc35a_3ca5;
 const BYTE_MARK: u8 = 0xa5;
-const GUARDS: usize = 4;
 
 impl Run {
     /// Asks for a cell by one route. The answer, if both give the same.
@@ -149,23 +149,9 @@ impl Run {
     }
 }
 
-/// Two numbers below 3 that take every pair of values in turn, for every third question too.
-fn turns(question: usize) -> [usize; 2] {
-    let turn = question + question / 3;
-    [turn % 3, (turn + question / 9) % 3]
-}
-
 /// The first few, for a message.
 fn first<Item>(items: &[Item]) -> &[Item] {
     &items[..items.len().min(12)]
-}
-
-/// Room between guards, and the memory that a call must leave where the room takes `taken`.
-fn memory<Item: Copy>(mark: Item, room: usize, taken: &[Item]) -> (Vec<Item>, Vec<Item>) {
-    let before = vec![mark; room + 2 * GUARDS];
-    let mut after = before.clone();
-    after[GUARDS..GUARDS + taken.len()].copy_from_slice(taken);
-    (before, after)
 }
 
 /// `out` takes as many numbers as fit; the cells are written where they fit whole; all else stays.
@@ -180,20 +166,13 @@ fn unpack_difference(
     let (number, numbers) = answer.as_numbers();
     let bits = answer.bits();
     let taken = if bits.len() <= room { bits } else { &[] };
-    let (mut cells, cells_after) = memory(CELL_MARK, room, taken);
-    let (mut out, out_after) = memory(MARK, out_room, &numbers[..out_room.min(2)]);
-    let answered = unpack_into(
-        file,
-        place,
-        compressor,
-        &mut cells[GUARDS..GUARDS + room],
-        &mut out[GUARDS..GUARDS + out_room],
-    );
-    if answered == number && out == out_after && cells == cells_after {
+    let mut cells = Guarded::taking(CELL_MARK, room, taken);
+    let mut out = Guarded::for_numbers(MARK, out_room, &numbers);
+    let answered = unpack_into(file, place, compressor, cells.room(), out.room());
+    if answered == number && out.is_right() && cells.is_right() {
         return None;
     }
-    let at = (0..cells.len()).find(|at| cells[*at] != cells_after[*at]);
-    let differs = at.map(|at| (at as i64 - GUARDS as i64, cells[at], cells_after[at]));
+    let (out, differs) = (out.all(), cells.first_wrong());
     Some(format!(
         "room for {room}, out of {out_room}: library {answered}, {out:x?}, second {number}, \
          {numbers:x?}; first cell that differs {differs:x?}"
@@ -205,12 +184,13 @@ fn write_difference(numbers: &[i32], codes: &[u8], room: usize) -> Option<String
     let numbers: Vec<u32> = numbers.iter().map(|number| *number as u32).collect();
     let before = numbers.clone();
     let taken = if codes.len() <= room { codes } else { &[] };
-    let (mut bytes, bytes_after) = memory(BYTE_MARK, room, taken);
-    let length = m32_write_into(&numbers, &mut bytes[GUARDS..GUARDS + room]);
-    if length == codes.len() as u64 && bytes == bytes_after && numbers == before {
+    let mut bytes = Guarded::taking(BYTE_MARK, room, taken);
+    let length = m32_write_into(&numbers, bytes.room());
+    if length == codes.len() as u64 && bytes.is_right() && numbers == before {
         return None;
     }
-    Some(format!("room for {room}: library {length}, {:x?}, second {:x?}", first(&bytes), codes))
+    let bytes = first(bytes.all());
+    Some(format!("room for {room}: library {length}, {bytes:x?}, second {codes:x?}"))
 }
 
 fn read_difference(
@@ -221,14 +201,13 @@ fn read_difference(
     out_room: usize,
 ) -> Option<String> {
     let bits: Vec<u32> = numbers.iter().map(|number| *number as u32).collect();
-    let (mut read, read_after) = memory(CELL_MARK, most, &bits);
-    let (mut out, out_after) = memory(MARK, out_room, &[taken as u64][..out_room.min(1)]);
-    let many =
-        m32_read_into(bytes, &mut read[GUARDS..GUARDS + most], &mut out[GUARDS..GUARDS + out_room]);
-    if many == numbers.len() as u64 && read == read_after && out == out_after {
+    let mut read = Guarded::taking(CELL_MARK, most, &bits);
+    let mut out = Guarded::for_numbers(MARK, out_room, &[taken as u64]);
+    let many = m32_read_into(bytes, read.room(), out.room());
+    if many == numbers.len() as u64 && read.is_right() && out.is_right() {
         return None;
     }
-    let many_numbers = numbers.len();
+    let (out, many_numbers) = (out.all(), numbers.len());
     Some(format!(
         "out of {out_room}: library {many}, {out:x?}, second {many_numbers}, {taken} bytes"
     ))

@@ -2,7 +2,7 @@
 
 mod ask;
 mod changed;
-mod contents;
+pub mod contents;
 mod directories;
 pub mod holder;
 mod m32;

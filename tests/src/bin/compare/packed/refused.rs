@@ -7,10 +7,10 @@ use gvrs_tests::page::{Body, Page};
 use gvrs_tests::prng::Prng;
 use gvrs_tests::random_page::random_page;
 use gvrs_tests::second::cells::{Cell, Cells};
-use gvrs_tests::second::check::{check, Answer};
+use gvrs_tests::second::check::Answer;
 
 use crate::aims;
-use crate::damage::{damaged, Aim};
+use crate::damage::each_damaged;
 use crate::reads::ask::{routes, Asked};
 use crate::reads::described::Described;
 use crate::run::Run;
@@ -18,37 +18,19 @@ use crate::run::Run;
 const SORT: &str = "refused pages, with a compressor";
 const PAGES_SORT: &str = "pages at random, with a compressor";
 
-/// Pages tried for one aim, as not every damage can be done to every page.
-const MOST_TRIES: usize = 4000;
-
 const NO_INDEX: &str = "with an index above 255 all cells are as without one";
 
 pub fn section(run: &mut Run, random: &mut Prng) {
     run.packed.want(NO_INDEX);
     for aim in aims::all() {
         if !aim.has_long_files() {
-            of_aim(run, &aim, random);
+            each_damaged(&aim, run.times(4), random, |page, file, refusal, random| {
+                refused(run, page, file, refusal, random);
+            });
         }
     }
     for _ in 0..run.times(3000) {
         at_random(run, &random_page(random), random);
-    }
-}
-
-fn of_aim(run: &mut Run, aim: &Aim, random: &mut Prng) {
-    let mut left = run.times(4);
-    for _ in 0..MOST_TRIES {
-        if left == 0 {
-            break;
-        }
-        let page = random_page(random);
-        if let Some((file, place)) = damaged(&page, &[aim.damage], random) {
-            left -= 1;
-            // Where the damage misses its aim the comparison of checks has said so.
-            if check(&file) == (aim.stage, place) {
-                refused(run, &page, &file, (aim.stage, place), random);
-            }
-        }
     }
 }
 

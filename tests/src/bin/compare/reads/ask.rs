@@ -11,7 +11,7 @@ pub struct Asked<'a> {
     pub file: &'a [u8],
     /// An allocation of exactly the file's length, so that valgrind sees a read behind it.
     pub lent: Box<[u8]>,
-    checked: Opened<'a>,
+    pub checked: Opened<'a>,
     without_stage_9: Opened<'a>,
 }
 

@@ -22,16 +22,20 @@ pub fn section(run: &mut Run, random: &mut Prng) {
         let inside = described.at_random(random);
         let spot = described.spot(inside).expect("in the grid");
         let tile = described.index(inside.tile) as u64;
-        let files = [
-            (CHANGED, bytes_changed(&good, random)),
-            (JUDGED, field_changed(&good, random)),
-            (CUT, good.bytes[..random.below(good.bytes.len())].to_vec()),
-            (RECORDS, random_records(&good, tile as u32, random)),
-        ];
-        for (sort, file) in files {
+        for (sort, file) in changed_files(&good, tile as u32, random) {
             reads(run, sort, &file, spot, tile, random);
         }
     }
+}
+
+/// One file of each sort, made of a good one; of random records some have the index given.
+pub fn changed_files(good: &Built, tile: u32, random: &mut Prng) -> [(&'static str, Vec<u8>); 4] {
+    [
+        (CHANGED, bytes_changed(good, random)),
+        (JUDGED, field_changed(good, random)),
+        (CUT, good.bytes[..random.below(good.bytes.len())].to_vec()),
+        (RECORDS, random_records(good, tile, random)),
+    ]
 }
 
 fn reads(run: &mut Run, sort: &str, file: &[u8], spot: Spot, tile: u64, random: &mut Prng) {

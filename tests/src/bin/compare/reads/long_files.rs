@@ -41,8 +41,15 @@ fn each(run: &mut Run, page: &Page, cells: &[Inside], thing: &str, random: &mut 
     }
 }
 
-/// Tiles of one Short each, some indexes far from their place in the file.
 fn many_tiles(run: &mut Run, random: &mut Prng) {
+    let page = page_of_many_tiles(random);
+    let inside = |tile| Inside { tile, cell: (0, 0), element: 0 };
+    let cells = [(0, 0), (0, 255), (100, 7), (128, 128), (255, 0), (255, 255)].map(inside);
+    each(run, &page, &cells, MANY_TILES, random);
+}
+
+/// Tiles of one Short each, some indexes far from their place in the file.
+pub fn page_of_many_tiles(random: &mut Prng) -> Page {
     let mut page = Page::of_sides([256, 256], [1, 1]);
     page.elements = vec![Element::new(SHORT, b"z")];
     let mut indexes: Vec<u32> = (0..65_536).collect();
@@ -51,9 +58,7 @@ fn many_tiles(run: &mut Run, random: &mut Prng) {
         let contents = vec![(index as u16).to_le_bytes().to_vec()];
         page.records.push(Record::new(Body::Tile(Tile { index, contents })));
     }
-    let inside = |tile| Inside { tile, cell: (0, 0), element: 0 };
-    let cells = [(0, 0), (0, 255), (100, 7), (128, 128), (255, 0), (255, 255)].map(inside);
-    each(run, &page, &cells, MANY_TILES, random);
+    page
 }
 
 /// The last tile alone is stored, and listed by a rectangle of its own.

@@ -1,12 +1,12 @@
 //! Cells by every route, and contents of elements.
 
 pub mod ask;
-mod bytes_changed;
+pub mod bytes_changed;
 pub mod described;
 mod directories;
-mod long_files;
+pub mod long_files;
 mod made;
-mod numbers;
+pub mod numbers;
 mod out;
 mod refused;
 mod sample_sums;

@@ -12,7 +12,7 @@ use crate::run::Run;
 const SORT: &str = "numbers at the edge and outside";
 
 const INSIDE: &str = "the last";
-const OUTSIDE: [&str; 14] = [
+pub const OUTSIDE: [&str; 14] = [
     "the first outside",
     "the second outside",
     "2^16",
@@ -34,7 +34,7 @@ const IN_THE_TILE: [&str; 2] =
 const ALL_OUTSIDE: &str = "row, column and element outside together";
 
 /// A number outside, given how many there are and one that is good.
-fn outside(name: &str, count: u64, good: u64) -> u64 {
+pub fn outside(name: &str, count: u64, good: u64) -> u64 {
     match name {
         "the first outside" => count,
         "the second outside" => count + 1,

@@ -5,20 +5,16 @@ use gvrs_tests::build::build;
 use gvrs_tests::library::WALK_WITHOUT_STAGE_9;
 use gvrs_tests::page::Page;
 use gvrs_tests::prng::Prng;
-use gvrs_tests::random_page::random_page;
 use gvrs_tests::second::cells::{Cell, Content, Spot};
-use gvrs_tests::second::check::{check, Answer};
+use gvrs_tests::second::check::Answer;
 
 use super::ask::{routes, Asked};
 use super::described::Described;
 use crate::aims;
-use crate::damage::{damaged, Aim};
+use crate::damage::{each_damaged, Aim};
 use crate::run::Run;
 
 const SORT: &str = "refused pages";
-
-/// Pages tried for one aim, as not every damage can be done to every page.
-const MOST_TRIES: usize = 4000;
 
 const OUTSIDE_TOO: &str = "the check's refusal, though the cell is outside too";
 const WITHOUT_9: [&str; 4] = [
@@ -38,31 +34,17 @@ pub fn section(run: &mut Run, random: &mut Prng) {
             run.reads.want(&without_9(aim.sentence));
         }
         if !(run.small && aim.has_long_files()) {
-            of_aim(run, &aim, random);
+            let times = if aim.stage == 9 { 40 } else { 8 };
+            let times = run.times(times.min(aim.times));
+            each_damaged(&aim, times, random, |page, file, refusal, random| {
+                reads(run, &aim, page, file, refusal, random);
+            });
         }
     }
 }
 
 fn without_9(sentence: &str) -> String {
     format!("without stage 9: {sentence}")
-}
-
-fn of_aim(run: &mut Run, aim: &Aim, random: &mut Prng) {
-    let times = if aim.stage == 9 { 40 } else { 8 };
-    let mut left = run.times(times.min(aim.times));
-    for _ in 0..MOST_TRIES {
-        if left == 0 {
-            break;
-        }
-        let page = random_page(random);
-        if let Some((file, place)) = damaged(&page, &[aim.damage], random) {
-            left -= 1;
-            // Where the damage misses its aim the comparison of checks has said so.
-            if check(&file) == (aim.stage, place) {
-                reads(run, aim, &page, &file, (aim.stage, place), random);
-            }
-        }
-    }
 }
 
 /// Cells of the page as it was before the damage, and some outside.

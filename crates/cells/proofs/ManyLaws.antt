@@ -1,0 +1,118 @@
+-- Many reads after one check: a cell told from what is held, which on an accepted file is its meaning. Assumes nothing.
+use Prim.Native.Nat.{ℕ, _+_, _*_, _≤_, _<_}
+use mathlib.Core.Path.{_≡_, refl, sym, ap, _∙_}
+use mathlib.Core.List.{List, [], _∷_}
+use mathlib.Core.Bool.{Bool, true, false}
+use mathlib.Core.Logic.{by-cases}
+use native.Mathlib.Decide.{decLe}
+use native.Mathlib.Omega.{arith}
+use lib.ListN.{length, getD}
+use Rattle.wire.specs.Tests.{_≤?_}
+use Rattle.wire.specs.Bytes.{put}
+use Rattle.wire.proofs.TestLaws.{yes, no}
+use Rattle.wire.proofs.PutLaws.{put-each}
+use Rattle.answer.specs.declared.Refusal.the-variants.{Directory}
+use Rattle.answer.specs.declared.Verdict.the-variants.{Accepted}
+use Rattle.answer.specs.declared.Value.{Value}
+use Rattle.answer.specs.declared.Cell.{Cell}
+use Rattle.answer.specs.declared.Cell.the-variants as cell
+use Rattle.answer.specs.declared.Held.{Held}
+use Rattle.answer.specs.declared.Held.the-variants as held
+use Rattle.answer.specs.Values.{valueOf}
+use Rattle.header.specs.Fields.{tileRows, tileColumns}
+use Rattle.header.specs.Element.{element}
+use Rattle.record.specs.declared.Found.{Found}
+use Rattle.record.specs.declared.Found.the-variants.{At, Nothing}
+use Rattle.geometry.specs.Tiles.{cellTile, cellInside}
+use Rattle.geometry.proofs.GridLaws.{inside-less}
+use Rattle.geometry.proofs.SizeLaws.{size-range}
+use Rattle.bodies.specs.TileRecord.{elementContentAt}
+use Rattle.unpack.specs.Unpack.{cellsIn, isWhole}
+use Rattle.unpack.proofs.AnswerLaws.{whole-cell}
+use Rattle.page_check.specs.Stages.{check}
+use Rattle.cells.specs.Asked.{inGrid}
+use Rattle.cells.specs.TileCells.{packed, unpackable, unpackedIn, unpackedAt, offsetIn, placeIn, storedAt, packedCell, cellIn, cellOf, heldRoom, roomOf, unpackedBits}
+use Rattle.cells.specs.Routes.{meant, cellBy, tileBy}
+use Rattle.cells.specs.Meaning.{meaning}
+use Rattle.cells.specs.inner.Lookups.{guarded}
+use Rattle.cells.specs.Many.{heldByDirectory, storedFrom, toldBy, heldCell, HoldsAccepted}
+use Rattle.cells.proofs.CellLaws.{tiles-in, sides-mean}
+use Rattle.cells.proofs.ReadLaws.{check-lawful, accepted-finds, looked-means, tile-looked-means}
+use Rattle.cells.proofs.HeldLaws.{in-at, room-stored, room-packed, room-alone, room-unpacked, room-malformed}
+use Rattle.cells.proofs.DemandLaws.{demand-3, not-whole-cell, content-long}
+
+-- a cell told from what is held, as the functions below answer
+
+module _ (s : List ℕ) (at row column e : ℕ) where
+  pub stored-in : (o : ℕ) (r : Cell) → at < length s → o ≡ offsetIn s row column e → r ≡ storedAt s e (at + o) → r ≡ storedFrom s at row column e
+  unfolding storedFrom
+  stored-in o r h p q = rw (← yes ((at + 1 ≤? length s) ∷ []) (omega arith, tt), ← p) q
+
+  pub stored-past : length s ≤ at → cell.Refused Directory ≡ storedFrom s at row column e
+  unfolding storedFrom
+  stored-past h = rw (← no ((at + 1 ≤? length s) ∷ []) (λ y. omega (arith, y .0)))
+
+pub from-memory :
+    (s m : List ℕ) (at row column e i k b : ℕ) (v : Value) → i ≡ cellInside s row column → k ≡ element s e .kind → b ≡ getD m i 0 → v ≡ valueOf k b →
+    cell.Unpacked v at ≡ cell.Unpacked (valueOf (element s e .kind) (getD m (cellInside s row column) 0)) at
+from-memory s m at row column e i k b v p q t f = ap (λ (x : Value). cell.Unpacked x at) (f ∙ rw (t, q, p))
+
+pub told : (s : List ℕ) (ci : ℕ) (m : List ℕ) (row column e : ℕ) (x y : Held) (r : Cell) → x ≡ y → r ≡ toldBy s ci m row column e y → r ≡ toldBy s ci m row column e x
+told s ci m row column e x y r p q = rw p q
+
+-- on an accepted file it is the meaning
+
+module _ (s : List ℕ) (a : check s ≡ Accepted) (ci row column e : ℕ) (m : List ℕ) (g : inGrid s row column e ≡ true) where
+  abbrev i : ℕ
+  i = cellInside s row column
+
+  means : (f : Found) → meant s (cellTile s row column) ≡ f → meaning s ci row column e ≡ cellOf s ci row column e f
+  unfolding meaning cellBy
+  means f j = rw (g, j)
+
+  few : i < tileRows s * tileColumns s
+  unfolding cellInside
+  few = let d = sides-mean s (check-lawful s a) in inside-less (tileRows s) (tileColumns s) row column (omega (arith, d .tile-rows .0)) (omega (arith, d .tile-columns .0))
+
+  abbrev Told : ℕ → Held → Type 0
+  Told x y = toldBy s ci (put m 0 (unpackedBits s e y)) row column e y ≡ cellIn s ci x row column e
+
+  by-record : (x : ℕ) → meant s (cellTile s row column) ≡ At x → Told x (heldRoom s ci x e (length m))
+  unfolding cellIn packedCell storedFrom placeIn storedAt
+  by-record x j = go (packed s x e) refl (unpackable s ci x e) refl (isWhole (unpackedIn s x e)) refl
+    where
+      at : ℕ
+      at = elementContentAt s x e
+
+      go : (p : Bool) → packed s x e ≡ p → (u : Bool) → unpackable s ci x e ≡ u → (w : Bool) → isWhole (unpackedIn s x e) ≡ w → Told x (heldRoom s ci x e (length m))
+      go false ep u eu w ew =
+          let q : meaning s ci row column e ≡ storedAt s e (at + offsetIn s row column e) = means (At x) j ∙ rw ep in
+          let l = demand-3 s a ci .inside row column e _ _ q in
+          rw (room-stored s ci x e (length m) ep, ep, ← yes ((at + 1 ≤? length s) ∷ []) (omega (arith, l, size-range (element s e .kind) .0), tt))
+      go true ep false eu w ew = rw (room-packed s ci x e (length m) ep eu, ep, eu)
+      go true ep true eu w ew =
+          by-cases (decLe (tileRows s * tileColumns s) (length m)) (λ h. fits w ew h)
+          (λ h. rw (room-alone s ci x e (length m) ep eu (omega arith)) (looked-means s _ (check-lawful s a) (accepted-finds s a) ci row column e ∙ means (At x) j ∙ rw ep))
+        where
+          fits : (w : Bool) → isWhole (unpackedIn s x e) ≡ w → tileRows s * tileColumns s ≤ length m → Told x (heldRoom s ci x e (length m))
+          fits false ew h = rw (room-malformed s ci x e (length m) ep eu h ew, ep, eu, not-whole-cell (unpackedIn s x e) i ew)
+          fits true ew h =
+              let v : List ℕ = cellsIn (unpackedAt s e at) in
+              let n : length v ≡ tileRows s * tileColumns s = content-long s x e ew in
+              let z : 0 + i ≡ i = omega arith in
+              let c : getD (put m 0 v) i 0 ≡ getD v i 0 = rw z at (put-each m 0 v i (omega (arith, few)) (omega arith)) in
+              rw (room-unpacked s ci x e (length m) ep eu h ew, ep, eu, whole-cell (unpackedIn s x e) i ew, in-at s x e, c)
+
+  by-found : (f : Found) → meant s (cellTile s row column) ≡ f → toldBy s ci (put m 0 (unpackedBits s e (roomOf s ci e (length m) f))) row column e (roomOf s ci e (length m) f) ≡ meaning s ci row column e
+  by-found Nothing j = sym (means Nothing j)
+  by-found (At x) j = by-record x j ∙ sym (means (At x) j)
+
+pub holds-accepted : HoldsAccepted
+unfolding heldByDirectory heldCell guarded tileBy
+holds-accepted s a ci tile e m t n =
+    record {
+      each = λ row column g k.
+          let b : heldByDirectory s ci tile e (length m) ≡ roomOf s ci e (length m) (meant s tile) =
+          tile-looked-means s _ (check-lawful s a) (accepted-finds s a) held.Refused (roomOf s ci e (length m)) tile e ∙ rw (← tiles-in s tile e _ _ refl refl t n) in
+          rw (g, check-lawful s a, b, ← k) (by-found s a ci row column e m g (meant s (cellTile s row column)) refl);
+    }

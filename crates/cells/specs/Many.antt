@@ -1,0 +1,58 @@
+-- Req 07: many reads after one check. What is said of all cells of an element in a tile is held, with the memory that was lent for the
+-- unpacked ones, and each cell is told from that. All of it is defined on any bytes and for anything that may be held; on an accepted
+-- file it is the cell's meaning. `m` is the memory, `ci` the compressor index that the caller names.
+use Prim.Native.Nat.{ℕ, _+_, _<_}
+use mathlib.Core.Path.{_≡_}
+use mathlib.Core.List.{List, [], _∷_}
+use mathlib.Core.Bool.{true}
+use lib.ListN.{length, getD}
+use Rattle.wire.specs.Pick.{pick}
+use Rattle.wire.specs.Tests.{_≤?_, passes}
+use Rattle.wire.specs.Bytes.{put}
+use Rattle.answer.specs.declared.Refusal.the-variants.{Directory}
+use Rattle.answer.specs.declared.Verdict.the-variants.{Accepted}
+use Rattle.answer.specs.declared.Cell.{Cell}
+use Rattle.answer.specs.declared.Cell.the-variants as cell
+use Rattle.answer.specs.declared.Held.{Held}
+use Rattle.answer.specs.declared.Held.the-variants as held
+use Rattle.answer.specs.Values.{valueOf}
+use Rattle.header.specs.Fields.{elementCount}
+use Rattle.header.specs.Element.{element}
+use Rattle.geometry.specs.Tiles.{tileCount, cellTile, cellInside}
+use Rattle.bodies.specs.TileDirectory.{tileDirectoryAt}
+use Rattle.page_check.specs.Stages.{check}
+use Rattle.cells.specs.Asked.{inGrid}
+use Rattle.cells.specs.TileCells.{fillOf, offsetIn, storedAt, unpackedBits}
+use Rattle.cells.specs.Routes.{referredTo}
+use Rattle.cells.specs.Meaning.{meaning}
+use Rattle.cells.specs.inner.Lookups.{guarded, lookedUp, lookedUpRoom}
+
+-- what is held of element e in a tile by the file's own directory, where the memory has `room` numbers
+unfoldable pub heldByDirectory : List ℕ → ℕ → ℕ → ℕ → ℕ → Held
+heldByDirectory s ci tile e room = lookedUpRoom s ci (referredTo s (tileDirectoryAt s)) tile e room
+
+-- a stored cell, by where its element's content starts: 9 where that is past the file
+unfoldable pub storedFrom : List ℕ → ℕ → ℕ → ℕ → ℕ → Cell
+storedFrom s at row column e = pick (passes ((at + 1 ≤? length s) ∷ [])) (storedAt s e (at + offsetIn s row column e)) (cell.Refused Directory)
+
+-- a cell, by what is held: stored, from the memory, the fill, looked up by itself, or refused as all are
+abbrev pub toldBy : List ℕ → ℕ → List ℕ → ℕ → ℕ → ℕ → Held → Cell
+toldBy s ci m row column e (held.Stored at) = storedFrom s at row column e
+toldBy s ci m row column e (held.Unpacked at) = cell.Unpacked (valueOf (element s e .kind) (getD m (cellInside s row column) 0)) at
+toldBy s ci m row column e held.Absent = fillOf s e
+toldBy s ci m row column e held.Alone = lookedUp s ci (referredTo s (tileDirectoryAt s)) row column e
+toldBy s ci m row column e (held.Refused r) = cell.Refused r
+
+-- 10 outside the grid; then 9 where the sides are not lawful
+unfoldable pub heldCell : List ℕ → ℕ → Held → List ℕ → ℕ → ℕ → ℕ → Cell
+heldCell s ci x m row column e = guarded cell.Refused (inGrid s row column e) s (toldBy s ci m row column e x)
+
+-- what is held gives the meaning of each cell of the tile
+pub record Holds (s : List ℕ) (ci tile e : ℕ) (x : Held) (m : List ℕ) : Type 0 where
+  pub each : (row column : ℕ) → inGrid s row column e ≡ true → cellTile s row column ≡ tile → heldCell s ci x m row column e ≡ meaning s ci row column e
+
+-- so on an accepted file, whatever memory is lent
+abbrev pub HoldsAccepted : Type 0
+HoldsAccepted =
+    (s : List ℕ) → check s ≡ Accepted → (ci tile e : ℕ) (m : List ℕ) → tile < tileCount s → e < elementCount s →
+    Holds s ci tile e (heldByDirectory s ci tile e (length m)) (put m 0 (unpackedBits s e (heldByDirectory s ci tile e (length m))))

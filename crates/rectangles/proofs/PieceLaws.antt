@@ -1,0 +1,125 @@
+-- Pieces of a rectangle, a cell, a row, a tile and a row of tiles at a time. Assumes nothing.
+use Prim.Native.Nat.{ℕ, _+_, _*_, _≤_, _<_}
+use mathlib.Core.Path.{_≡_, sym, ap, _∙_}
+use mathlib.Core.List.{List}
+use mathlib.Core.Bool.{true}
+use native.Mathlib.Omega.{arith}
+use native.Mathlib.Nat.{mul-le-mul}
+use lib.ListN.{length, set}
+use Rattle.answer.specs.declared.Verdict.the-variants.{Accepted}
+use Rattle.answer.specs.declared.Cell.{Cell}
+use Rattle.answer.specs.declared.Held.{Held}
+use Rattle.answer.specs.Answers.{cellKind, cellBits}
+use Rattle.store.specs.Face.{mostGridSide, check, meaning, inGrid, heldCell, Holds, cellTile, tileHolding, tileCount, tileRows, tileColumns, elementCount}
+use Rattle.store.proofs.ManyLaws.{inside-cell, holding-is, tile-there, same-tile}
+use Rattle.blocks.specs.Blocks.{blockEnd, OneBlock}
+use Rattle.blocks.specs.Tables.{Inside, Filled}
+use Rattle.blocks.proofs.BlockLaws.{block-more, block-within, block-same}
+use Rattle.blocks.proofs.TableLaws.{place-less, filled-none, filled-one, filled-under, filled-beside}
+use Rattle.rectangles.specs.declared.pieces.Rectangle.{Rectangle}
+use Rattle.rectangles.specs.Rectangles.{cellSays}
+use Rattle.rectangles.specs.Pieces.{HasRoom, Answered, Accepts, OneTile, Told}
+
+-- nothing is told yet
+pub told-none :
+    (s : List ℕ) (ci : ℕ) (a : Rectangle) {area : ℕ → ℕ → Type 0} (k b : List ℕ) → ((r c : ℕ) → area r c → ⊥) → Told s ci a area k k b b
+told-none s ci a k b f = record { kinds = filled-none k f; bits = filled-none b f }
+
+-- room for a cell
+pub row-start : (a : Rectangle) {k b : List ℕ} (r : ℕ) → r < a .rows → HasRoom a k b → r * a .columns ≤ mostGridSide * mostGridSide
+row-start a r h f =
+    let p : r ≤ mostGridSide = omega (arith, f .rows-small) in
+    let q : a .columns ≤ mostGridSide = omega (arith, f .columns-small) in
+    mul-le-mul p q
+
+pub room-for : (a : Rectangle) (k b : List ℕ) (r c : ℕ) → HasRoom a k b → r < a .rows → c < a .columns → (r * a .columns + c < length k) × (r * a .columns + c < length b)
+room-for a k b r c f h w = let z = place-less (a .rows) (a .columns) r c h w in (omega (arith, f .kinds), omega (arith, f .bits))
+
+pub room-now :
+    {s : List ℕ} {ci : ℕ} (a : Rectangle) {area : ℕ → ℕ → Type 0} {k k′ b b′ : List ℕ} (r c : ℕ) → Told s ci a area k k′ b b′ → HasRoom a k b → r < a .rows → c < a .columns →
+    (r * a .columns + c < length k′) × (r * a .columns + c < length b′)
+room-now a {k = k} {b = b} r c t f h w = let z = room-for a k b r c f h w in (omega (arith, t .kinds .long), omega (arith, t .bits .long))
+
+-- where a loop ends
+pub told-ends :
+    {s : List ℕ} {ci : ℕ} {a : Rectangle} {top bottom left right r c : ℕ} {k k′ b b′ : List ℕ} → Told s ci a (Inside top r left c) k k′ b b′ → r ≡ bottom → c ≡ right →
+    Told s ci a (Inside top bottom left right) k k′ b b′
+told-ends t e f = rw (← e, ← f) t
+
+-- one cell more in a row
+module _ (s : List ℕ) (ci : ℕ) (a : Rectangle) (r left c : ℕ) where
+  next :
+      (f : Cell → ℕ) (x : Cell) {k k₁ k₂ : List ℕ} → Filled (a .columns) (cellSays f s ci (a .e) (a .row) (a .column)) (Inside r (r + 1) left c) k k₁ →
+      x ≡ meaning s ci (a .row + r) (a .column + c) (a .e) → k₂ ≡ set k₁ (r * a .columns + c) (f x) → r * a .columns + c < length k → left ≤ c → c < a .columns →
+      Filled (a .columns) (cellSays f s ci (a .e) (a .row) (a .column)) (Inside r (r + 1) left (c + 1)) k k₂
+  unfolding cellSays
+  next f x p e q h l w = rw q (filled-beside p (filled-one r c (f x) _ (ap f e) (omega (arith, p .long))) (omega arith) l (omega arith))
+
+  pub told-more :
+      (right : ℕ) (h : Held) (m : List ℕ) (x : Cell) (k k₁ k₂ b b₁ b₂ : List ℕ) → Told s ci a (Inside r (r + 1) left c) k k₁ b b₁ →
+      Answered s ci a h m (Inside r (r + 1) left right) → x ≡ heldCell s ci h m (a .row + r) (a .column + c) (a .e) →
+      k₂ ≡ set k₁ (r * a .columns + c) (cellKind x) → b₂ ≡ set b₁ (r * a .columns + c) (cellBits x) → HasRoom a k b →
+      r < a .rows → left ≤ c → c < right → right ≤ a .columns → Told s ci a (Inside r (r + 1) left (c + 1)) k k₂ b b₂
+  told-more right h m x k k₁ k₂ b b₁ b₂ t n e p q f i l u w =
+      let z = e ∙ n .each r c (omega arith) in
+      let y = room-for a k b r c f i (omega arith) in
+      record { kinds = next cellKind x (t .kinds) z p (y .0) l (omega arith); bits = next cellBits x (t .bits) z q (y .1) l (omega arith) }
+
+-- a piece under another, and beside it
+
+module _ {s : List ℕ} {ci : ℕ} {a : Rectangle} {top bottom left right mid : ℕ} {k k₁ k₂ b b₁ b₂ : List ℕ} where
+  pub told-under :
+      Told s ci a (Inside top mid left right) k k₁ b b₁ → Told s ci a (Inside mid bottom left right) k₁ k₂ b₁ b₂ → right ≤ a .columns → top ≤ mid → mid ≤ bottom →
+      Told s ci a (Inside top bottom left right) k k₂ b b₂
+  told-under p q w h l = record { kinds = filled-under (p .kinds) (q .kinds) w h l; bits = filled-under (p .bits) (q .bits) w h l }
+
+  pub told-beside :
+      Told s ci a (Inside top bottom left mid) k k₁ b b₁ → Told s ci a (Inside top bottom mid right) k₁ k₂ b₁ b₂ → right ≤ a .columns → left ≤ mid → mid ≤ right →
+      Told s ci a (Inside top bottom left right) k k₂ b b₂
+  told-beside p q w h l = record { kinds = filled-beside (p .kinds) (q .kinds) w h l; bits = filled-beside (p .bits) (q .bits) w h l }
+
+-- what is asked of the next
+
+pub room-still : {s : List ℕ} {ci : ℕ} {a : Rectangle} {area : ℕ → ℕ → Type 0} {k k′ b b′ : List ℕ} → Told s ci a area k k′ b b′ → HasRoom a k b → HasRoom a k′ b′
+room-still t f =
+    record {
+      rows-small = f .rows-small;
+      columns-small = f .columns-small;
+      kinds = omega (arith, t .kinds .long, f .kinds);
+      bits = omega (arith, t .bits .long, f .bits);
+    }
+
+pub answered-row :
+    {s : List ℕ} {ci : ℕ} {a : Rectangle} {x : Held} {m : List ℕ} {top bottom left right : ℕ} (r : ℕ) → Answered s ci a x m (Inside top bottom left right) → top ≤ r → r < bottom →
+    Answered s ci a x m (Inside r (r + 1) left right)
+answered-row r n h l = record { each = λ i c k. n .each i c (omega arith) }
+
+-- what is held of the tile of a piece's first cell answers for the piece
+
+pub in-grid : (s : List ℕ) (a : Rectangle) → Accepts s a → (r c : ℕ) → r < a .rows → c < a .columns → inGrid s (a .row + r) (a .column + c) (a .e) ≡ true
+in-grid s a g r c h k = inside-cell s (a .e) (a .row) (a .column) (a .rows) (a .columns) (g .inside) r c h k
+
+pub answered-tile :
+    (s : List ℕ) (ci : ℕ) (a : Rectangle) (top bottom left right tile : ℕ) (x : Held) (m : List ℕ) → tile ≡ tileHolding s (a .row + top) (a .column + left) →
+    (check s ≡ Accepted → tile < tileCount s → a .e < elementCount s → Holds s ci tile (a .e) x m) → Accepts s a → OneTile s a top bottom left right →
+    (top < bottom) × ((bottom ≤ a .rows) × ((left < right) × (right ≤ a .columns))) → Answered s ci a x m (Inside top bottom left right)
+answered-tile s ci a top bottom left right tile x m q h g o i =
+    let n = in-grid s a g top left (omega arith) (omega arith) in
+    let e : tile ≡ cellTile s (a .row + top) (a .column + left) = q ∙ holding-is s _ _ (a .e) n in
+    let l = tile-there s (g .accepted) _ _ (a .e) n in
+    let y = h (g .accepted) (omega arith) (l .1) in
+    record { each = λ r c k. y .each _ _ (in-grid s a g r c (omega arith) (omega arith)) (o .each r c k ∙ sym e) }
+
+-- the next piece, by the code's block end
+
+module _ (first at side end r : ℕ) (t : ℕ) (e : r ≡ blockEnd first at side end) (q : side ≡ t) (p : 1 ≤ t) where
+  pub piece-next : at < end → (at < r) × ((r ≤ end) × OneBlock first at r t)
+  piece-next h =
+      let l : 1 ≤ side = omega arith in
+      rw (← q, e) (block-more first at side end l h, (block-within first at side end l, block-same first at side end l))
+
+-- a block of rows and a block of columns have one tile
+pub piece-tile :
+    (s : List ℕ) (a : Rectangle) (top bottom left right : ℕ) → OneBlock (a .row) top bottom (tileRows s) → OneBlock (a .column) left right (tileColumns s) →
+    OneTile s a top bottom left right
+piece-tile s a top bottom left right p q = record { each = λ r c k. same-tile s _ _ _ _ (p .each r (omega arith) (omega arith)) (q .each c (omega arith) (omega arith)) }
