@@ -8,17 +8,19 @@ use mathlib.Core.Bool.{true}
 use lib.ListN.{length, getD}
 use Rattle.wire.specs.Pick.{pick}
 use Rattle.wire.specs.Tests.{_≤?_, passes}
-use Rattle.wire.specs.Bytes.{put}
+use Rattle.wire.specs.Bytes.{put, numberAt}
 use Rattle.answer.specs.declared.Refusal.the-variants.{Directory}
 use Rattle.answer.specs.declared.Verdict.the-variants.{Accepted}
 use Rattle.answer.specs.declared.Cell.{Cell}
 use Rattle.answer.specs.declared.Cell.the-variants as cell
 use Rattle.answer.specs.declared.Held.{Held}
 use Rattle.answer.specs.declared.Held.the-variants as held
-use Rattle.answer.specs.Values.{valueOf}
+use Rattle.answer.specs.Values.{valueOf, valueBits}
+use Rattle.answer.specs.Answers.{cellKind, cellBits, heldKind}
 use Rattle.header.specs.Fields.{elementCount}
-use Rattle.header.specs.Element.{element}
+use Rattle.header.specs.Element.{cellSize, element}
 use Rattle.geometry.specs.Tiles.{tileCount, cellTile, cellInside}
+use Rattle.geometry.specs.Sizes.{cellOffset}
 use Rattle.bodies.specs.TileDirectory.{tileDirectoryAt}
 use Rattle.page_check.specs.Stages.{check}
 use Rattle.cells.specs.Asked.{inGrid}
@@ -47,9 +49,25 @@ toldBy s ci m row column e (held.Refused r) = cell.Refused r
 unfoldable pub heldCell : List ℕ → ℕ → Held → List ℕ → ℕ → ℕ → ℕ → Cell
 heldCell s ci x m row column e = guarded cell.Refused (inGrid s row column e) s (toldBy s ci m row column e x)
 
--- what is held gives the meaning of each cell of the tile
+-- the bits of the cell with a number inside its tile, of an element of a type code and a fill: without a look at the grid. 0 of cells that
+-- are looked up by themselves or are refused
+unfoldable pub bitsInside : List ℕ → ℕ → ℕ → List ℕ → ℕ → Held → ℕ
+bitsInside s kind fill m inside (held.Stored at) = valueBits (valueOf kind (numberAt (cellSize kind) s (at + cellOffset kind inside)))
+bitsInside s kind fill m inside (held.Unpacked at) = valueBits (valueOf kind (getD m inside 0))
+bitsInside s kind fill m inside held.Absent = valueBits (valueOf kind fill)
+bitsInside s kind fill m inside held.Alone = 0
+bitsInside s kind fill m inside (held.Refused r) = 0
+
+-- what is held has the kind of a cell, and its bits at the cell's number inside the tile
+pub record Tells (s : List ℕ) (ci row column e : ℕ) (x : Held) (m : List ℕ) : Type 0 where
+  pub kind : cellKind (meaning s ci row column e) ≡ heldKind x
+  pub bits : cellBits (meaning s ci row column e) ≡ bitsInside s (element s e .kind) (element s e .fill) m (cellInside s row column) x
+
+-- what is held gives the meaning of each cell of the tile; and where it has a kind, which cells that are looked up by themselves lack, it
+-- tells each
 pub record Holds (s : List ℕ) (ci tile e : ℕ) (x : Held) (m : List ℕ) : Type 0 where
   pub each : (row column : ℕ) → inGrid s row column e ≡ true → cellTile s row column ≡ tile → heldCell s ci x m row column e ≡ meaning s ci row column e
+  pub tells : (heldKind x ≡ 0 → ⊥) → (row column : ℕ) → inGrid s row column e ≡ true → cellTile s row column ≡ tile → Tells s ci row column e x m
 
 -- so on an accepted file, whatever memory is lent
 abbrev pub HoldsAccepted : Type 0

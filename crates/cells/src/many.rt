@@ -7,16 +7,17 @@ use crate::tile_cells;
 use answer::Cell;
 use answer::Held;
 use answer::Refusal;
+use geometry::sizes;
 use geometry::tiles;
 ghost use mathlib.Core.Path.{_≡_};
 ghost use mathlib.Core.Bool.{true};
 ghost use lib.ListN.{getD};
-ghost use Rattle.answer.specs.Values.{valueOf};
+ghost use Rattle.answer.specs.Values.{valueOf, valueBits};
 ghost use Rattle.answer.specs.declared.Cell.the-variants.{Unpacked};
 ghost use Rattle.header.specs.Element.{element};
 ghost use Rattle.geometry.specs.Tiles.{cellInside};
 ghost use Rattle.cells.specs.inner.Lookups.{sidesLawful};
-ghost use Rattle.cells.specs.Many.{storedFrom, toldBy, heldCell};
+ghost use Rattle.cells.specs.Many.{storedFrom, toldBy, heldCell, bitsInside};
 
 // A stored cell, by where its element's content starts: 9 where that is past the file.
 fn stored_from(s: &[u8], at: usize, row: u32, column: u32, e: u32) -> Cell
@@ -92,4 +93,27 @@ pub fn cell_held(
         return Cell::Refused(Refusal::Directory);
     }
     Cell::Refused(Refusal::OutsideGrid)
+}
+
+// The bits that a value of a type code keeps of a bit pattern.
+fn kept_bits(kind: u32, bits: u32) -> u32
+    ensures { λ r. ⌜ r ≡ valueBits (valueOf kind bits) ⌝ }
+{
+    answer::value_bits(answer::value_of(kind, bits))
+}
+
+// The bits of the cell with a number inside its tile, of an element of a type code and a fill: a step or two.
+pub fn bits_inside(s: &[u8], kind: u32, fill: u32, held: Held, memory: &[u32], inside: u32) -> u32
+    ensures { λ r. ⌜ r ≡ bitsInside (now (s .entry)) kind fill (now (memory .entry)) inside held ⌝ }
+{
+    match held {
+        Held::Stored(at) => {
+            let offset = sizes::cell_offset(kind, inside) as usize;
+            kept_bits(kind, tile_cells::bits_at(s, kind, at, offset))
+        }
+        Held::Unpacked(_) => kept_bits(kind, wire::number_in(memory, inside as usize)),
+        Held::Absent => kept_bits(kind, fill),
+        Held::Alone => 0,
+        Held::Refused(_) => 0,
+    }
 }

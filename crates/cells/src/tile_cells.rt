@@ -22,12 +22,11 @@ ghost use Rattle.unpack.specs.Unpack.{cellAt};
 ghost use Rattle.cells.specs.TileCells.{packed, offsetIn, placeIn, storedAt, unpackable, unpackedIn, packedCell, cellIn, fillOf, contentIn};
 ghost use Rattle.cells.specs.inner.Lookups.{sidesLawful, cellReached, contentReached};
 
-// The type code of element e.
+// The type code of element e, without the rest of its entry.
 pub(crate) fn kind_of(s: &[u8], e: u32) -> u32
     ensures { λ r. ⌜ r ≡ element (now (s .entry)) e .kind ⌝ }
 {
-    let x = entries::element(s, e as usize);
-    x.kind
+    wire::byte_at(s, entries::entry_start(s, e as usize))
 }
 
 // Where the section of element e of the tile record at x starts.

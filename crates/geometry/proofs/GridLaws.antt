@@ -5,7 +5,7 @@ use mathlib.Core.List.{List}
 use native.Mathlib.Omega.{arith}
 use native.Mathlib.Nat.{mul-add-div-right, mul-add-mod-self-right, div-eq-of-lt, mod-eq-of-lt, div-add-mod', mod-lt, mul-le-mul-right, div-lt-iff-lt-mul}
 use Rattle.header.specs.Fields.{gridRows, gridColumns, tileRows, tileColumns}
-use Rattle.geometry.specs.Tiles.{tilesAlong, tileOf, insideOf, tileIn, cellTile, tilesIn, tileCount}
+use Rattle.geometry.specs.Tiles.{tilesAlong, tileOf, insideOf, tileIn, cellTile, cellInside, tilesIn, tileCount}
 use Rattle.geometry.proofs.TileLaws.{along-is, along-small}
 
 -- a number in rows of w
@@ -39,6 +39,25 @@ pub inside-less : (h w r c : ℕ) → 0 < h → 0 < w → insideOf h w r c < h *
 unfolding insideOf
 inside-less h w r c p q = grid-less w (r % h) (c % w) (mod-lt c q) h (mod-lt r p)
 
+-- the tile fixes its place in the row of tiles
+pub one-column :
+    (columns h w r c r2 c2 : ℕ) → 0 < w → c < columns → c2 < columns → tileIn columns h w r c ≡ tileIn columns h w r2 c2 → c / w ≡ c2 / w
+unfolding tileIn tileOf
+one-column columns h w r c r2 c2 p k l e =
+    let n = tilesAlong columns w in
+    sym (column-of n _ _ (along-less columns w c p k)) ∙ ap (λ (x : ℕ). x % n) e ∙ column-of n _ _ (along-less columns w c2 p l)
+
+-- along a row of a tile the number inside rises by one from column to column
+pub inside-along :
+    (s : List ℕ) (row x y : ℕ) → 0 < tileColumns s → x ≤ y → y < gridColumns s → cellTile s row y ≡ cellTile s row x →
+    cellInside s row y ≡ cellInside s row x + (y - x)
+unfolding cellTile cellInside insideOf
+inside-along s row x y p h k e =
+    let w = tileColumns s in
+    let q : y / w ≡ x / w = one-column (gridColumns s) (tileRows s) w row y row x p k (omega arith) e in
+    let m : y / w * w ≡ x / w * w = ap (λ (n : ℕ). n * w) q in
+    omega (arith, m, div-add-mod' x w, div-add-mod' y w)
+
 -- the tile and the number inside it fix the cell
 pub one-cell :
     (columns h w r c r2 c2 : ℕ) → 0 < w → c < columns → c2 < columns → tileIn columns h w r c ≡ tileIn columns h w r2 c2 →
@@ -49,7 +68,7 @@ one-cell columns h w r c r2 c2 p k l e f =
     let a = along-less columns w c p k in
     let b = along-less columns w c2 p l in
     let rq : r / h ≡ r2 / h = sym (row-of n _ _ a) ∙ ap (λ (x : ℕ). x / n) e ∙ row-of n _ _ b in
-    let cq : c / w ≡ c2 / w = sym (column-of n _ _ a) ∙ ap (λ (x : ℕ). x % n) e ∙ column-of n _ _ b in
+    let cq : c / w ≡ c2 / w = one-column columns h w r c r2 c2 p k l e in
     let i = mod-lt c p in
     let j = mod-lt c2 p in
     let rr : r % h ≡ r2 % h = sym (row-of w _ _ i) ∙ ap (λ (x : ℕ). x / w) f ∙ row-of w _ _ j in

@@ -1,5 +1,5 @@
 -- Pieces of a rectangle, a cell, a row, a tile and a row of tiles at a time. Assumes nothing.
-use Prim.Native.Nat.{ℕ, _+_, _*_, _≤_, _<_}
+use Prim.Native.Nat.{ℕ, _+_, _-_, _*_, _≤_, _<_}
 use mathlib.Core.Path.{_≡_, sym, ap, _∙_}
 use mathlib.Core.List.{List}
 use mathlib.Core.Bool.{true}
@@ -9,16 +9,16 @@ use lib.ListN.{length, set}
 use Rattle.answer.specs.declared.Verdict.the-variants.{Accepted}
 use Rattle.answer.specs.declared.Cell.{Cell}
 use Rattle.answer.specs.declared.Held.{Held}
-use Rattle.answer.specs.Answers.{cellKind, cellBits}
-use Rattle.store.specs.Face.{mostGridSide, check, meaning, inGrid, heldCell, Holds, cellTile, tileHolding, tileCount, tileRows, tileColumns, elementCount}
-use Rattle.store.proofs.ManyLaws.{inside-cell, holding-is, tile-there, same-tile}
+use Rattle.answer.specs.Answers.{cellKind, cellBits, heldKind}
+use Rattle.store.specs.Face.{mostGridSide, element, check, meaning, inGrid, heldCell, bitsInside, Holds, cellTile, cellInside, tileHolding, tileCount, tileRows, tileColumns, elementCount}
+use Rattle.store.proofs.ManyLaws.{inside-means, inside-cell, holding-is, sides-accepted, tile-there, same-tile, inside-few, told-along}
 use Rattle.blocks.specs.Blocks.{blockEnd, OneBlock}
 use Rattle.blocks.specs.Tables.{Inside, Filled}
 use Rattle.blocks.proofs.BlockLaws.{block-more, block-within, block-same}
 use Rattle.blocks.proofs.TableLaws.{place-less, filled-none, filled-one, filled-under, filled-beside}
 use Rattle.rectangles.specs.declared.pieces.Rectangle.{Rectangle}
 use Rattle.rectangles.specs.Rectangles.{cellSays}
-use Rattle.rectangles.specs.Pieces.{HasRoom, Answered, Accepts, OneTile, Told}
+use Rattle.rectangles.specs.Pieces.{HasRoom, Counted, Answered, Accepts, OneTile, Told}
 
 -- nothing is told yet
 pub told-none :
@@ -49,21 +49,32 @@ told-ends t e f = rw (← e, ← f) t
 -- one cell more in a row
 module _ (s : List ℕ) (ci : ℕ) (a : Rectangle) (r left c : ℕ) where
   next :
-      (f : Cell → ℕ) (x : Cell) {k k₁ k₂ : List ℕ} → Filled (a .columns) (cellSays f s ci (a .e) (a .row) (a .column)) (Inside r (r + 1) left c) k k₁ →
-      x ≡ meaning s ci (a .row + r) (a .column + c) (a .e) → k₂ ≡ set k₁ (r * a .columns + c) (f x) → r * a .columns + c < length k → left ≤ c → c < a .columns →
+      (f : Cell → ℕ) (v : ℕ) {k k₁ k₂ : List ℕ} → Filled (a .columns) (cellSays f s ci (a .e) (a .row) (a .column)) (Inside r (r + 1) left c) k k₁ →
+      v ≡ f (meaning s ci (a .row + r) (a .column + c) (a .e)) → k₂ ≡ set k₁ (r * a .columns + c) v → r * a .columns + c < length k → left ≤ c → c < a .columns →
       Filled (a .columns) (cellSays f s ci (a .e) (a .row) (a .column)) (Inside r (r + 1) left (c + 1)) k k₂
   unfolding cellSays
-  next f x p e q h l w = rw q (filled-beside p (filled-one r c (f x) _ (ap f e) (omega (arith, p .long))) (omega arith) l (omega arith))
+  next f v p e q h l w = rw q (filled-beside p (filled-one r c v _ e (omega (arith, p .long))) (omega arith) l (omega arith))
 
-  pub told-more :
-      (right : ℕ) (h : Held) (m : List ℕ) (x : Cell) (k k₁ k₂ b b₁ b₂ : List ℕ) → Told s ci a (Inside r (r + 1) left c) k k₁ b b₁ →
-      Answered s ci a h m (Inside r (r + 1) left right) → x ≡ heldCell s ci h m (a .row + r) (a .column + c) (a .e) →
-      k₂ ≡ set k₁ (r * a .columns + c) (cellKind x) → b₂ ≡ set b₁ (r * a .columns + c) (cellBits x) → HasRoom a k b →
-      r < a .rows → left ≤ c → c < right → right ≤ a .columns → Told s ci a (Inside r (r + 1) left (c + 1)) k k₂ b b₂
-  told-more right h m x k k₁ k₂ b b₁ b₂ t n e p q f i l u w =
-      let z = e ∙ n .each r c (omega arith) in
-      let y = room-for a k b r c f i (omega arith) in
-      record { kinds = next cellKind x (t .kinds) z p (y .0) l (omega arith); bits = next cellBits x (t .bits) z q (y .1) l (omega arith) }
+  module _ (right : ℕ) (h : Held) (m : List ℕ) (k k₁ k₂ b b₁ b₂ : List ℕ) (t : Told s ci a (Inside r (r + 1) left c) k k₁ b b₁) where
+    more :
+        (v w : ℕ) → v ≡ cellKind (meaning s ci (a .row + r) (a .column + c) (a .e)) → w ≡ cellBits (meaning s ci (a .row + r) (a .column + c) (a .e)) →
+        k₂ ≡ set k₁ (r * a .columns + c) v → b₂ ≡ set b₁ (r * a .columns + c) w → HasRoom a k b → r < a .rows → left ≤ c → c < a .columns →
+        Told s ci a (Inside r (r + 1) left (c + 1)) k k₂ b b₂
+    more v w e g p q f i l u =
+        let y = room-for a k b r c f i u in
+        record { kinds = next cellKind v (t .kinds) e p (y .0) l u; bits = next cellBits w (t .bits) g q (y .1) l u }
+
+    pub told-more :
+        (x : Cell) → Answered s ci a h m r (r + 1) left right → x ≡ heldCell s ci h m (a .row + r) (a .column + c) (a .e) →
+        k₂ ≡ set k₁ (r * a .columns + c) (cellKind x) → b₂ ≡ set b₁ (r * a .columns + c) (cellBits x) → HasRoom a k b →
+        r < a .rows → left ≤ c → c < right → right ≤ a .columns → Told s ci a (Inside r (r + 1) left (c + 1)) k k₂ b b₂
+    told-more x n e p q f i l u w = let z = e ∙ n .each r c (omega arith) in more (cellKind x) (cellBits x) (ap cellKind z) (ap cellBits z) p q f i l (omega arith)
+
+    pub told-counted :
+        (kind fill start v w : ℕ) → Counted s ci a h m kind fill start r left right → v ≡ heldKind h → w ≡ bitsInside s kind fill m (start + (c - left)) h →
+        k₂ ≡ set k₁ (r * a .columns + c) v → b₂ ≡ set b₁ (r * a .columns + c) w → HasRoom a k b →
+        r < a .rows → left ≤ c → c < right → right ≤ a .columns → Told s ci a (Inside r (r + 1) left (c + 1)) k k₂ b b₂
+    told-counted kind fill start v w n e g p q f i l u y = more v w (e ∙ sym (n .kinds c l u)) (g ∙ sym (n .bits c l u)) p q f i l (omega arith)
 
 -- a piece under another, and beside it
 
@@ -90,9 +101,14 @@ room-still t f =
     }
 
 pub answered-row :
-    {s : List ℕ} {ci : ℕ} {a : Rectangle} {x : Held} {m : List ℕ} {top bottom left right : ℕ} (r : ℕ) → Answered s ci a x m (Inside top bottom left right) → top ≤ r → r < bottom →
-    Answered s ci a x m (Inside r (r + 1) left right)
-answered-row r n h l = record { each = λ i c k. n .each i c (omega arith) }
+    {s : List ℕ} {ci : ℕ} {a : Rectangle} {x : Held} {m : List ℕ} {top bottom left right : ℕ} (r : ℕ) → Answered s ci a x m top bottom left right → top ≤ r → r < bottom →
+    Answered s ci a x m r (r + 1) left right
+answered-row r n h l = record { each = λ i c k. n .each i c (omega arith); counted = λ z i k u. n .counted z i (omega arith) (omega arith) }
+
+pub counted-row :
+    (s : List ℕ) (ci : ℕ) (a : Rectangle) (x : Held) (m : List ℕ) (r left right n kind fill start : ℕ) → Answered s ci a x m r (r + 1) left right → n ≡ heldKind x → (n ≡ 0 → ⊥) →
+    start ≡ cellInside s (a .row + r) (a .column + left) → kind ≡ element s (a .e) .kind → fill ≡ element s (a .e) .fill → Counted s ci a x m kind fill start r left right
+counted-row s ci a x m r left right n kind fill start w e f p q t = rw (p, q, t) (w .counted (λ z. f (e ∙ z)) r (omega arith) (omega arith))
 
 -- what is held of the tile of a piece's first cell answers for the piece
 
@@ -102,13 +118,29 @@ in-grid s a g r c h k = inside-cell s (a .e) (a .row) (a .column) (a .rows) (a .
 pub answered-tile :
     (s : List ℕ) (ci : ℕ) (a : Rectangle) (top bottom left right tile : ℕ) (x : Held) (m : List ℕ) → tile ≡ tileHolding s (a .row + top) (a .column + left) →
     (check s ≡ Accepted → tile < tileCount s → a .e < elementCount s → Holds s ci tile (a .e) x m) → Accepts s a → OneTile s a top bottom left right →
-    (top < bottom) × ((bottom ≤ a .rows) × ((left < right) × (right ≤ a .columns))) → Answered s ci a x m (Inside top bottom left right)
+    (top < bottom) × ((bottom ≤ a .rows) × ((left < right) × (right ≤ a .columns))) → Answered s ci a x m top bottom left right
 answered-tile s ci a top bottom left right tile x m q h g o i =
     let n = in-grid s a g top left (omega arith) (omega arith) in
     let e : tile ≡ cellTile s (a .row + top) (a .column + left) = q ∙ holding-is s _ _ (a .e) n in
     let l = tile-there s (g .accepted) _ _ (a .e) n in
     let y = h (g .accepted) (omega arith) (l .1) in
-    record { each = λ r c k. y .each _ _ (in-grid s a g r c (omega arith) (omega arith)) (o .each r c k ∙ sym e) }
+    let w = inside-means s (a .e) (a .row) (a .column) (a .rows) (a .columns) (g .inside) in
+    let d = sides-accepted s (g .accepted) in
+    let along : (heldKind x ≡ 0 → ⊥) → (r c : ℕ) → top ≤ r → r < bottom → left ≤ c → c < right →
+    (cellKind (meaning s ci (a .row + r) (a .column + c) (a .e)) ≡ heldKind x)
+    × (cellBits (meaning s ci (a .row + r) (a .column + c) (a .e)) ≡ bitsInside s (element s (a .e) .kind) (element s (a .e) .fill) m (cellInside s (a .row + r) (a .column + left) + (c - left)) x) =
+    λ z r c b u l v.
+    told-along s (g .accepted) ci tile (a .e) x m y z (a .row + r) (a .column + left) (a .column + c) (c - left) (omega arith) (in-grid s a g r c (omega arith) (omega arith))
+    (o .each r left (omega arith) ∙ sym e) (o .each r c (omega arith) ∙ sym e) in
+    record {
+      each = λ r c k. y .each _ _ (in-grid s a g r c (omega arith) (omega arith)) (o .each r c k ∙ sym e);
+      counted = λ z r b u.
+          record {
+            small = omega (arith, inside-few s (g .accepted) (a .row + r) (a .column + left), w .1 .1, d .columns .1);
+            kinds = λ c l v. along z r c b u l v .0;
+            bits = λ c l v. along z r c b u l v .1;
+          };
+    }
 
 -- the next piece, by the code's block end
 

@@ -1,5 +1,5 @@
--- Req 07, 'the cells of a rectangle in one call, of an element of any type'. A rectangle is a first row and column and a number of rows
--- and of columns, each any 64-bit number. `ci` is the compressor index that the caller names.
+-- The cells of a rectangle in one call, of an element of any type (docs/DECISIONS.md, A66). A rectangle is a first row and column and a
+-- number of rows and of columns, each any 64-bit number. `ci` is the compressor index that the caller names.
 use Prim.Native.Nat.{ℕ, _+_, _*_, _<_}
 use mathlib.Core.Path.{_≡_}
 use mathlib.Core.List.{List, [], _∷_}
@@ -15,7 +15,7 @@ use Rattle.blocks.specs.Tables.{tabled}
 use Rattle.rectangles.specs.declared.Given.{Given}
 use Rattle.rectangles.specs.declared.Given.the-variants.{Cells, Refused}
 
--- "13 where kinds_n or bits_n is below rows × columns": kn and bn numbers can be taken
+-- kn kinds and bn bits can be taken: else 13
 unfoldable pub roomFor : ℕ → ℕ → ℕ → ℕ → Bool
 roomFor rows columns kn bn = passes ((rows * columns ≤? kn) ∷ (rows * columns ≤? bn) ∷ [])
 
@@ -23,7 +23,7 @@ roomFor rows columns kn bn = passes ((rows * columns ≤? kn) ∷ (rows * column
 unfoldable pub givenIn : ℕ → ℕ → ℕ → ℕ → Given
 givenIn rows columns kn bn = pick (roomFor rows columns kn bn) (Cells (rows * columns)) (Refused Room)
 
--- "Refused: the check's; 10 as above; 13": 10 where the element lacks or the rectangle passes the grid
+-- refused: the check's; 10 where the page lacks the element or the rectangle passes the grid; 13
 unfoldable pub cellsGiven : List ℕ → ℕ → ℕ → ℕ → ℕ → ℕ → ℕ → ℕ → Given
 cellsGiven s e row column rows columns kn bn =
     unlessRefused Refused (check s) (pick (rectangleInside s e row column rows columns) (givenIn rows columns kn bn) (Refused OutsideGrid))
@@ -32,12 +32,12 @@ cellsGiven s e row column rows columns kn bn =
 unfoldable pub cellSays : (Cell → ℕ) → List ℕ → ℕ → ℕ → ℕ → ℕ → ℕ → ℕ → ℕ
 cellSays f s ci e row column r c = f (meaning s ci (row + r) (column + c) e)
 
--- "each cell by rows then has its kind and bits": what is written of all of them; "nothing is written" of a refused call
+-- each cell by rows has its kind and bits: what is written of all of them; of a refused call nothing is
 abbrev pub written : (Cell → ℕ) → List ℕ → ℕ → ℕ → ℕ → ℕ → ℕ → ℕ → Given → List ℕ
 written f s ci e row column rows columns (Cells n) = tabled rows columns (cellSays f s ci e row column)
 written f s ci e row column rows columns (Refused r) = []
 
--- "0, and out[0] the number of cells; else out[0] the place"
+-- 0 and the number of cells, or the refusal's number and place
 abbrev pub givenNumber : Given → ℕ
 givenNumber (Cells n) = 0
 givenNumber (Refused r) = refusalNumber r

@@ -10,7 +10,7 @@ ghost use Rattle.answer.specs.Answers.{cellKind, cellBits};
 ghost use Rattle.store.specs.Face.{tileRows};
 ghost use Rattle.blocks.specs.Blocks.{OneBlock};
 ghost use Rattle.blocks.specs.Tables.{Inside};
-ghost use Rattle.rectangles.specs.Pieces.{HasRoom, Answered, Accepts, OneTile, Told};
+ghost use Rattle.rectangles.specs.Pieces.{HasRoom, Counted, Answered, Accepts, OneTile, Told};
 
 // An element, and the rectangle's first row and column and its sides.
 pub(crate) struct Rectangle {
@@ -21,14 +21,83 @@ pub(crate) struct Rectangle {
     pub columns: u64,
 }
 
+// Two numbers, a cell's kind and its bits, in their places.
+fn put_numbers(kind: u32, pattern: u32, i: usize, kinds: &mut [u32], bits: &mut [u32])
+    requires { ⌜ (i < length (now kinds)) × (i < length (now bits)) ⌝ }
+    ensures kinds { λ _. ⌜ now (kinds .exit) ≡ set (now (kinds .entry)) i kind ⌝ }
+    ensures bits { λ _. ⌜ now (bits .exit) ≡ set (now (bits .entry)) i pattern ⌝ }
+{
+    kinds[i] = kind;
+    bits[i] = pattern;
+}
+
 // The kind and the bits of a cell in their places.
 fn put_cell(x: Cell, i: usize, kinds: &mut [u32], bits: &mut [u32])
     requires { ⌜ (i < length (now kinds)) × (i < length (now bits)) ⌝ }
     ensures kinds { λ _. ⌜ now (kinds .exit) ≡ set (now (kinds .entry)) i (cellKind x) ⌝ }
     ensures bits { λ _. ⌜ now (bits .exit) ≡ set (now (bits .entry)) i (cellBits x) ⌝ }
 {
-    kinds[i] = answer::cell_kind(x);
-    bits[i] = answer::cell_bits(x);
+    put_numbers(answer::cell_kind(x), answer::cell_bits(x), i, kinds, bits);
+}
+
+// The cells of one row of a piece, each by its row and column.
+fn look_up_row(
+    file: &[u8],
+    compressor: u32,
+    held: Held,
+    memory: &[u32],
+    a: Rectangle,
+    r: u64,
+    left: u64,
+    right: u64,
+    kinds: &mut [u32],
+    bits: &mut [u32],
+)
+    requires fits { ⌜ HasRoom a (now kinds) (now bits) ⌝ }
+    requires inside { ⌜ (r < a .rows) × ((left ≤ right) × (right ≤ a .columns)) ⌝ }
+    requires answered { ⌜ Answered (now file) compressor a held (now memory) r (r + 1) left right ⌝ }
+    ensures { λ _. ⌜ Told (now (file .entry)) compressor a (Inside r (r + 1) left right) (now (kinds .entry)) (now (kinds .exit)) (now (bits .entry)) (now (bits .exit)) ⌝ }
+{
+    let first = r * a.columns;
+    let row = a.row + r;
+    let mut c = left;
+    while c < right {
+        let x = many::held_cell(file, compressor, held, memory, row, a.column + c, a.e);
+        put_cell(x, (first + c) as usize, kinds, bits);
+        c += 1;
+    }
+}
+
+// The cells of one row of a piece, which have one kind, by the number inside the tile of the first.
+fn tell_row(
+    file: &[u8],
+    compressor: u32,
+    held: Held,
+    memory: &[u32],
+    a: Rectangle,
+    kind: u32,
+    fill: u32,
+    start: u64,
+    r: u64,
+    left: u64,
+    right: u64,
+    kinds: &mut [u32],
+    bits: &mut [u32],
+)
+    requires fits { ⌜ HasRoom a (now kinds) (now bits) ⌝ }
+    requires inside { ⌜ (r < a .rows) × ((left ≤ right) × (right ≤ a .columns)) ⌝ }
+    requires counted { ⌜ Counted (now file) compressor a held (now memory) kind fill start r left right ⌝ }
+    ensures { λ _. ⌜ Told (now (file .entry)) compressor a (Inside r (r + 1) left right) (now (kinds .entry)) (now (kinds .exit)) (now (bits .entry)) (now (bits .exit)) ⌝ }
+{
+    let said = answer::held_kind(held);
+    let mut c = left;
+    while c < right {
+        let inside = (start + (c - left)) as u32;
+        let pattern = many::bits_inside(file, kind, fill, held, memory, inside);
+        let i = (r * a.columns + c) as usize;
+        put_numbers(said, pattern, i, kinds, bits);
+        c += 1;
+    }
 }
 
 // The cells of one row of a piece.
@@ -46,17 +115,44 @@ fn fill_row(
 )
     requires fits { ⌜ HasRoom a (now kinds) (now bits) ⌝ }
     requires inside { ⌜ (r < a .rows) × ((left ≤ right) × (right ≤ a .columns)) ⌝ }
-    requires answered { ⌜ Answered (now file) compressor a held (now memory) (Inside r (r + 1) left right) ⌝ }
+    requires answered { ⌜ Answered (now file) compressor a held (now memory) r (r + 1) left right ⌝ }
     ensures { λ _. ⌜ Told (now (file .entry)) compressor a (Inside r (r + 1) left right) (now (kinds .entry)) (now (kinds .exit)) (now (bits .entry)) (now (bits .exit)) ⌝ }
 {
-    let first = r * a.columns;
-    let row = a.row + r;
-    let mut c = left;
-    while c < right {
-        let x = many::held_cell(file, compressor, held, memory, row, a.column + c, a.e);
-        put_cell(x, (first + c) as usize, kinds, bits);
-        c += 1;
+    if answer::held_kind(held) == 0 {
+        look_up_row(
+            file,
+            compressor,
+            held,
+            memory,
+            a,
+            r,
+            left,
+            right,
+            kinds,
+            bits,
+        );
+        return;
     }
+    let row = (a.row + r) as u32;
+    let column = (a.column + left) as u32;
+    let start = many::number_inside(file, row, column);
+    let kind = description::kind_of(file, a.e);
+    let fill = description::fill_pattern(file, a.e);
+    tell_row(
+        file,
+        compressor,
+        held,
+        memory,
+        a,
+        kind,
+        fill,
+        start,
+        r,
+        left,
+        right,
+        kinds,
+        bits,
+    );
 }
 
 // The rows of a piece.
@@ -75,7 +171,7 @@ fn fill_piece(
 )
     requires fits { ⌜ HasRoom a (now kinds) (now bits) ⌝ }
     requires inside { ⌜ (top ≤ bottom) × ((bottom ≤ a .rows) × ((left ≤ right) × (right ≤ a .columns))) ⌝ }
-    requires answered { ⌜ Answered (now file) compressor a held (now memory) (Inside top bottom left right) ⌝ }
+    requires answered { ⌜ Answered (now file) compressor a held (now memory) top bottom left right ⌝ }
     ensures { λ _. ⌜ Told (now (file .entry)) compressor a (Inside top bottom left right) (now (kinds .entry)) (now (kinds .exit)) (now (bits .entry)) (now (bits .exit)) ⌝ }
 {
     let mut r = top;

@@ -1,5 +1,5 @@
 -- Many reads after one check: what the functions answer, and what a product needs of a rectangle and its tiles. Assumes nothing.
-use Prim.Native.Nat.{ℕ, _+_, _/_, _≤_, _<_}
+use Prim.Native.Nat.{ℕ, _+_, _-_, _/_, _≤_, _<_}
 use mathlib.Core.Path.{_≡_, refl, sym, _∙_}
 use mathlib.Core.List.{List, [], _∷_}
 use mathlib.Core.Bool.{Bool, true, false}
@@ -14,9 +14,11 @@ use Rattle.wire.proofs.TestLaws.{means, yes, no, either-way}
 use Rattle.answer.specs.declared.Verdict.the-variants.{Accepted}
 use Rattle.answer.specs.declared.Cell.{Cell}
 use Rattle.answer.specs.declared.Held.{Held}
+use Rattle.answer.specs.Answers.{cellKind, cellBits, heldKind}
 use Rattle.header.specs.Fields.{gridRows, gridColumns, tileRows, tileColumns, elementCount}
-use Rattle.geometry.specs.Tiles.{tileOf, tileIn, tileCount, cellTile}
-use Rattle.geometry.proofs.GridLaws.{tile-less}
+use Rattle.header.specs.Element.{element}
+use Rattle.geometry.specs.Tiles.{tileOf, tileIn, tileCount, cellTile, cellInside}
+use Rattle.geometry.proofs.GridLaws.{tile-less, inside-along}
 use Rattle.check_header.specs.Passed.{Sides}
 use Rattle.bodies.specs.TileDirectory.{tileDirectoryAt}
 use Rattle.page_check.specs.Stages.{check}
@@ -26,8 +28,8 @@ use Rattle.cells.specs.TileCells.{unpackedBits}
 use Rattle.cells.specs.Routes.{foundBy}
 use Rattle.cells.specs.Meaning.{meaning}
 use Rattle.cells.specs.inner.Lookups.{lookedUpRoom}
-use Rattle.cells.specs.Many.{heldByDirectory, heldCell, Holds}
-use Rattle.cells.proofs.CellLaws.{grid-means, sides-mean}
+use Rattle.cells.specs.Many.{heldByDirectory, heldCell, bitsInside, Holds}
+use Rattle.cells.proofs.CellLaws.{grid-means, sides-mean, inside-small}
 use Rattle.cells.proofs.ReadLaws.{check-lawful}
 use Rattle.cells.proofs.ManyLaws.{holds-accepted}
 use Rattle.store.specs.Many.{rectangleInside, tileHolding}
@@ -112,3 +114,21 @@ pub told-cell :
     (s : List ℕ) (ci tile e : ℕ) (x : Held) (m : List ℕ) (row column : ℕ) (r : Cell) → Holds s ci tile e x m → inGrid s row column e ≡ true → cellTile s row column ≡ tile →
     r ≡ heldCell s ci x m row column e → r ≡ meaning s ci row column e
 told-cell s ci tile e x m row column r h g t p = p ∙ h .each row column g t
+
+-- along a row of a tile, from the cell in column x on
+
+module _ (s : List ℕ) (a : check s ≡ Accepted) where
+  pub inside-few : (row column : ℕ) → cellInside s row column < 16777216
+  inside-few row column = inside-small s row column (check-lawful s a)
+
+  pub told-along :
+      (ci tile e : ℕ) (h : Held) (m : List ℕ) → Holds s ci tile e h m → (heldKind h ≡ 0 → ⊥) → (row x y n : ℕ) → x + n ≡ y → inGrid s row y e ≡ true → cellTile s row x ≡ tile →
+      cellTile s row y ≡ tile →
+      (cellKind (meaning s ci row y e) ≡ heldKind h)
+      × (cellBits (meaning s ci row y e) ≡ bitsInside s (element s e .kind) (element s e .fill) m (cellInside s row x + n) h)
+  told-along ci tile e h m o k row x y n q g t u =
+      let d = sides-accepted s a in
+      let z : cellInside s row y ≡ cellInside s row x + (y - x) = inside-along s row x y (omega (arith, d .tile-columns .0)) (omega arith) (grid-means s row y e g .1 .0) (u ∙ sym t) in
+      let w : cellInside s row x + n ≡ cellInside s row y = omega arith in
+      let v = o .tells k row y g u in
+      (v .kind, rw w (v .bits))

@@ -13,7 +13,7 @@ pub use Rattle.cells.specs.Asked.{inGrid}
 pub use Rattle.cells.specs.TileCells.{unpackedBits}
 pub use Rattle.cells.specs.Meaning.{meaning, contentMeaning}
 pub use Rattle.cells.specs.Reads.{readByDirectory, readByWalk, readMeaning, readContent}
-pub use Rattle.cells.specs.Many.{heldByDirectory, heldCell, Holds}
+pub use Rattle.cells.specs.Many.{heldByDirectory, heldCell, bitsInside, Tells, Holds}
 pub use Rattle.store.specs.Lookup.{readElementNamed, ByName, FoundByName}
 pub use Rattle.store.specs.Description.{shapeOf, numbersOfPage, described, describedNumber, specifiedBy, specified, specifiedNumber, DescribedInFile}
 pub use Rattle.store.specs.Many.{rectangleInside, tileHolding}

@@ -1,5 +1,5 @@
-// What a page is and what an element of it is, in numbers. `shape_of` and `kind_of` make no check: they say what the fields of any
-// bytes hold, and serve a product that has made the check.
+// What a page is and what an element of it is, in numbers. `shape_of`, `kind_of` and `fill_pattern` make no check: they say what the fields
+// of any bytes hold, and serve a product that has made the check.
 use answer::Refusal;
 use answer::Verdict;
 use geometry::sizes;
@@ -77,6 +77,14 @@ pub fn kind_of(file: &[u8], e: u64) -> u32
 {
     let x = entries::element(file, e as usize);
     x.kind
+}
+
+// The bit pattern of its fill value.
+pub fn fill_pattern(file: &[u8], e: u64) -> u32
+    ensures { λ r. ⌜ r ≡ element (now (file .entry)) e .fill ⌝ }
+{
+    let x = entries::element(file, e as usize);
+    x.fill
 }
 
 // The numbers of a page that the check accepts.

@@ -14,10 +14,10 @@ ghost use lib.Dec.{leb};
 ghost use Rattle.wire.specs.Bytes.{put};
 ghost use Rattle.answer.specs.declared.Verdict.the-variants.{Accepted};
 ghost use Rattle.header.specs.Fields.{elementCount};
-ghost use Rattle.geometry.specs.Tiles.{tileCount};
+ghost use Rattle.geometry.specs.Tiles.{tileCount, cellInside};
 ghost use Rattle.page_check.specs.Stages.{check};
 ghost use Rattle.cells.specs.TileCells.{unpackedBits};
-ghost use Rattle.cells.specs.Many.{heldByDirectory, heldCell, Holds};
+ghost use Rattle.cells.specs.Many.{heldByDirectory, heldCell, bitsInside, Holds};
 ghost use Rattle.store.specs.Many.{rectangleInside, tileHolding};
 
 // What is held of an element in a tile, by the file's own directory. The memory takes the cells of a compressed content, row by row,
@@ -45,6 +45,28 @@ pub fn held_cell(
     ensures { λ r. ⌜ r ≡ heldCell (now (file .entry)) compressor held (now (memory .entry)) row column e ⌝ }
 {
     cells::many::cell_held(file, compressor, held, memory, row, column, e)
+}
+
+// A cell's number inside its tile.
+pub fn number_inside(file: &[u8], row: u32, column: u32) -> u64
+    ensures { λ r. ⌜ r ≡ cellInside (now (file .entry)) row column ⌝ }
+{
+    tiles::cell_inside(file, row, column)
+}
+
+// The bits of the cell with a number inside its tile, of an element of a type code and a fill, told from what is held and from the
+// memory: in a step or two, without a look at the grid.
+pub fn bits_inside(
+    file: &[u8],
+    kind: u32,
+    fill: u32,
+    held: Held,
+    memory: &[u32],
+    inside: u32,
+) -> u32
+    ensures { λ r. ⌜ r ≡ bitsInside (now (file .entry)) kind fill (now (memory .entry)) inside held ⌝ }
+{
+    cells::many::bits_inside(file, kind, fill, held, memory, inside)
 }
 
 // Whether n rows or columns from one on lie within a side of the grid, however large the sum.

@@ -1,36 +1,26 @@
 -- `rectangles::pieces::fill_row` meets its contract. Assumes nothing.
 use borrow.Author.Needs.{needs}
-use native.Mathlib.Omega.{arith}
-use Prim.Native.Nat.{_+_, _-_, _≤_}
-use mathlib.Core.Path.{refl}
-use Rattle.blocks.specs.Tables.{Inside}
-use Rattle.rectangles.specs.Pieces.{Told}
-use Rattle.rectangles.proofs.PieceLaws.{told-none, row-start, room-now, told-more, told-ends}
+use Rattle.rectangles.proofs.PieceLaws.{counted-row}
 use Rattle.rectangles.proofs.pieces.fill_row.Statement.{statement}
 use Rattle.rectangles.proofs.pieces.fill_row.Tie as tie
-
-abbrev Inv-loop : tie.InvT-loop
-Inv-loop file compressor held memory a r left right kinds₀ bits₀ first row c₀ kinds bits c = (left ≤ c) × ((c ≤ right) × Told file compressor a (Inside r (r + 1) left c) kinds₀ kinds bits₀ bits)
-
-abbrev μ-loop : tie.MeasureT-loop
-μ-loop file compressor held memory a r left right kinds₀ bits₀ first row c₀ kinds bits c = right - c
 
 pub fill-row-spec : {M : Type 1} → statement M
 fill-row-spec =
     tie.close
     (tie.spec
-    Inv-loop
-    μ-loop
-    (λ c. record { fits = omega (arith, row-start (c .before .before .before .before .before .args .a) (c .before .before .before .before .before .args .r) (c .before .before .before .before .before .pre .1 .0 .0) (c .before .before .before .before .before .pre .0)) })
-    (λ c. record { fits = omega arith })
-    (λ c. (omega arith, (omega arith, told-none _ _ _ _ _ (λ r d h. omega arith))))
-    (λ c. record { fits = omega arith })
     (λ c κs. search needs)
-    (λ c. record { fits = omega (arith, row-start (c .before .before .before .before .before .before .before .before .before .before .args .a) (c .before .before .before .before .before .before .before .before .before .before .args .r) (c .before .before .before .before .before .before .before .before .before .before .pre .1 .0 .0) (c .before .before .before .before .before .before .before .before .before .before .pre .0)) })
-    (λ c κs. room-now _ _ _ (c .before .before .before .before .before .loop .inv .1 .1) (c .before .before .before .before .before .before .before .before .before .before .before .before .pre .0) (c .before .before .before .before .before .before .before .before .before .before .before .before .pre .1 .0 .0) (omega arith))
-    (λ c. record { fits = omega arith })
-    (λ c. omega arith)
-    (λ c. (omega arith, (omega arith, told-more _ _ _ _ _ _ _ _ _ _ _ _ _ _ _ _ (c .before .before .before .before .before .before .before .before .before .before .loop .inv .1 .1) (c .before .before .before .before .before .before .before .before .before .before .before .before .before .before .before .before .before .pre .1 .1) (c .before .before .before .before .before .before .before .held-cell .ensures) (c .before .before .before .before .put-cell .ensures .0) (c .before .before .before .before .put-cell .ensures .1) (c .before .before .before .before .before .before .before .before .before .before .before .before .before .before .before .before .before .pre .0) (c .before .before .before .before .before .before .before .before .before .before .before .before .before .before .before .before .before .pre .1 .0 .0) (omega arith) (omega arith) (c .before .before .before .before .before .before .before .before .before .before .before .before .before .before .before .before .before .pre .1 .0 .1 .1))))
+    (λ c κs. search needs)
     (λ c. search needs)
     (λ c. search needs)
-    (λ c. told-ends (c .before .loop .inv .1 .1) refl (omega arith)))
+    (λ c. search needs)
+    (λ c. search needs)
+    (λ c. search needs)
+    (λ c. search needs)
+    (λ c. search needs)
+    (λ c κs. search needs)
+    (λ c κs. search needs)
+    (λ c κs. search needs)
+    (λ c κs. (c .before .before .before .before .before .before .before .before .before .before .before .before .before .pre .0, (c .before .before .before .before .before .before .before .before .before .before .before .before .before .pre .1 .0, counted-row _ _ _ _ _ _ _ _ _ _ _ _ (c .before .before .before .before .before .before .before .before .before .before .before .before .before .pre .1 .1) (c .before .before .before .before .before .before .before .before .held-kind .ensures) (c .before .before .before .before .before .before .before .if1 .left) (c .before .before .before .before .number-inside .ensures) (c .before .before .before .kind-of .ensures) (c .before .before .fill-pattern .ensures))))
+    (λ c. search needs)
+    (λ c. search needs)
+    (λ c. search needs))
