@@ -1,11 +1,12 @@
 /* Gridfour Virtual Raster Store files, version 1.4: the check of a file, whole or in two halves, what a page is, reads of its cells,
-   compressed ones too, M32 codes, its elements by their names, the laying down of a new one, and the listing of a file.
+   compressed ones too, whether its scores are certain, M32 codes, its elements by their names, the laying down of a new one, and the
+   listing of a file.
 
    Link with libgvrs_c.a, which `rt staticlib gvrs_c` writes to target/staticlib/. A file is the bytes of the whole file, n of
    them, but for gvrs_check_start. `out` takes the numbers that a function names, in their order; a shorter one takes those that
    fit, and the answer is the same. A lay-down also writes the buffer that it is given for the file, a listing the buffer for its
-   text, an unpacking that for the cells, gvrs_cells those for kinds and bits and the memory lent to it, M32 those for bytes and
-   numbers. Nothing else is written.
+   text, an unpacking that for the cells, gvrs_cells those for kinds and bits, M32 those for bytes and numbers; gvrs_cells and
+   gvrs_deed the memory lent to them. Nothing else is written.
 
    The caller sees to it that each pointer is that of as many elements as are named, and that none is null, also where it names
    none; that what is written (`out`, the buffers and the memory) overlaps nothing else that is passed; that numbers of 32 bits are
@@ -34,13 +35,16 @@ enum {
     GVRS_DIRECTORY = 9,    /* directory at fault */
     GVRS_OUTSIDE = 10,     /* row, column, element, tile or rectangle asked for not in the grid */
     GVRS_COMPRESSED = 11,  /* content asked for is compressed; of a cell: and not of the compressor index named, or of a Float */
-    GVRS_INPUT = 12,       /* input wrong: of a lay-down, or more first bytes than the stated length */
+    GVRS_INPUT = 12,       /* input wrong: of a lay-down, more first bytes than the stated length, or no scores to judge */
     GVRS_ROOM = 13,        /* lay-down output, or a buffer for the cells of a rectangle, too short */
     GVRS_MALFORMED = 14,   /* compressed content malformed, or a Short in it out of range */
     GVRS_INCOMPLETE = 16,  /* a byte that a stage needs is not given */
     GVRS_STORED = 32,      /* the cell is stored, the content is present, the name is found */
     GVRS_FILL = 33,        /* the cell is fill, the tile is absent, no element has the name */
-    GVRS_UNPACKED = 34     /* the cell comes out of compressed content */
+    GVRS_UNPACKED = 34,    /* the cell comes out of compressed content */
+    GVRS_CERTAIN = 64,     /* no cell is fill, and every score is from 900 to 1000 */
+    GVRS_DOUBTFUL = 65,    /* no cell is fill, and some score is not */
+    GVRS_UNREAD = 66       /* some cell is fill */
 };
 
 /* A refusal in words, by its number; README.md's table of refusals says more of each. Of any other number `no refusal`. */
@@ -136,6 +140,17 @@ uint32_t gvrs_unpack(const uint8_t *file, uint64_t n, uint64_t tile, uint64_t el
 uint32_t gvrs_cells(const uint8_t *file, uint64_t n, uint32_t compressor, uint64_t element, uint64_t row, uint64_t column,
                     uint64_t rows, uint64_t columns, uint32_t *memory, uint64_t memory_n, uint32_t *kinds, uint64_t kinds_n,
                     uint32_t *bits, uint64_t bits_n, uint64_t *out, uint64_t out_n);
+
+/* Judges the scores, in thousandths, of a Short element in a rectangle, given as for gvrs_cells: 64 certain, 65 doubtful, 66 unread.
+   out[0] is the number of fill cells; out[1] is 1 where there is a lowest stored score, else 0; out[2] is that score's 16 bits, as
+   gvrs_cell gives a Short's, else 0. A stored cell's number is its score, signed, whatever it is, also where it is the fill value; an
+   unpacked cell counts as stored; a fill has no score, whatever its value is. Else the refusal's number, out[0] is its place, and
+   out[1] and out[2] are 0. Refused, in this order: as by gvrs_check; 10 as by gvrs_cells; 12, at 0, where rows or columns is 0, or the
+   element is no Short; 11 or 14 where a cell of the rectangle has it, of the first by rows.
+
+   memory as for gvrs_cells: 524,288 numbers let every tile be unpacked once; fewer, or none, cost time and change no answer. */
+uint32_t gvrs_deed(const uint8_t *file, uint64_t n, uint32_t compressor, uint64_t element, uint64_t row, uint64_t column,
+                   uint64_t rows, uint64_t columns, uint32_t *memory, uint64_t memory_n, uint64_t *out, uint64_t out_n);
 
 /* The M32 codes of numbers, one behind the other: their length. `bytes` takes them where they fit, and what stands behind them stays;
    else it is as it was. A number is that of its 32 bits. */

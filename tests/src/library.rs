@@ -73,6 +73,20 @@ extern "C" {
         out: *mut u64,
         out_n: u64,
     ) -> u32;
+    fn gvrs_deed(
+        file: *const u8,
+        n: u64,
+        compressor: u32,
+        element: u64,
+        row: u64,
+        column: u64,
+        rows: u64,
+        columns: u64,
+        memory: *mut u32,
+        memory_n: u64,
+        out: *mut u64,
+        out_n: u64,
+    ) -> u32;
     fn gvrs_page(file: *const u8, n: u64, out: *mut u64, out_n: u64) -> u32;
     fn gvrs_element(file: *const u8, n: u64, element: u64, out: *mut u64, out_n: u64) -> u32;
     fn gvrs_m32_write(numbers: *const u32, numbers_n: u64, bytes: *mut u8, bytes_n: u64) -> u64;
@@ -261,6 +275,34 @@ pub fn cells_into(
             kinds.len() as u64,
             bits.as_mut_ptr(),
             bits.len() as u64,
+            out.as_mut_ptr(),
+            out.len() as u64,
+        )
+    }
+}
+
+/// The number. The scores of a rectangle are judged with a memory and an `out`, each of any length.
+pub fn deed_into(
+    file: &[u8],
+    rectangle: Rectangle,
+    compressor: u32,
+    memory: &mut [u32],
+    out: &mut [u64],
+) -> u32 {
+    let Rectangle { element, row, column, rows, columns } = rectangle;
+    // All three slices are alive for the whole call and do not overlap.
+    unsafe {
+        gvrs_deed(
+            file.as_ptr(),
+            file.len() as u64,
+            compressor,
+            element,
+            row,
+            column,
+            rows,
+            columns,
+            memory.as_mut_ptr(),
+            memory.len() as u64,
             out.as_mut_ptr(),
             out.len() as u64,
         )

@@ -53,6 +53,11 @@ pub short-bits-kept : (k n : ℕ) → k ≡ 3 → n < 2 ^ 16 → valueBits (valu
 unfolding valueOf
 short-bits-kept k n e h = rw e (ap (λ (m : ℕ). ofZ w16 (toZ w16 m)) (mod-eq-of-lt h) ∙ ofZ-toZ {w = w16} (record { fits = h }))
 
+-- a Short has no more than 16 bits
+pub short-small : (k n : ℕ) → k ≡ 3 → valueBits (valueOf k n) < 65536
+unfolding valueOf
+short-small k n e = let f : Fits w16 (n % 65536) = record { fits = omega arith } in rw (e, ofZ-toZ {w = w16} f) (omega arith)
+
 -- and the type code stays
 pub type-kept : (k n : ℕ) → k ≤ 3 → valueType (valueOf k n) ≡ k
 unfolding valueOf

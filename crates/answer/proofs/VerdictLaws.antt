@@ -2,11 +2,15 @@
 use Prim.Native.Nat.{ℕ}
 use mathlib.Core.Path.{_≡_, refl, sym, _∙_}
 use mathlib.Core.Bool.{Bool, true, false}
+use mathlib.Core.Logic.{_⊎_, inl, inr}
 use native.Mathlib.Omega.{arith}
 use Rattle.answer.specs.declared.Refusal.{Refusal}
 use Rattle.answer.specs.declared.Verdict.{Verdict}
 use Rattle.answer.specs.declared.Verdict.the-variants.{Accepted, Refused}
+use Rattle.answer.specs.declared.Cell.{Cell}
+use Rattle.answer.specs.declared.Cell.the-variants as cell
 use Rattle.answer.specs.Refusals.{gate, unlessRefused}
+use Rattle.answer.specs.Answers.{cellKind, cellVerdict}
 
 -- a refusal is no acceptance
 pub refused-not : {C : Type 0} {r : Refusal} → Refused r ≡ Accepted → C
@@ -25,6 +29,13 @@ pub behind-passed : (v w : Verdict) → unlessRefused Refused v w ≡ Accepted �
 unfolding unlessRefused
 behind-passed Accepted w e = (refl, e)
 behind-passed (Refused r) w e = refused-not e
+
+-- a cell that is not refused is stored, a fill or unpacked
+pub cell-kinds : (x : Cell) → cellVerdict x ≡ Accepted → (cellKind x ≡ 32) ⊎ ((cellKind x ≡ 33) ⊎ (cellKind x ≡ 34))
+cell-kinds (cell.Stored v at) e = inl refl
+cell-kinds (cell.Fill v) e = inr (inl refl)
+cell-kinds (cell.Unpacked v at) e = inr (inr refl)
+cell-kinds (cell.Refused r) e = refused-not e
 
 -- a function that asks a check and hands its refusal on
 

@@ -11,6 +11,8 @@ use Rattle.answer.specs.declared.Held.{Held}
 use Rattle.answer.specs.declared.Held.the-variants as held
 use Rattle.answer.specs.declared.Laid.{Laid}
 use Rattle.answer.specs.declared.Laid.the-variants as laid
+use Rattle.answer.specs.declared.Verdict.{Verdict}
+use Rattle.answer.specs.declared.Verdict.the-variants as verdict
 use Rattle.answer.specs.Refusals.{refusalNumber, refusalPlace}
 use Rattle.answer.specs.Values.{valueType, valueBits}
 
@@ -38,6 +40,13 @@ cellPlace (cell.Stored v at) = at
 cellPlace (cell.Fill v) = 0
 cellPlace (cell.Unpacked v at) = at
 cellPlace (cell.Refused r) = refusalPlace r
+
+-- its refusal as a check's; accepted where it is none
+abbrev pub cellVerdict : Cell → Verdict
+cellVerdict (cell.Stored v at) = verdict.Accepted
+cellVerdict (cell.Fill v) = verdict.Accepted
+cellVerdict (cell.Unpacked v at) = verdict.Accepted
+cellVerdict (cell.Refused r) = verdict.Refused r
 
 abbrev pub contentKind : Content → ℕ
 contentKind (content.Present at n) = 32
@@ -81,6 +90,14 @@ heldPlace (held.Unpacked at) = at
 heldPlace held.Absent = 0
 heldPlace held.Alone = 0
 heldPlace (held.Refused r) = refusalPlace r
+
+-- their refusal as a check's; accepted where it is none, or where they are looked up one by one
+abbrev pub heldVerdict : Held → Verdict
+heldVerdict (held.Stored at) = verdict.Accepted
+heldVerdict (held.Unpacked at) = verdict.Accepted
+heldVerdict held.Absent = verdict.Accepted
+heldVerdict held.Alone = verdict.Accepted
+heldVerdict (held.Refused r) = verdict.Refused r
 
 -- 0 where a page was laid down, else the refusal's number
 abbrev pub laidNumber : Laid → ℕ

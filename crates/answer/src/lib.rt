@@ -7,7 +7,7 @@ ghost use mir.Syntax.{w16, w32};
 ghost use mir.Val.{toZ, ofZ};
 ghost use Rattle.answer.specs.Refusals.{refusalNumber, refusalPlace, verdictNumber, verdictPlace};
 ghost use Rattle.answer.specs.Values.{valueOf, valueType, valueBits};
-ghost use Rattle.answer.specs.Answers.{cellKind, cellType, cellBits, cellPlace, contentKind, contentPlace, contentLength, heldKind, heldPlace, lookupKind, lookupNumber, laidNumber};
+ghost use Rattle.answer.specs.Answers.{cellKind, cellType, cellBits, cellPlace, cellVerdict, contentKind, contentPlace, contentLength, heldKind, heldPlace, lookupKind, lookupNumber, laidNumber};
 
 // Document 01's thirteen refusals, in their order, with a place where it gives one that varies; then document 02's:
 // compressed content is malformed, and a byte that a stage needs is not given.
@@ -167,7 +167,7 @@ fn signed_32(bits: u32) -> i32
     0 - 1 - ((0xFFFF_FFFF - bits) as i32)
 }
 
-fn signed_16(bits: u16) -> i16
+pub fn signed_16(bits: u16) -> i16
     ensures { λ r. ⌜ r ≡ toZ w16 bits ⌝ }
 {
     if bits < 0x8000 {
@@ -185,7 +185,7 @@ fn bits_32(z: i32) -> u32
     0xFFFF_FFFF - ((0 - 1 - z) as u32)
 }
 
-fn bits_16(z: i16) -> u16
+pub fn bits_16(z: i16) -> u16
     ensures { λ r. ⌜ r ≡ ofZ w16 z ⌝ }
 {
     if 0 <= z {
@@ -279,6 +279,18 @@ pub fn cell_place(x: Cell) -> usize
         Cell::Fill { value: _ } => 0,
         Cell::Unpacked { value: _, place } => place,
         Cell::Refused(r) => refusal_place(r),
+    }
+}
+
+// A cell answer's refusal as a check's; accepted where it is none.
+pub fn cell_verdict(x: Cell) -> Verdict
+    ensures { λ r. ⌜ r ≡ cellVerdict x ⌝ }
+{
+    match x {
+        Cell::Stored { value: _, place: _ } => Verdict::Accepted,
+        Cell::Fill { value: _ } => Verdict::Accepted,
+        Cell::Unpacked { value: _, place: _ } => Verdict::Accepted,
+        Cell::Refused(r) => Verdict::Refused(r),
     }
 }
 

@@ -59,3 +59,11 @@ module _ (first at side end : ℕ) (p : 1 ≤ side) where
       record {
         each = λ x h k. div-eq-of-lt-le side (omega (arith, div-add-mod' (first + at) side)) (omega arith);
       }
+
+-- the next piece of a part, by the code's block end and its side
+
+module _ (first at side end r t : ℕ) (e : r ≡ blockEnd first at side end) (q : side ≡ t) (p : 1 ≤ t) where
+  pub piece-next : at < end → (at < r) × ((r ≤ end) × OneBlock first at r t)
+  piece-next h =
+      let l : 1 ≤ side = omega arith in
+      rw (← q, e) (block-more first at side end l h, (block-within first at side end l, block-same first at side end l))

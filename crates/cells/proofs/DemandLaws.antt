@@ -16,9 +16,9 @@ use Rattle.answer.specs.declared.Value.{Value}
 use Rattle.answer.specs.declared.Cell.the-variants as cell
 use Rattle.answer.specs.declared.Content.the-variants as content
 use Rattle.answer.specs.Values.{valueBits, valueOf}
-use Rattle.answer.specs.Answers.{cellKind, cellPlace}
+use Rattle.answer.specs.Answers.{cellKind, cellBits, cellPlace}
 use Rattle.answer.specs.Refusals.{unlessRefused}
-use Rattle.answer.proofs.ValueLaws.{short-bits-kept, bits-kept}
+use Rattle.answer.proofs.ValueLaws.{short-bits-kept, short-small, bits-kept}
 use Rattle.record.specs.declared.Found.{Found}
 use Rattle.record.specs.declared.Found.the-variants.{At, Nothing}
 use Rattle.record.specs.Chain.{headerEnd, records}
@@ -45,7 +45,7 @@ use Rattle.cells.specs.Demand3.{bytesOfCell, Demand3, ContentInside}
 use Rattle.cells.specs.Meaning.{meaning, contentMeaning, heldMeaning}
 use Rattle.cells.specs.TileCells.{contentIn, packed, fillOf, unpackable, unpackedIn, unpackedAt, packedCell, cellIn, storedAt, offsetIn, placeIn, heldIn, heldBits, heldCount}
 use Rattle.cells.specs.Reads.{readByDirectory, readByWalk, readByRecords}
-use Rattle.cells.specs.Demand2.{Demand2Bits, RightBits}
+use Rattle.cells.specs.Demand2.{Demand2Bits, RightBits, ShortBits}
 use Rattle.cells.specs.Compressor.{OldReads, ContentStays, OnlyPacked, UnpackedWhere, EachCell, HeldEach, HeldCounted}
 use Rattle.cells.proofs.CellLaws.{grid-means, tiles-mean, tiles-in, sides-mean, above-bytes}
 use Rattle.cells.proofs.HeldLaws.{stored-cell, stored-long, in-at}
@@ -173,6 +173,23 @@ demand-2-bits s b ci row column e = go (inGrid s row column e) refl (meant s (ce
               unpacked = λ h. rw (i, j, k, l, m) (unpacked-bits s x e (cellInside s row column) v m);
             }
 
+pub short-bits : ShortBits
+unfolding meaning cellBy fillOf cellIn packedCell storedAt
+short-bits s ci row column e q = go (inGrid s row column e) refl (meant s (cellTile s row column)) refl
+  where
+    go : (c : Bool) → inGrid s row column e ≡ c → (f : Found) → meant s (cellTile s row column) ≡ f → cellBits (meaning s ci row column e) < 65536
+    go false i f j = rw i (omega arith)
+    go true i Nothing j = rw (i, j) (short-small _ _ q)
+    go true i (At x) j = by (packed s x e) refl (unpackable s ci x e) refl (cellAt (unpackedIn s x e) (cellInside s row column)) refl
+      where
+        by :
+            (d : Bool) → packed s x e ≡ d → (g : Bool) → unpackable s ci x e ≡ g → (r : Unpacked) → cellAt (unpackedIn s x e) (cellInside s row column) ≡ r →
+            cellBits (meaning s ci row column e) < 65536
+        by false k g l r m = rw (i, j, k) (short-small _ _ q)
+        by true k false l r m = rw (i, j, k, l) (omega arith)
+        by true k true l out.Malformed m = rw (i, j, k, l, m) (omega arith)
+        by true k true l (out.Cell v) m = rw (i, j, k, l, m) (short-small _ _ q)
+
 -- what the compressor index changes
 
 pub old-reads : OldReads
@@ -223,7 +240,7 @@ content-long s x e w = whole-long _ (tileRows s) (tileColumns s) _ (ap isWhole (
 
 pub held-each : HeldEach
 unfolding meaning cellBy heldMeaning tileBy fillOf cellIn packedCell storedAt heldIn placeIn offsetIn cellInside
-held-each s b a ci row column e g = go (meant s (cellTile s row column)) refl
+held-each s a ci row column e g = go (meant s (cellTile s row column)) refl
   where
     d : Sides s
     d = sides-mean s (check-lawful s a)
@@ -249,18 +266,19 @@ held-each s b a ci row column e g = go (meant s (cellTile s row column)) refl
     by x false ep q eq w ew j =
         record {
           kind = rw (g, i, j, ep);
-          bits = λ h. rw (g, i, j, ep) (value-bits s b (element s e .kind) _ ∙ sym (stored-cell s (element s e .kind) (elementContentAt s x e) (tileRows s * tileColumns s) n few));
+          verdict = rw (g, i, j, ep);
+          bits = λ b h. rw (g, i, j, ep) (value-bits s b (element s e .kind) _ ∙ sym (stored-cell s (element s e .kind) (elementContentAt s x e) (tileRows s * tileColumns s) n few));
         }
-    by x true ep false eq w ew j = record { kind = rw (g, i, j, ep, eq); bits = λ h. neither 11 (λ y. omega arith) (λ y. omega arith) (rw (i, j, ep, eq) at h) }
+    by x true ep false eq w ew j = record { kind = rw (g, i, j, ep, eq); verdict = rw (g, i, j, ep, eq); bits = λ b h. neither 11 (λ y. omega arith) (λ y. omega arith) (rw (i, j, ep, eq) at h) }
     by x true ep true eq false ew j =
         let m = not-whole-cell (unpackedIn s x e) n ew in
-        record { kind = rw (g, i, j, ep, eq, ew, m); bits = λ h. neither 14 (λ y. omega arith) (λ y. omega arith) (rw (i, j, ep, eq, ew) at h) }
+        record { kind = rw (g, i, j, ep, eq, ew, m); verdict = rw (g, i, j, ep, eq, ew, m); bits = λ b h. neither 14 (λ y. omega arith) (λ y. omega arith) (rw (i, j, ep, eq, ew) at h) }
     by x true ep true eq true ew j =
         let m = whole-cell (unpackedIn s x e) n ew in
-        record { kind = rw (g, i, j, ep, eq, ew, m); bits = λ h. rw (g, i, j, ep, eq, ew, m) (unpacked-bits s x e n _ m) }
+        record { kind = rw (g, i, j, ep, eq, ew, m); verdict = rw (g, i, j, ep, eq, ew, m); bits = λ b h. rw (g, i, j, ep, eq, ew, m) (unpacked-bits s x e n _ m) }
 
     go : (f : Found) → meant s (cellTile s row column) ≡ f → EachCell s ci row column e (heldMeaning s ci (cellTile s row column) e)
-    go Nothing j = record { kind = rw (g, i, j); bits = λ h. neither 33 (λ y. omega arith) (λ y. omega arith) (rw (i, j) at h) }
+    go Nothing j = record { kind = rw (g, i, j); verdict = rw (g, i, j); bits = λ b h. neither 33 (λ y. omega arith) (λ y. omega arith) (rw (i, j) at h) }
     go (At x) j = by x (packed s x e) refl (unpackable s ci x e) refl (isWhole (unpackedIn s x e)) refl j
 
 pub held-counted : HeldCounted

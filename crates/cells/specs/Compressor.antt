@@ -11,7 +11,7 @@ use Rattle.answer.specs.declared.Refusal.the-variants.{Compressed, Malformed}
 use Rattle.answer.specs.declared.Value.{Value}
 use Rattle.answer.specs.declared.Held.{Held}
 use Rattle.answer.specs.declared.Verdict.the-variants.{Accepted}
-use Rattle.answer.specs.Answers.{cellKind, cellBits, heldKind}
+use Rattle.answer.specs.Answers.{cellKind, cellBits, cellVerdict, heldKind, heldVerdict}
 use Rattle.answer.specs.declared.Cell.the-variants.{Unpacked, Refused}
 use Rattle.answer.specs.declared.Content.the-variants as content
 use Rattle.bodies.specs.TileRecord.{elementContentAt}
@@ -41,15 +41,16 @@ pub record OnlyPacked (s : List ℕ) (ci x row column e : ℕ) : Type 0 where
 abbrev pub UnpackedWhere : Type 0
 UnpackedWhere = (s : List ℕ) (ci x row column e : ℕ) → OnlyPacked s ci x row column e
 
--- what is said of all cells of an element in a tile is what is said of each: their kind is its kind, and its bits stand among theirs at
--- its number inside the tile
+-- what is said of all cells of an element in a tile is what is said of each: their kind is its kind, their refusal its refusal, and its
+-- bits stand among theirs at its number inside the tile
 pub record EachCell (s : List ℕ) (ci row column e : ℕ) (h : Held) : Type 0 where
   pub kind : cellKind (meaning s ci row column e) ≡ heldKind h
-  pub bits : (heldKind h ≡ 32) ⊎ (heldKind h ≡ 34) → cellBits (meaning s ci row column e) ≡ getD (heldBits s e h) (cellInside s row column) 0
+  pub verdict : cellVerdict (meaning s ci row column e) ≡ heldVerdict h
+  pub bits : Bytes s → (heldKind h ≡ 32) ⊎ (heldKind h ≡ 34) → cellBits (meaning s ci row column e) ≡ getD (heldBits s e h) (cellInside s row column) 0
 
 abbrev pub HeldEach : Type 0
 HeldEach =
-    (s : List ℕ) → Bytes s → check s ≡ Accepted → (ci row column e : ℕ) → inGrid s row column e ≡ true →
+    (s : List ℕ) → check s ≡ Accepted → (ci row column e : ℕ) → inGrid s row column e ≡ true →
     EachCell s ci row column e (heldMeaning s ci (cellTile s row column) e)
 
 -- and there are as many bits as cells

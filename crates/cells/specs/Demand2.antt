@@ -1,11 +1,11 @@
 -- Demand 2: a cell reads with the right bits, as they stand in the file. `s` is any file of bytes.
-use Prim.Native.Nat.{ℕ}
+use Prim.Native.Nat.{ℕ, _<_}
 use mathlib.Core.Path.{_≡_}
 use mathlib.Core.List.{List}
 use lib.ListN.{getD}
 use Rattle.wire.specs.Bytes.{Bytes, numberAt}
 use Rattle.answer.specs.Answers.{cellKind, cellBits, cellPlace}
-use Rattle.header.specs.Element.{cellSize, element}
+use Rattle.header.specs.Element.{cellSize, shortKind, element}
 use Rattle.geometry.specs.Tiles.{cellInside}
 use Rattle.unpack.specs.Unpack.{cellsIn}
 use Rattle.cells.specs.TileCells.{unpackedAt}
@@ -23,3 +23,7 @@ pub record RightBits (s : List ℕ) (ci row column e : ℕ) : Type 0 where
 
 abbrev pub Demand2Bits : Type 0
 Demand2Bits = (s : List ℕ) → Bytes s → (ci row column e : ℕ) → RightBits s ci row column e
+
+-- a Short's are 16, on any file
+abbrev pub ShortBits : Type 0
+ShortBits = (s : List ℕ) (ci row column e : ℕ) → element s e .kind ≡ shortKind → cellBits (meaning s ci row column e) < 65536

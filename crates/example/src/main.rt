@@ -1,17 +1,21 @@
 // crates/example/src/main.rt
 //
-// A product above the store: it prints what the page is that its first argument names, and some of its elements, cells and contents. It
-// lists the crates `store` and `answer`, and none below them.
+// A product above the store: it judges rectangles of the page that its first argument names, and prints what the page is and some of its
+// elements, cells and contents. It lists the crates `deeds`, `store` and `answer`, and none below them.
 use answer::Cell;
 use answer::Content;
 use answer::Lookup;
 use answer::Refusal;
+use deeds::Deed;
+use deeds::Grade;
+use deeds::Lowest;
 use libc::STDOUT_FILENO;
 use store::description;
 use store::description::Described;
 use store::description::Specified;
 ghost use mathlib.Core.Path.{_≡_};
 ghost use Rattle.store.specs.Face.{readMeaning};
+ghost use Rattle.deeds.specs.Deeds.{deed};
 
 // A cell of element 0. It is proved that by the walk and by the directory this is what the bytes mean, or why they are refused. Compressed
 // content is unpacked only where it has the compressor index that is named, here 256, which none has.
@@ -19,6 +23,14 @@ fn cell(file: &[u8], row: u64, column: u64, walk: bool) -> Cell
     ensures { λ r. ⌜ r ≡ readMeaning (now (file .entry)) 256 row column 0 ⌝ }
 {
     store::cell_of(file, 256, row, column, 0, walk)
+}
+
+// Whether the scores of element 0 in a rectangle are certain, doubtful or unread. It is proved that this goes by the cells' meaning.
+fn judged(file: &[u8], row: u64, column: u64, rows: u64, columns: u64) -> Deed
+    ensures { λ r. ⌜ r ≡ deed (now (file .entry)) 256 0 row column rows columns ⌝ }
+{
+    let mut memory = [0u32; 4];
+    deeds::judge(file, 256, 0, row, column, rows, columns, &mut memory)
 }
 
 fn print(text: &[u8], number: u64) {
@@ -29,6 +41,47 @@ fn print(text: &[u8], number: u64) {
 fn print_refusal(r: Refusal) {
     print(b"refused ", answer::refusal_number(r) as u64);
     print(b" at ", answer::refusal_place(r) as u64);
+}
+
+fn print_grade(x: Grade) {
+    match x {
+        Grade::Certain => {
+            io::write_all(STDOUT_FILENO, b"certain");
+        }
+        Grade::Doubtful => {
+            io::write_all(STDOUT_FILENO, b"doubtful");
+        }
+        Grade::Unread => {
+            io::write_all(STDOUT_FILENO, b"unread");
+        }
+    }
+}
+
+// The lowest score by its bits.
+fn print_lowest(x: Lowest) {
+    match x {
+        Lowest::Score(z) => print(b", lowest ", answer::bits_16(z) as u64),
+        Lowest::None => {
+            io::write_all(STDOUT_FILENO, b", no score");
+        }
+    }
+}
+
+fn print_deed(label: &[u8], x: Deed) {
+    io::write_all(STDOUT_FILENO, label);
+    match x {
+        Deed::Graded {
+            grade,
+            fills,
+            lowest,
+        } => {
+            print_grade(grade);
+            print(b", fills ", fills);
+            print_lowest(lowest);
+        }
+        Deed::Refused(r) => print_refusal(r),
+    }
+    io::write_all(STDOUT_FILENO, b"\n");
 }
 
 // The tiles of the page, and where its header ends.
@@ -113,6 +166,14 @@ fn print_content(label: &[u8], file: &[u8], tile: u64) {
     io::write_all(STDOUT_FILENO, b"\n");
 }
 
+fn print_deeds(file: &[u8]) {
+    print_deed(b"scores of tile 2 in the grid: ", judged(file, 2, 0, 1, 2));
+    print_deed(b"scores of the whole grid: ", judged(file, 0, 0, 3, 3));
+    print_deed(b"scores of tile 0: ", judged(file, 0, 0, 2, 2));
+    print_deed(b"scores of a row more: ", judged(file, 0, 0, 4, 3));
+    print_deed(b"scores of no row: ", judged(file, 3, 0, 0, 3));
+}
+
 fn print_page(file: &[u8]) {
     print_tiles(b"tiles: ", file);
     print_specification(b"element 0: ", file, 0);
@@ -144,5 +205,6 @@ fn main() {
     let mut file = io::large_buffer();
     let n = io::read_full(fd, &mut file);
     libc::close(fd);
+    print_deeds(&file[..n]);
     print_page(&file[..n]);
 }

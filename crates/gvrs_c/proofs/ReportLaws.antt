@@ -52,6 +52,12 @@ pub one-told :
     (n ≡ kind y) × (p ≡ reported (number y ∷ []) o)
 one-told kind number o p x y n a e f g h = (h ∙ ap kind e, g ∙ one-reported o a ∙ rw (f, e))
 
+-- and three numbers of it
+pub three-told :
+    {A : Type 0} (kind f g h : A → ℕ) (o p q t : List ℕ) (x y : A) (n a b c : ℕ) → x ≡ y → a ≡ f x → p ≡ set o 0 a → b ≡ g x → q ≡ set p 1 b → c ≡ h x → t ≡ set q 2 c →
+    n ≡ kind x → (n ≡ kind y) × (t ≡ reported (f y ∷ g y ∷ h y ∷ []) o)
+three-told kind f g h o p q t x y n a b c e i j k l u v w = (w ∙ ap kind e, v ∙ rw (l, j) (three-reported o a b c ∙ rw (i, k, u, e)))
+
 -- a check's number and place
 pub checked :
     (s o p : List ℕ) (v : Verdict) (n a : ℕ) → v ≡ check s → a ≡ verdictPlace v → p ≡ set o 0 a → n ≡ verdictNumber v →
@@ -101,17 +107,14 @@ route-means route s ci row column e = go (eqb route 1) refl (eqb route 2) refl
     go false f true g = records-read s ci row column e
     go false f false g = directory-read s ci row column e
 
--- what is said of a cell's answer x
-abbrev Told : ℕ → List ℕ → List ℕ → Cell → Type 0
-Told n t o x = (n ≡ cellKind x) × (t ≡ reported (cellNumbers x) o)
-
 pub cell-told :
     (route : ℕ) (s : List ℕ) (ci row column e : ℕ) (o p q t : List ℕ) (x : Cell) (n a b c : ℕ) → x ≡ readBy route s ci row column e →
     a ≡ cellType x → p ≡ set o 0 a → b ≡ cellBits x → q ≡ set p 1 b → c ≡ cellPlace x → t ≡ set q 2 c → n ≡ cellKind x →
-    (n ≡ cellKind (readBy route s ci row column e)) × ((t ≡ reported (cellNumbers (readBy route s ci row column e)) o) × Told n t o (meaningBy route s ci row column e))
+    (n ≡ cellKind (readBy route s ci row column e))
+    × ((t ≡ reported (cellNumbers (readBy route s ci row column e)) o)
+    × ((n ≡ cellKind (meaningBy route s ci row column e)) × (t ≡ reported (cellNumbers (meaningBy route s ci row column e)) o)))
 cell-told route s ci row column e o p q t x n a b c d f g h i j k l =
-    let told : Told n t o x = (l, k ∙ rw (i, g) (three-reported o a b c ∙ rw (f, h, j))) in
-    let by : Told n t o (readBy route s ci row column e) = rw d at told in
+    let by = three-told cellKind cellType cellBits cellPlace o p q t x (readBy route s ci row column e) n a b c d f g h i j k l in
     (by .0, (by .1, rw (route-means route s ci row column e) at by))
 
 -- an element's content

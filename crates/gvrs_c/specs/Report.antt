@@ -8,6 +8,9 @@ use Rattle.answer.specs.declared.Laid.{Laid}
 use Rattle.answer.specs.declared.Laid.the-variants.{Length, Refused}
 use Rattle.answer.specs.Refusals.{refusalPlace, verdictNumber, verdictPlace}
 use Rattle.answer.specs.Answers.{cellType, cellBits, cellPlace, contentPlace, contentLength, heldPlace}
+use Rattle.deeds.specs.declared.Deed.{Deed}
+use Rattle.deeds.specs.declared.Deed.the-variants as deeds
+use Rattle.deeds.specs.Deeds.{deedHasLowest, deedLowestBits}
 use lib.Dec.{eqb}
 use Rattle.wire.specs.Pick.{pick}
 use Rattle.check_header.specs.Start.{checkStart, needed}
@@ -38,3 +41,11 @@ heldNumbers s x = heldPlace x ∷ heldCount s x ∷ []
 abbrev pub laidReport : Laid → ℕ
 laidReport (Length n) = n
 laidReport (Refused r) = refusalPlace r
+
+-- a deed's: the number of fill cells, or the refusal's place; then whether there is a lowest score, and its bits
+abbrev pub deedReport : Deed → ℕ
+deedReport (deeds.Graded grade fills lowest) = fills
+deedReport (deeds.Refused r) = refusalPlace r
+
+abbrev pub deedNumbers : Deed → List ℕ
+deedNumbers x = deedReport x ∷ deedHasLowest x ∷ deedLowestBits x ∷ []

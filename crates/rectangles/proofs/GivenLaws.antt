@@ -1,5 +1,5 @@
 -- What the call answers and writes, by its tests in their order. Assumes nothing.
-use Prim.Native.Nat.{ℕ, _+_, _*_, _≤_}
+use Prim.Native.Nat.{ℕ, _*_, _≤_}
 use mathlib.Core.Path.{_≡_, sym, _∙_}
 use mathlib.Core.List.{List, [], _∷_}
 use mathlib.Core.Bool.{Bool, true, false}
@@ -16,15 +16,15 @@ use Rattle.answer.specs.declared.Verdict.{Verdict}
 use Rattle.answer.specs.declared.Verdict.the-variants as verdict
 use Rattle.answer.specs.Answers.{cellKind, cellBits}
 use Rattle.answer.specs.Refusals.{unlessRefused}
-use Rattle.store.specs.Face.{mostGridSide, check, rectangleInside}
-use Rattle.store.proofs.ManyLaws.{inside-means, sides-accepted}
+use Rattle.store.specs.declared.many.Rectangle.{Rectangle}
+use Rattle.store.specs.Face.{mostGridSide, check, rectangleInside, Accepts}
+use Rattle.store.proofs.PieceLaws.{rectangle-small}
 use Rattle.blocks.specs.Tables.{Inside}
 use Rattle.blocks.proofs.TableLaws.{tabled-long, tabled-at, filled-all}
 use Rattle.rectangles.specs.declared.Given.{Given}
 use Rattle.rectangles.specs.declared.Given.the-variants.{Cells, Refused}
-use Rattle.rectangles.specs.declared.pieces.Rectangle.{Rectangle}
 use Rattle.rectangles.specs.Rectangles.{roomFor, givenIn, cellsGiven, cellSays, written, CellsByRows}
-use Rattle.rectangles.specs.Pieces.{HasRoom, Accepts, Told}
+use Rattle.rectangles.specs.Pieces.{HasRoom, Told}
 
 -- nothing is written of a refused call
 pub none-written : (x : Given) (r : Refusal) (k b : List ℕ) → Refused r ≡ x → (Refused r ≡ x) × ((k ≡ put k 0 []) × (b ≡ put b 0 []))
@@ -37,20 +37,14 @@ unfolding givenIn roomFor
 no-room rows columns kn bn f = rw (← no ((rows * columns ≤? kn) ∷ (rows * columns ≤? bn) ∷ []) (λ h. f (h .0) (h .1 .0)))
 
 module _ (s : List ℕ) (a : Rectangle) (g : Accepts s a) where
-  small : (a .row + a .rows ≤ mostGridSide) × (a .column + a .columns ≤ mostGridSide)
-  small =
-      let m = inside-means s (a .e) (a .row) (a .column) (a .rows) (a .columns) (g .inside) in
-      let q = sides-accepted s (g .accepted) in
-      (omega arith, omega arith)
-
   pub cells-few : a .rows * a .columns ≤ mostGridSide * mostGridSide
   cells-few =
-      let p : a .rows ≤ mostGridSide = omega (arith, small) in
-      let q : a .columns ≤ mostGridSide = omega (arith, small) in
+      let p : a .rows ≤ mostGridSide = omega (arith, rectangle-small s a g) in
+      let q : a .columns ≤ mostGridSide = omega (arith, rectangle-small s a g) in
       mul-le-mul p q
 
   pub has-room : (k b : List ℕ) → a .rows * a .columns ≤ length k → a .rows * a .columns ≤ length b → HasRoom a k b
-  has-room k b p q = record { rows-small = small .0; columns-small = small .1; kinds = p; bits = q }
+  has-room k b p q = let small = rectangle-small s a g in record { rows-small = small .0; columns-small = small .1; kinds = p; bits = q }
 
 pub all-given :
     (s : List ℕ) (ci : ℕ) (a : Rectangle) (k k′ b b′ : List ℕ) → Told s ci a (Inside 0 (a .rows) 0 (a .columns)) k k′ b b′ → a .rows * a .columns ≤ length k →

@@ -1,24 +1,19 @@
--- Pieces of a rectangle, a cell, a row, a tile and a row of tiles at a time. Assumes nothing.
+-- Pieces of a rectangle told, a cell, a row, a tile and a row of tiles at a time. Assumes nothing.
 use Prim.Native.Nat.{ℕ, _+_, _-_, _*_, _≤_, _<_}
 use mathlib.Core.Path.{_≡_, sym, ap, _∙_}
 use mathlib.Core.List.{List}
-use mathlib.Core.Bool.{true}
 use native.Mathlib.Omega.{arith}
 use native.Mathlib.Nat.{mul-le-mul}
 use lib.ListN.{length, set}
-use Rattle.answer.specs.declared.Verdict.the-variants.{Accepted}
 use Rattle.answer.specs.declared.Cell.{Cell}
 use Rattle.answer.specs.declared.Held.{Held}
 use Rattle.answer.specs.Answers.{cellKind, cellBits, heldKind}
-use Rattle.store.specs.Face.{mostGridSide, element, check, meaning, inGrid, heldCell, bitsInside, Holds, cellTile, cellInside, tileHolding, tileCount, tileRows, tileColumns, elementCount}
-use Rattle.store.proofs.ManyLaws.{inside-means, inside-cell, holding-is, sides-accepted, tile-there, same-tile, inside-few, told-along}
-use Rattle.blocks.specs.Blocks.{blockEnd, OneBlock}
+use Rattle.store.specs.declared.many.Rectangle.{Rectangle}
+use Rattle.store.specs.Face.{mostGridSide, meaning, heldCell, bitsInside, Counted, Answered}
 use Rattle.blocks.specs.Tables.{Inside, Filled}
-use Rattle.blocks.proofs.BlockLaws.{block-more, block-within, block-same}
 use Rattle.blocks.proofs.TableLaws.{place-less, filled-none, filled-one, filled-under, filled-beside}
-use Rattle.rectangles.specs.declared.pieces.Rectangle.{Rectangle}
 use Rattle.rectangles.specs.Rectangles.{cellSays}
-use Rattle.rectangles.specs.Pieces.{HasRoom, Counted, Answered, Accepts, OneTile, Told}
+use Rattle.rectangles.specs.Pieces.{HasRoom, Told}
 
 -- nothing is told yet
 pub told-none :
@@ -89,8 +84,7 @@ module _ {s : List ℕ} {ci : ℕ} {a : Rectangle} {top bottom left right mid : 
       Told s ci a (Inside top bottom left right) k k₂ b b₂
   told-beside p q w h l = record { kinds = filled-beside (p .kinds) (q .kinds) w h l; bits = filled-beside (p .bits) (q .bits) w h l }
 
--- what is asked of the next
-
+-- room for the next
 pub room-still : {s : List ℕ} {ci : ℕ} {a : Rectangle} {area : ℕ → ℕ → Type 0} {k k′ b b′ : List ℕ} → Told s ci a area k k′ b b′ → HasRoom a k b → HasRoom a k′ b′
 room-still t f =
     record {
@@ -99,59 +93,3 @@ room-still t f =
       kinds = omega (arith, t .kinds .long, f .kinds);
       bits = omega (arith, t .bits .long, f .bits);
     }
-
-pub answered-row :
-    {s : List ℕ} {ci : ℕ} {a : Rectangle} {x : Held} {m : List ℕ} {top bottom left right : ℕ} (r : ℕ) → Answered s ci a x m top bottom left right → top ≤ r → r < bottom →
-    Answered s ci a x m r (r + 1) left right
-answered-row r n h l = record { each = λ i c k. n .each i c (omega arith); counted = λ z i k u. n .counted z i (omega arith) (omega arith) }
-
-pub counted-row :
-    (s : List ℕ) (ci : ℕ) (a : Rectangle) (x : Held) (m : List ℕ) (r left right n kind fill start : ℕ) → Answered s ci a x m r (r + 1) left right → n ≡ heldKind x → (n ≡ 0 → ⊥) →
-    start ≡ cellInside s (a .row + r) (a .column + left) → kind ≡ element s (a .e) .kind → fill ≡ element s (a .e) .fill → Counted s ci a x m kind fill start r left right
-counted-row s ci a x m r left right n kind fill start w e f p q t = rw (p, q, t) (w .counted (λ z. f (e ∙ z)) r (omega arith) (omega arith))
-
--- what is held of the tile of a piece's first cell answers for the piece
-
-pub in-grid : (s : List ℕ) (a : Rectangle) → Accepts s a → (r c : ℕ) → r < a .rows → c < a .columns → inGrid s (a .row + r) (a .column + c) (a .e) ≡ true
-in-grid s a g r c h k = inside-cell s (a .e) (a .row) (a .column) (a .rows) (a .columns) (g .inside) r c h k
-
-pub answered-tile :
-    (s : List ℕ) (ci : ℕ) (a : Rectangle) (top bottom left right tile : ℕ) (x : Held) (m : List ℕ) → tile ≡ tileHolding s (a .row + top) (a .column + left) →
-    (check s ≡ Accepted → tile < tileCount s → a .e < elementCount s → Holds s ci tile (a .e) x m) → Accepts s a → OneTile s a top bottom left right →
-    (top < bottom) × ((bottom ≤ a .rows) × ((left < right) × (right ≤ a .columns))) → Answered s ci a x m top bottom left right
-answered-tile s ci a top bottom left right tile x m q h g o i =
-    let n = in-grid s a g top left (omega arith) (omega arith) in
-    let e : tile ≡ cellTile s (a .row + top) (a .column + left) = q ∙ holding-is s _ _ (a .e) n in
-    let l = tile-there s (g .accepted) _ _ (a .e) n in
-    let y = h (g .accepted) (omega arith) (l .1) in
-    let w = inside-means s (a .e) (a .row) (a .column) (a .rows) (a .columns) (g .inside) in
-    let d = sides-accepted s (g .accepted) in
-    let along : (heldKind x ≡ 0 → ⊥) → (r c : ℕ) → top ≤ r → r < bottom → left ≤ c → c < right →
-    (cellKind (meaning s ci (a .row + r) (a .column + c) (a .e)) ≡ heldKind x)
-    × (cellBits (meaning s ci (a .row + r) (a .column + c) (a .e)) ≡ bitsInside s (element s (a .e) .kind) (element s (a .e) .fill) m (cellInside s (a .row + r) (a .column + left) + (c - left)) x) =
-    λ z r c b u l v.
-    told-along s (g .accepted) ci tile (a .e) x m y z (a .row + r) (a .column + left) (a .column + c) (c - left) (omega arith) (in-grid s a g r c (omega arith) (omega arith))
-    (o .each r left (omega arith) ∙ sym e) (o .each r c (omega arith) ∙ sym e) in
-    record {
-      each = λ r c k. y .each _ _ (in-grid s a g r c (omega arith) (omega arith)) (o .each r c k ∙ sym e);
-      counted = λ z r b u.
-          record {
-            small = omega (arith, inside-few s (g .accepted) (a .row + r) (a .column + left), w .1 .1, d .columns .1);
-            kinds = λ c l v. along z r c b u l v .0;
-            bits = λ c l v. along z r c b u l v .1;
-          };
-    }
-
--- the next piece, by the code's block end
-
-module _ (first at side end r : ℕ) (t : ℕ) (e : r ≡ blockEnd first at side end) (q : side ≡ t) (p : 1 ≤ t) where
-  pub piece-next : at < end → (at < r) × ((r ≤ end) × OneBlock first at r t)
-  piece-next h =
-      let l : 1 ≤ side = omega arith in
-      rw (← q, e) (block-more first at side end l h, (block-within first at side end l, block-same first at side end l))
-
--- a block of rows and a block of columns have one tile
-pub piece-tile :
-    (s : List ℕ) (a : Rectangle) (top bottom left right : ℕ) → OneBlock (a .row) top bottom (tileRows s) → OneBlock (a .column) left right (tileColumns s) →
-    OneTile s a top bottom left right
-piece-tile s a top bottom left right p q = record { each = λ r c k. same-tile s _ _ _ _ (p .each r (omega arith) (omega arith)) (q .each c (omega arith) (omega arith)) }

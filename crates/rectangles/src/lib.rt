@@ -3,14 +3,14 @@ mod pieces;
 
 use answer::Refusal;
 use answer::Verdict;
-use pieces::Rectangle;
 use store::many;
+use store::many::Rectangle;
 ghost use mathlib.Core.Path.{_≡_};
 ghost use lib.ListN.{length};
 ghost use Rattle.wire.specs.Bytes.{put};
 ghost use Rattle.answer.specs.Answers.{cellKind, cellBits};
+ghost use Rattle.store.specs.Face.{Accepts};
 ghost use Rattle.rectangles.specs.Rectangles.{cellsGiven, givenIn, written, givenNumber, givenCount};
-ghost use Rattle.rectangles.specs.Pieces.{Accepts};
 
 // What is said of the cells of a rectangle: how many there are.
 pub enum Given {

@@ -3,23 +3,15 @@ use answer::Cell;
 use answer::Held;
 use store::description;
 use store::many;
+use store::many::Rectangle;
 ghost use mathlib.Core.Path.{_≡_};
 ghost use Prim.Native.Nat.{_+_, _≤_, _<_};
 ghost use lib.ListN.{length, set};
 ghost use Rattle.answer.specs.Answers.{cellKind, cellBits};
-ghost use Rattle.store.specs.Face.{tileRows};
+ghost use Rattle.store.specs.Face.{tileRows, Accepts, OneTile, Counted, Answered};
 ghost use Rattle.blocks.specs.Blocks.{OneBlock};
 ghost use Rattle.blocks.specs.Tables.{Inside};
-ghost use Rattle.rectangles.specs.Pieces.{HasRoom, Counted, Answered, Accepts, OneTile, Told};
-
-// An element, and the rectangle's first row and column and its sides.
-pub(crate) struct Rectangle {
-    pub e: u64,
-    pub row: u64,
-    pub column: u64,
-    pub rows: u64,
-    pub columns: u64,
-}
+ghost use Rattle.rectangles.specs.Pieces.{HasRoom, Told};
 
 // Two numbers, a cell's kind and its bits, in their places.
 fn put_numbers(kind: u32, pattern: u32, i: usize, kinds: &mut [u32], bits: &mut [u32])

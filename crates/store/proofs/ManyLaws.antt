@@ -49,6 +49,14 @@ held-accepted s ci at tile e x m o p q t =
 -- a rectangle
 
 module _ (s : List ℕ) (e row column rows columns : ℕ) where
+  pub means-inside : e < elementCount s → row + rows ≤ gridRows s → column + columns ≤ gridColumns s → true ≡ rectangleInside s e row column rows columns
+  unfolding rectangleInside
+  means-inside h k l = yes _ (omega arith, (k, (l, tt)))
+
+  pub not-inside : (e < elementCount s → row + rows ≤ gridRows s → column + columns ≤ gridColumns s → ⊥) → false ≡ rectangleInside s e row column rows columns
+  unfolding rectangleInside
+  not-inside f = no _ (λ y. f (omega (arith, y .0)) (y .1 .0) (y .1 .1 .0))
+
   pub lacks : (n : ℕ) → n ≡ elementCount s → n ≤ e → false ≡ rectangleInside s e row column rows columns
   unfolding rectangleInside
   lacks n p h = no _ (λ y. omega (arith, y .0))

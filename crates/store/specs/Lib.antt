@@ -5,4 +5,5 @@ pub mod Opened
 pub mod Lookup
 pub mod Description
 pub mod Many
+pub mod Pieces
 pub mod Face

@@ -1,12 +1,19 @@
 -- Req 07: many reads after one check, for a product that goes through a rectangle of cells tile by tile. What is held of a tile, and a
 -- cell told from it, are `heldByDirectory`, `heldCell` and `Holds` of `cells`.
 use Prim.Native.Nat.{ℕ, _+_}
+use mathlib.Core.Path.{_≡_}
 use mathlib.Core.List.{List, [], _∷_}
-use mathlib.Core.Bool.{Bool}
+use mathlib.Core.Bool.{Bool, true}
 use Rattle.wire.specs.Pick.{pick}
 use Rattle.wire.specs.Tests.{_≤?_, passes}
+use Rattle.answer.specs.declared.Verdict.the-variants.{Accepted}
+use Rattle.answer.specs.declared.Cell.{Cell}
+use Rattle.answer.specs.Answers.{cellKind, cellVerdict}
 use Rattle.header.specs.Fields.{gridRows, gridColumns, elementCount}
 use Rattle.geometry.specs.Tiles.{cellTile}
+use Rattle.page_check.specs.Stages.{check}
+use Rattle.cells.specs.Asked.{inGrid}
+use Rattle.cells.specs.Meaning.{meaning}
 
 -- the page has the element, and the rectangle from a first row and column on lies in the grid. The sums are of natural numbers, so an
 -- empty rectangle may start at the grid's end, and not behind it
@@ -17,3 +24,14 @@ rectangleInside s e row column rows columns =
 -- the tile of a cell of the grid; 0 where the grid has no such row or column
 unfoldable pub tileHolding : List ℕ → ℕ → ℕ → ℕ
 tileHolding s row column = pick (passes ((row + 1 ≤? gridRows s) ∷ (column + 1 ≤? gridColumns s) ∷ [])) (cellTile s row column) 0
+
+-- two cells of an element in one tile of an accepted file are stored, unpacked, fill or refused alike: one that is absent, compressed or
+-- malformed shows that all are
+pub record Alike (x y : Cell) : Type 0 where
+  pub kind : cellKind x ≡ cellKind y
+  pub verdict : cellVerdict x ≡ cellVerdict y
+
+abbrev pub TileAlike : Type 0
+TileAlike =
+    (s : List ℕ) → check s ≡ Accepted → (ci row column row2 column2 e : ℕ) → inGrid s row column e ≡ true → inGrid s row2 column2 e ≡ true →
+    cellTile s row column ≡ cellTile s row2 column2 → Alike (meaning s ci row column e) (meaning s ci row2 column2 e)

@@ -20,6 +20,15 @@ ghost use Rattle.cells.specs.TileCells.{unpackedBits};
 ghost use Rattle.cells.specs.Many.{heldByDirectory, heldCell, bitsInside, Holds};
 ghost use Rattle.store.specs.Many.{rectangleInside, tileHolding};
 
+// An element, and a rectangle's first row and column and its sides.
+pub struct Rectangle {
+    pub e: u64,
+    pub row: u64,
+    pub column: u64,
+    pub rows: u64,
+    pub columns: u64,
+}
+
 // What is held of an element in a tile, by the file's own directory. The memory takes the cells of a compressed content, row by row,
 // where it has room for all of them, and what stands behind them stays; of any other it is as it was.
 pub fn hold_accepted(file: &[u8], compressor: u32, tile: u64, e: u64, memory: &mut [u32]) -> Held

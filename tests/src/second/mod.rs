@@ -6,6 +6,7 @@ pub mod chain;
 pub mod check;
 pub mod checksums;
 pub mod crc32c;
+pub mod deeds;
 pub mod directories;
 pub mod elements;
 pub mod facts;

@@ -72,7 +72,7 @@ impl Rectangle {
 
     /// Req 07, reading 2: "a sum of natural numbers, each direction by itself [..] The sum equal to
     /// the side is inside."
-    fn ends_inside(&self, header: &Header) -> bool {
+    pub(super) fn ends_inside(&self, header: &Header) -> bool {
         let end = |start: u64, side: u64| u128::from(start) + u128::from(side);
         end(self.row, self.rows) <= u128::from(header.grid_rows)
             && end(self.column, self.columns) <= u128::from(header.grid_columns)

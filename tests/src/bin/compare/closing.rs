@@ -72,8 +72,8 @@ fn met(functions: &[Function], number: u32) -> usize {
 }
 
 impl Run {
-    /// The eighteen functions. Of names, texts and M32 codes by themselves no answer is a refusal.
-    pub fn functions(&self) -> [Function; 18] {
+    /// The nineteen functions. Of names, texts and M32 codes by themselves no answer is a refusal.
+    pub fn functions(&self) -> [Function; 19] {
         [
             Function::new("gvrs_check", self.answers()),
             Function::new("gvrs_check_start", self.starts.answers()),
@@ -89,6 +89,7 @@ impl Run {
             Function::new("gvrs_cell_with", self.packed.cell_answers()),
             Function::new("gvrs_unpack", self.packed.unpack_answers()),
             Function::new("gvrs_cells", self.face.area_answers()),
+            Function::new("gvrs_deed", self.deeds.answers()),
             Function::new("gvrs_page", self.face.page_answers()),
             Function::new("gvrs_element", self.face.element_answers()),
             Function::new("gvrs_m32_write", [(0, self.packed.written)].into_iter()),

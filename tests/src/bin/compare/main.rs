@@ -10,6 +10,7 @@ mod allowed;
 mod bytes_changed;
 mod closing;
 mod damage;
+mod deeds;
 mod face;
 mod guarded;
 mod hostile;
@@ -60,7 +61,7 @@ fn main() -> ExitCode {
 
 /// Every section. Each has a generator of its own, so that one can change without the others.
 fn whole_run(seed: u64, small: bool) -> bool {
-    let sections: [fn(&mut Run, &mut Prng); 19] = [
+    let sections: [fn(&mut Run, &mut Prng); 20] = [
         sample_sums::section,
         made::section,
         allowed::section,
@@ -80,6 +81,7 @@ fn whole_run(seed: u64, small: bool) -> bool {
         look_ups::section,
         packed::section,
         face::section,
+        deeds::section,
     ];
     let mut run = Run::new(small);
     for (number, section) in sections.into_iter().enumerate() {

@@ -7,6 +7,7 @@ use gvrs_tests::library;
 use gvrs_tests::second::check::{check, Answer};
 
 use crate::closing;
+use crate::deeds;
 use crate::face;
 use crate::lay_downs;
 use crate::listings;
@@ -34,6 +35,7 @@ pub struct Run {
     pub starts: starts::tally::Tally,
     pub packed: packed::tally::Tally,
     pub face: face::tally::Tally,
+    pub deeds: deeds::tally::Tally,
     /// Names asked about.
     pub names: usize,
     /// Texts asked about.
@@ -74,6 +76,7 @@ impl Run {
             starts: starts::tally::Tally::new(),
             packed: packed::tally::Tally::new(),
             face: face::tally::Tally::new(),
+            deeds: deeds::tally::Tally::new(),
             names: 0,
             texts: 0,
             name_pairs: 0,
@@ -207,6 +210,7 @@ impl Run {
         self.starts.report();
         self.packed.report();
         self.face.report();
+        self.deeds.report();
         closing::report(&self.functions());
         if !self.small {
             self.missed();
@@ -274,6 +278,10 @@ impl Run {
         }
         for thing in self.face.missed() {
             println!("FAULT: rectangles, pages and elements: never or wrongly reached: {thing}");
+            self.faults += 1;
+        }
+        for thing in self.deeds.missed() {
+            println!("FAULT: deeds: never or wrongly reached: {thing}");
             self.faults += 1;
         }
         for number in self.look_ups_missed() {

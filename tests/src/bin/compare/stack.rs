@@ -5,10 +5,12 @@ use std::thread;
 
 use gvrs_tests::build::build;
 use gvrs_tests::library::{self, Lent, DIRECTORY, WALK, WALK_WITHOUT_STAGE_9};
+use gvrs_tests::page::SHORT;
 use gvrs_tests::prng::Prng;
 use gvrs_tests::random_page::random_page;
 use gvrs_tests::second::cells::{Spot, UNPACKED};
 use gvrs_tests::second::check::check;
+use gvrs_tests::second::deeds::DOUBTFUL;
 use gvrs_tests::second::lay_down::Given;
 use gvrs_tests::second::rectangles::Rectangle;
 
@@ -27,6 +29,7 @@ pub fn section(run: &mut Run, random: &mut Prng) {
         run.compare("little stack", &file);
         let (lent, given) = (file.clone(), Draft::at_random(random).given);
         let comb = deep_comb(random).0;
+        let deed = if comb.type_code() == SHORT { DOUBTFUL } else { 12 };
         let spot = comb.spots(random)[0].1;
         let asked = move || {
             let unpacked = ask_packed(&comb, spot);
@@ -34,15 +37,16 @@ pub fn section(run: &mut Run, random: &mut Prng) {
         };
         let thread = thread::Builder::new().stack_size(ASKED + AROUND).spawn(asked);
         let answer = thread.expect("a thread is started").join().expect("the thread returns");
-        if answer != (check(&file).0, [UNPACKED; 3]) {
+        if answer != (check(&file).0, [UNPACKED, UNPACKED, UNPACKED, deed, deed]) {
             run.fault("little stack: another answer", &file);
         }
     }
 }
 
-/// A content whose tree is a comb of depth 255: the number of the whole tile, and the kind of a
-/// cell of it in a rectangle, with memory to unpack the tile and without. A cell by each route too.
-fn ask_packed(comb: &Holder, spot: Spot) -> [u32; 3] {
+/// A content whose tree is a comb of depth 255: the number of the whole tile, the kind of a cell of
+/// it in a rectangle and the deed of that cell, each of these two with memory to unpack the tile and
+/// without. A cell by each route too.
+fn ask_packed(comb: &Holder, spot: Spot) -> [u32; 5] {
     let (file, compressor) = (comb.file(), comb.index());
     for route in [DIRECTORY, WALK, WALK_WITHOUT_STAGE_9] {
         library::cell_with(file, spot, route, compressor);
@@ -50,7 +54,8 @@ fn ask_packed(comb: &Holder, spot: Spot) -> [u32; 3] {
     let mut cells = vec![0; 400];
     let whole = library::unpack_into(file, comb.place(), compressor, &mut cells, &mut [0; 2]);
     let kind = |memory: &mut [u32]| in_rectangle(file, spot, compressor, memory);
-    [whole, kind(&mut cells), kind(&mut [])]
+    let deed = |memory: &mut [u32]| deed_of(file, spot, compressor, memory);
+    [whole, kind(&mut cells), kind(&mut []), deed(&mut cells), deed(&mut [])]
 }
 
 /// The kind of a cell.
@@ -59,6 +64,11 @@ fn in_rectangle(file: &[u8], spot: Spot, compressor: u32, memory: &mut [u32]) ->
     let lent = Lent { memory, kinds: &mut kinds, bits: &mut [0] };
     library::cells_into(file, Rectangle::of_one(spot), compressor, lent, &mut [0]);
     kinds[0]
+}
+
+/// The deed's number of a cell.
+fn deed_of(file: &[u8], spot: Spot, compressor: u32, memory: &mut [u32]) -> u32 {
+    library::deed_into(file, Rectangle::of_one(spot), compressor, memory, &mut [0; 3])
 }
 
 /// Asks all others, and those with a compressor once more; the check's number.
@@ -71,6 +81,7 @@ fn ask(file: &[u8], given: &Given) -> u32 {
     library::cell_with(file, Spot { row: 0, column: 0, element: 0 }, DIRECTORY, compressor);
     library::unpack_into(file, (0, 0), compressor, &mut [0; 64], &mut [0; 2]);
     in_rectangle(file, Spot { row: 0, column: 0, element: 0 }, compressor, &mut [0; 64]);
+    deed_of(file, Spot { row: 0, column: 0, element: 0 }, compressor, &mut [0; 64]);
     library::page_into(file, &mut [0; 13]);
     library::element_into(file, 0, &mut [0; 4]);
     library::m32_write_into(&[u32::MAX, 1 << 31, 1 << 30], &mut [0; 18]);

@@ -8,7 +8,8 @@ use Rattle.blocks.specs.Tables.{Inside}
 use Rattle.store.specs.Face.{tileRows}
 use Rattle.store.proofs.ManyLaws.{sides-accepted}
 use Rattle.rectangles.specs.Pieces.{Told}
-use Rattle.rectangles.proofs.PieceLaws.{told-none, told-ends, told-under, room-still, piece-next}
+use Rattle.blocks.proofs.BlockLaws.{piece-next}
+use Rattle.rectangles.proofs.PieceLaws.{told-none, told-ends, told-under, room-still}
 use Rattle.rectangles.proofs.pieces.fill_all.Statement.{statement}
 use Rattle.rectangles.proofs.pieces.fill_all.Tie as tie
 

@@ -8,7 +8,9 @@ use Rattle.blocks.specs.Tables.{Inside}
 use Rattle.store.specs.Face.{tileColumns}
 use Rattle.store.proofs.ManyLaws.{sides-accepted}
 use Rattle.rectangles.specs.Pieces.{Told}
-use Rattle.rectangles.proofs.PieceLaws.{told-none, told-ends, told-beside, room-still, piece-next, piece-tile}
+use Rattle.blocks.proofs.BlockLaws.{piece-next}
+use Rattle.store.proofs.PieceLaws.{piece-tile}
+use Rattle.rectangles.proofs.PieceLaws.{told-none, told-ends, told-beside, room-still}
 use Rattle.rectangles.proofs.pieces.fill_band.Statement.{statement}
 use Rattle.rectangles.proofs.pieces.fill_band.Tie as tie
 

@@ -5,7 +5,8 @@ use Prim.Native.Nat.{_-_, _≤_}
 use mathlib.Core.Path.{refl}
 use Rattle.blocks.specs.Tables.{Inside}
 use Rattle.rectangles.specs.Pieces.{Told}
-use Rattle.rectangles.proofs.PieceLaws.{told-none, told-ends, told-under, room-still, answered-row}
+use Rattle.store.proofs.PieceLaws.{answered-row}
+use Rattle.rectangles.proofs.PieceLaws.{told-none, told-ends, told-under, room-still}
 use Rattle.rectangles.proofs.pieces.fill_piece.Statement.{statement}
 use Rattle.rectangles.proofs.pieces.fill_piece.Tie as tie
 

@@ -1,6 +1,6 @@
 -- `rectangles::pieces::fill_row` meets its contract. Assumes nothing.
 use borrow.Author.Needs.{needs}
-use Rattle.rectangles.proofs.PieceLaws.{counted-row}
+use Rattle.store.proofs.PieceLaws.{counted-row}
 use Rattle.rectangles.proofs.pieces.fill_row.Statement.{statement}
 use Rattle.rectangles.proofs.pieces.fill_row.Tie as tie
 

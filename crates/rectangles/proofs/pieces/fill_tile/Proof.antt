@@ -1,6 +1,6 @@
 -- `rectangles::pieces::fill_tile` meets its contract. Assumes nothing.
 use native.Mathlib.Omega.{arith}
-use Rattle.rectangles.proofs.PieceLaws.{answered-tile}
+use Rattle.store.proofs.PieceLaws.{answered-tile}
 use borrow.Author.Needs.{needs}
 use Rattle.rectangles.proofs.pieces.fill_tile.Statement.{statement}
 use Rattle.rectangles.proofs.pieces.fill_tile.Tie as tie

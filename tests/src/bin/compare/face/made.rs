@@ -24,6 +24,8 @@ const WHOLE_GRID: &str = "the whole grid, of several tiles";
 const LAST_ROW: &str = "up to the last row";
 const LAST_COLUMN: &str = "up to the last column";
 const LAST_OF_BOTH: &str = "up to the last row and column, not from the first";
+pub const FORMS: [&str; 7] =
+    [ONE_CELL, IN_ONE_TILE, PARTS, WHOLE_GRID, LAST_ROW, LAST_COLUMN, LAST_OF_BOTH];
 const EVERY_KIND: &str = "all five kinds in one rectangle";
 const REFUSED_FIRST: &str = "11 or 14 in the first cell, and cells to read behind it";
 const EQUAL_TO_FILL: [&str; 2] =
@@ -36,7 +38,7 @@ const ADDRESSES: &str = "a rectangle at eight addresses in memory";
 const MOST_CELLS: u64 = 400;
 
 pub fn section(run: &mut Run, random: &mut Prng) {
-    for thing in [ONE_CELL, IN_ONE_TILE, PARTS, WHOLE_GRID, LAST_ROW, LAST_COLUMN, LAST_OF_BOTH] {
+    for thing in FORMS {
         run.face.want(thing);
     }
     let others = [EVERY_KIND, REFUSED_FIRST, OTHER_INDEX, USED_MEMORY, ADDRESSES];
@@ -119,6 +121,24 @@ fn stretch(at: u64, side: u64, tile: u64, most: u64, random: &mut Prng) -> (u64,
 
 /// Counts what the rectangle is an instance of.
 fn note(run: &mut Run, page: &Page, rectangle: Rectangle, answer: &Area) {
+    let [kinds, bits] = answer.taken();
+    let own_fill = fill(&page.elements[rectangle.element as usize]);
+    let equal = |kind: u32| kinds.iter().zip(bits).any(|cell| cell == (&kind, &own_fill));
+    let readable = |kind: &u32| [STORED, FILL, UNPACKED].contains(kind);
+    let true_of_it = [
+        (EVERY_KIND, [STORED, FILL, UNPACKED, 11, 14].iter().all(|kind| kinds.contains(kind))),
+        (EQUAL_TO_FILL[0], equal(STORED)),
+        (EQUAL_TO_FILL[1], equal(UNPACKED)),
+        (REFUSED_FIRST, !readable(&kinds[0]) && kinds.iter().any(readable)),
+    ];
+    let forms = forms(page, rectangle);
+    for (thing, _) in forms.iter().chain(&true_of_it).filter(|(_, holds)| *holds) {
+        run.face.reached(thing);
+    }
+}
+
+/// How a rectangle lies in the grid and in its tiles.
+pub fn forms(page: &Page, rectangle: Rectangle) -> [(&'static str, bool); FORMS.len()] {
     let Rectangle { row, column, rows, columns, .. } = rectangle;
     let [tile_rows, tile_columns, grid_rows, grid_columns] =
         [page.tile_rows, page.tile_columns, page.grid_rows, page.grid_columns].map(u64::from);
@@ -127,11 +147,7 @@ fn note(run: &mut Run, page: &Page, rectangle: Rectangle, answer: &Area) {
     let parts = row % tile_rows > 0 && column % tile_columns > 0;
     let (last_row, last_column) = (row + rows == grid_rows, column + columns == grid_columns);
     let whole = (rows, columns) == (grid_rows, grid_columns);
-    let [kinds, bits] = answer.taken();
-    let own_fill = fill(&page.elements[rectangle.element as usize]);
-    let equal = |kind: u32| kinds.iter().zip(bits).any(|cell| cell == (&kind, &own_fill));
-    let readable = |kind: &u32| [STORED, FILL, UNPACKED].contains(kind);
-    let true_of_it = [
+    [
         (ONE_CELL, rows * columns == 1),
         (IN_ONE_TILE, down + across == 0 && rows > 1 && columns > 1),
         (PARTS, down > 0 && across > 0 && parts),
@@ -139,14 +155,7 @@ fn note(run: &mut Run, page: &Page, rectangle: Rectangle, answer: &Area) {
         (LAST_ROW, last_row),
         (LAST_COLUMN, last_column),
         (LAST_OF_BOTH, last_row && last_column && row > 0 && column > 0),
-        (EVERY_KIND, [STORED, FILL, UNPACKED, 11, 14].iter().all(|kind| kinds.contains(kind))),
-        (EQUAL_TO_FILL[0], equal(STORED)),
-        (EQUAL_TO_FILL[1], equal(UNPACKED)),
-        (REFUSED_FIRST, !readable(&kinds[0]) && kinds.iter().any(readable)),
-    ];
-    for (thing, _) in true_of_it.iter().filter(|(_, holds)| *holds) {
-        run.face.reached(thing);
-    }
+    ]
 }
 
 /// One memory for every call: its numbers are those of other tiles and pages.

@@ -109,7 +109,7 @@ impl Mixed {
 }
 
 /// Where a cell of the grid stands in a rectangle, if it is one of its cells.
-fn position(rectangle: Rectangle, spot: Spot) -> Option<usize> {
+pub fn position(rectangle: Rectangle, spot: Spot) -> Option<usize> {
     let row = spot.row.checked_sub(rectangle.row)?;
     let column = spot.column.checked_sub(rectangle.column)?;
     let inside = row < rectangle.rows && column < rectangle.columns;
@@ -179,7 +179,7 @@ fn packed(page: &Page, element: usize, random: &mut Prng) -> Option<Good> {
 }
 
 /// A packed content without its last byte; or too few bytes to be one.
-fn malformed(page: &Page, element: usize, index: u8, random: &mut Prng) -> Vec<u8> {
+pub fn malformed(page: &Page, element: usize, index: u8, random: &mut Prng) -> Vec<u8> {
     let cut = packed(page, element, random).map(|mut good| {
         good.packed.index = index;
         let mut content = good.packed.bytes();
@@ -191,7 +191,7 @@ fn malformed(page: &Page, element: usize, index: u8, random: &mut Prng) -> Vec<u
 }
 
 /// Shorts, of which one is none: where the tile has a cell past the grid's edge perhaps that one.
-fn out_of_range(page: &Page, type_code: u8, random: &mut Prng) -> Option<Good> {
+pub fn out_of_range(page: &Page, type_code: u8, random: &mut Prng) -> Option<Good> {
     if type_code != SHORT {
         return None;
     }

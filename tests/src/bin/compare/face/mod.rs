@@ -1,13 +1,13 @@
 //! The cells of rectangles in one call (Req 07), and what a page and its elements are.
 
-mod ask;
+pub mod ask;
 mod facts;
 mod long_files;
-mod made;
-mod mixed;
-mod outside;
+pub mod made;
+pub mod mixed;
+pub mod outside;
 mod refused;
-mod sample_sums;
+pub mod sample_sums;
 pub mod tally;
 mod threads;
 

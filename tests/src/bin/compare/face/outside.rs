@@ -15,16 +15,16 @@ const PAST_SORT: &str = "rectangles past the grid";
 const ELEMENT_SORT: &str = "rectangles of elements that are not there";
 
 /// A start and a length, made of the grid's side and of a start and a length that are inside.
-type Stretch = fn(u64, u64, u64) -> (u64, u64);
+pub type Stretch = fn(u64, u64, u64) -> (u64, u64);
 
 /// Nothing, and not past the grid.
-const EMPTY: [(&str, Stretch); 3] = [
+pub const EMPTY: [(&str, Stretch); 3] = [
     ("empty, inside", |_, start, _| (start, 0)),
     ("empty, at the first", |_, _, _| (0, 0)),
     ("empty, at the end", |side, _, _| (side, 0)),
 ];
 
-const PAST: [(&str, Stretch); 20] = [
+pub const PAST: [(&str, Stretch); 20] = [
     ("one too many", |side, start, _| (start, side - start + 1)),
     ("one too many, from the first", |side, _, _| (0, side + 1)),
     ("from the end", |side, _, _| (side, 1)),
@@ -47,7 +47,7 @@ const PAST: [(&str, Stretch); 20] = [
     ("a length of 2^31 more", |_, start, length| (start, (1 << 31) + length)),
 ];
 
-const DIRECTIONS: [&str; 3] = ["rows", "columns", "rows and columns"];
+pub const DIRECTIONS: [&str; 3] = ["rows", "columns", "rows and columns"];
 const EMPTY_AND_PAST: &str = "empty in one direction, past the grid in the other";
 const EMPTY_LACKING: &str = "empty, of an element that is not there";
 const BEFORE_13: &str = "10, though there is no room either";
@@ -85,16 +85,8 @@ struct Question<'a> {
 }
 
 impl Question<'_> {
-    /// The rectangle with these rows, with these columns, and with both.
     fn in_each_direction(&self, stretch: Stretch) -> [Rectangle; 3] {
-        let good = self.good;
-        let (row, rows) = stretch(self.grid[0], good.row, good.rows);
-        let (column, columns) = stretch(self.grid[1], good.column, good.columns);
-        [
-            Rectangle { row, rows, ..good },
-            Rectangle { column, columns, ..good },
-            Rectangle { row, rows, column, columns, ..good },
-        ]
+        in_each_direction(self.grid, self.good, stretch)
     }
 
     fn is(&self, run: &mut Run, sort: &str, rectangle: Rectangle, expected: &Area) -> bool {
@@ -114,6 +106,17 @@ impl Question<'_> {
             run.fault(&format!("{thing}: {rectangle:?}"), self.asked.file);
         }
     }
+}
+
+/// A rectangle with these rows, with these columns, and with both.
+pub fn in_each_direction(grid: [u64; 2], good: Rectangle, stretch: Stretch) -> [Rectangle; 3] {
+    let (row, rows) = stretch(grid[0], good.row, good.rows);
+    let (column, columns) = stretch(grid[1], good.column, good.columns);
+    [
+        Rectangle { row, rows, ..good },
+        Rectangle { column, columns, ..good },
+        Rectangle { row, rows, column, columns, ..good },
+    ]
 }
 
 fn empty(run: &mut Run, question: &Question) {

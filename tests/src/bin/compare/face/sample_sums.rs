@@ -76,7 +76,7 @@ pub fn section(run: &mut Run) {
 }
 
 /// Tile records in this order, of one Short each cell.
-fn page(grid: [u32; 2], tile: [u32; 2], tiles: &[(u32, &[i16])]) -> Page {
+pub fn page(grid: [u32; 2], tile: [u32; 2], tiles: &[(u32, &[i16])]) -> Page {
     let mut page = Page::of_sides(grid, tile);
     page.elements = vec![Element::new(SHORT, b"score")];
     page.elements[0].set_range_and_fill(0, 1000, NONE);
@@ -87,7 +87,7 @@ fn page(grid: [u32; 2], tile: [u32; 2], tiles: &[(u32, &[i16])]) -> Page {
     page
 }
 
-fn rectangle([row, column, rows, columns]: [u64; 4]) -> Rectangle {
+pub fn rectangle([row, column, rows, columns]: [u64; 4]) -> Rectangle {
     Rectangle { element: 0, row, column, rows, columns }
 }
 

@@ -1,0 +1,6 @@
+pub mod ScoreLaws
+pub mod TallyLaws
+pub mod PieceLaws
+pub mod DeedLaws
+pub mod SoundLaws
+pub mod Samples

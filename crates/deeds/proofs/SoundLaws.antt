@@ -1,0 +1,409 @@
+-- What an answer tells of the cells it was counted from. Assumes nothing.
+use Prim.Native.Nat.{ℕ, suc, _+_, _-_, _*_, _%_, _≤_, _<_}
+use mathlib.Core.Path.{_≡_, refl, sym, ap, _∙_}
+use mathlib.Core.List.{List, [], _∷_}
+use mathlib.Core.Bool.{Bool, true, false}
+use mathlib.Core.Logic.{_⊎_, inl, inr, ⊎-elim, by-cases}
+use native.Mathlib.Decide.{decLe}
+use native.Mathlib.Omega.{arith}
+use native.Mathlib.Nat.{mul-le-mul}
+use lib.Dec.{eqb}
+use lib.IntN.{ℤ, pos, negsuc}
+use lib.Signed.{leZ}
+use mir.Syntax.{w16}
+use mir.Val.{toZ}
+use mir.Facts.{toZ-pos, toZ-neg}
+use borrow.Author.Tests.{leb-true, le-leb, eqb-true}
+use Rattle.wire.specs.Pick.{pick}
+use Rattle.wire.specs.Tests.{_≤?_, _≡?_, is, both, passes}
+use Rattle.wire.proofs.TestLaws.{means, yes, not-both}
+use Rattle.answer.specs.declared.Refusal.{Refusal}
+use Rattle.answer.specs.declared.Refusal.the-variants.{Input}
+use Rattle.answer.specs.declared.Verdict.{Verdict}
+use Rattle.answer.specs.declared.Verdict.the-variants as verdict
+use Rattle.answer.specs.declared.Cell.{Cell}
+use Rattle.answer.specs.Refusals.{unlessRefused}
+use Rattle.answer.specs.Answers.{cellKind, cellBits, cellVerdict}
+use Rattle.answer.proofs.VerdictLaws.{behind-passed, cell-kinds}
+use Rattle.store.specs.Face.{check, meaning, element, shortKind, rectangleInside}
+use Rattle.store.proofs.ManyLaws.{means-inside, not-inside}
+use Rattle.store.proofs.PieceLaws.{bits-short}
+use Rattle.blocks.specs.Tables.{Inside}
+use Rattle.blocks.specs.Folds.{foldInside}
+use Rattle.blocks.proofs.FoldLaws.{sums}
+use Rattle.blocks.proofs.InsideLaws.{inside-each, inside-found, inside-none, inside-both, inside-absorbs, inside-ones, inside-some, inside-first-at}
+use Rattle.deeds.specs.declared.Rule.{Rule}
+use Rattle.deeds.specs.declared.Grade.{Grade}
+use Rattle.deeds.specs.declared.Grade.the-variants.{Certain, Doubtful, Unread}
+use Rattle.deeds.specs.declared.Lowest.{Lowest}
+use Rattle.deeds.specs.declared.Lowest.the-variants.{Score, None}
+use Rattle.deeds.specs.declared.Deed.{Deed}
+use Rattle.deeds.specs.declared.Deed.the-variants.{Graded, Refused}
+use Rattle.deeds.specs.Deeds.{isFill, isStored, scoreOf, fillsIn, lesser, lowestIn, scoreWithin, certainBy, gradeFrom, gradeBy, graded, refusalIn, deedBy, firstRule, cellsOf, rectangleScored, deedIn, deed, hasLowest}
+use Rattle.deeds.specs.Sound.{storedIn, Sound, GradedSound, DeedSound, CertainCell, CertainExactly, InOrder, RefusedInOrder}
+use Rattle.deeds.proofs.ScoreLaws.{le-either, scores, lesser-comm, truths}
+use Rattle.deeds.proofs.PieceLaws.{verdicts, stays}
+use Rattle.deeds.proofs.DeedLaws.{not-scored, grade-unread, grade-certain, grade-doubtful, deed-input, deed-refused, deed-outside, deed-inside}
+
+-- two together are nothing where each is
+
+sum-parts : (x y : ℕ) → x + y ≡ 0 → (x ≡ 0) × (y ≡ 0)
+sum-parts x y e = (omega arith, omega arith)
+
+both-parts : (x y : Bool) → both x y ≡ true → (x ≡ true) × (y ≡ true)
+both-parts true y e = (refl, e)
+both-parts false y e = not-both e refl
+
+lower-some : (a b : ℤ) (x : Bool) → pick x (Score a) (Score b) ≡ None → ⊥
+lower-some a b true e = let z : _≡_ {A = ℕ} 0 1 = cc in omega arith
+lower-some a b false e = let z : _≡_ {A = ℕ} 0 1 = cc in omega arith
+
+lesser-parts : (x y : Lowest) → lesser x y ≡ None → (x ≡ None) × (y ≡ None)
+unfolding lesser
+lesser-parts None y e = (refl, e)
+lesser-parts (Score a) None e = let z : _≡_ {A = ℕ} 0 1 = cc in absurd (omega arith)
+lesser-parts (Score a) (Score b) e = absurd (lower-some a b (leZ a b) e)
+
+-- one of two scores is the lower
+
+lower-either : (a b : ℤ) (x : Bool) → (pick x (Score a) (Score b) ≡ Score a) ⊎ (pick x (Score a) (Score b) ≡ Score b)
+lower-either a b true = inl refl
+lower-either a b false = inr refl
+
+lesser-either : (x y : Lowest) → (lesser x y ≡ x) ⊎ (lesser x y ≡ y)
+unfolding lesser
+lesser-either None y = inr refl
+lesser-either (Score a) None = inl refl
+lesser-either (Score a) (Score b) = lower-either a b (leZ a b)
+
+lower-self : (a : ℤ) (x : Bool) → pick x (Score a) (Score a) ≡ Score a
+lower-self a true = refl
+lower-self a false = refl
+
+lesser-self : (x : Lowest) → lesser x x ≡ x
+unfolding lesser
+lesser-self None = refl
+lesser-self (Score a) = lower-self a (leZ a a)
+
+-- a cell that is not refused is a fill, which has no score, or stored
+
+pub record OneKind (x : Cell) : Type 0 where
+  pub one : pick (isFill x) 1 0 + pick (isStored x) 1 0 ≡ 1
+  pub no-score : scoreOf x ≡ None → _≡_ {A = ℕ} (pick (isStored x) 1 0) 0
+  pub fill-none : _≡_ {A = ℕ} (pick (isStored x) 1 0) 0 → scoreOf x ≡ None
+
+score-some : (z : ℤ) → Score z ≡ None → ⊥
+score-some z e = let z : _≡_ {A = ℕ} 0 1 = cc in omega arith
+
+pub one-kind : (x : Cell) → cellVerdict x ≡ verdict.Accepted → OneKind x
+unfolding isFill isStored scoreOf passes
+one-kind x e = ⊎-elim stored (⊎-elim fill unpacked) (cell-kinds x e)
+  where
+    stored : cellKind x ≡ 32 → OneKind x
+    stored h = record { one = rw h; no-score = λ s. absurd (score-some _ (rw h at s)); fill-none = λ s. let z : _≡_ {A = ℕ} 1 0 = rw h at s in absurd (omega arith) }
+
+    fill : cellKind x ≡ 33 → OneKind x
+    fill h = record { one = rw h; no-score = λ s. rw h; fill-none = λ s. rw h }
+
+    unpacked : cellKind x ≡ 34 → OneKind x
+    unpacked h = record { one = rw h; no-score = λ s. absurd (score-some _ (rw h at s)); fill-none = λ s. let z : _≡_ {A = ℕ} 1 0 = rw h at s in absurd (omega arith) }
+
+-- a fill counts, and what counts is one
+fill-counts : (x : Cell) → cellKind x ≡ 33 → _≡_ {A = ℕ} (pick (isFill x) 1 0) 1
+unfolding isFill passes
+fill-counts x e = rw e
+
+counts-fill : (x : Cell) → 1 ≤ pick (isFill x) 1 0 → cellKind x ≡ 33
+unfolding isFill
+counts-fill x h = go (passes ((cellKind x ≡? 33) ∷ [])) refl h
+  where
+    go : (b : Bool) → passes ((cellKind x ≡? 33) ∷ []) ≡ b → 1 ≤ pick b 1 0 → cellKind x ≡ 33
+    go true e h = means ((cellKind x ≡? 33) ∷ []) e .0
+    go false e h = absurd (omega arith)
+
+-- no score is below the lowest
+lower-least : (a z : ℤ) → lesser (Score a) (Score z) ≡ Score a → leZ a z ≡ true
+unfolding lesser
+lower-least a z e = go (leZ a z) refl e
+  where
+    go : (b : Bool) → leZ a z ≡ b → pick b (Score a) (Score z) ≡ Score a → leZ a z ≡ true
+    go true f e = f
+    go false f e = let q : z ≡ a = cc in rw q (le-either a a (rw q at f))
+
+one-true : (b : Bool) → _≡_ {A = ℕ} (pick b 1 0) 1 → b ≡ true
+one-true true e = refl
+one-true false e = absurd (omega arith)
+
+-- the grade says what was counted
+
+grade-is : (n : ℕ) (b : Bool) → n ≡ 0 → (gradeFrom n b ≡ Unread → ⊥) × (gradeFrom n b ≡ Certain → b ≡ true)
+grade-is n true h =
+    (λ e. let q = grade-certain n true h refl ∙ e in let z : _≡_ {A = ℕ} 0 1 = cc in omega arith, λ e. refl)
+grade-is n false h = (
+  λ e. let q = grade-doubtful n false h refl ∙ e in let z : _≡_ {A = ℕ} 0 1 = cc in omega arith,
+  λ e. let q = grade-doubtful n false h refl ∙ e in let z : _≡_ {A = ℕ} 0 1 = cc in absurd (omega arith),
+)
+
+some-lowest : (x : Lowest) → (x ≡ None → ⊥) → hasLowest x ≡ 1
+some-lowest None h = absurd (h refl)
+some-lowest (Score z) h = refl
+
+lowest-some : (x : Lowest) → hasLowest x ≡ 1 → x ≡ None → ⊥
+lowest-some x h e = let z : hasLowest x ≡ 0 = ap hasLowest e in omega arith
+
+-- cells of which none is refused
+
+module _ (rule : Rule) (m n : ℕ) (f : ℕ → ℕ → Cell) (a : refusalIn 0 m 0 n f ≡ verdict.Accepted) where
+  abbrev fill : ℕ → ℕ → ℕ
+  fill r c = pick (isFill (f r c)) 1 0
+
+  abbrev stored : ℕ → ℕ → ℕ
+  stored r c = pick (isStored (f r c)) 1 0
+
+  none-refused-there : (r c : ℕ) → Inside 0 m 0 n r c → cellVerdict (f r c) ≡ verdict.Accepted
+  unfolding refusalIn
+  none-refused-there r c h = inside-each (unlessRefused verdict.Refused) verdict.Accepted behind-passed 0 m 0 n _ a r c h
+
+  each-kind : (r c : ℕ) → Inside 0 m 0 n r c → OneKind (f r c)
+  each-kind r c h = one-kind (f r c) (none-refused-there r c h)
+
+  all-cells : fillsIn 0 m 0 n f + storedIn m n f ≡ m * n
+  unfolding fillsIn storedIn
+  all-cells =
+      let p = inside-both _+_ 0 sums (λ x y. omega arith) 0 m 0 n fill stored in
+      let q = inside-ones 0 m 0 n (λ r c. fill r c + stored r c) (λ r c h. each-kind r c h .one) in
+      let u : m - 0 ≡ m = omega arith in
+      let v : n - 0 ≡ n = omega arith in
+      sym p ∙ q ∙ rw (u, v)
+
+  fill-there : (r c : ℕ) → Inside 0 m 0 n r c → cellKind (f r c) ≡ 33 → 1 ≤ fillsIn 0 m 0 n f
+  unfolding fillsIn
+  fill-there r c h e =
+      by-cases (decLe 1 (foldInside _+_ 0 0 m 0 n fill)) (λ k. k)
+      (λ k. absurd (omega (arith, inside-each _+_ 0 sum-parts 0 m 0 n fill (omega arith) r c h, fill-counts (f r c) e)))
+
+  some-fill : 1 ≤ fillsIn 0 m 0 n f → (r : ℕ) × (c : ℕ) × ((r < m) × (c < n)) × (cellKind (f r c) ≡ 33)
+  unfolding fillsIn
+  some-fill h = let y = inside-some 0 m 0 n fill h in (y .0, y .1, (omega arith, omega arith), counts-fill (f (y .0) (y .1)) (y .3))
+
+  no-fill-there : fillsIn 0 m 0 n f ≡ 0 → (r c : ℕ) → Inside 0 m 0 n r c → isStored (f r c) ≡ true
+  unfolding fillsIn
+  no-fill-there e r c h =
+      let z : fill r c ≡ 0 = inside-each _+_ 0 sum-parts 0 m 0 n fill e r c h in
+      one-true (isStored (f r c)) (omega (arith, each-kind r c h .one))
+
+  no-score-there : lowestIn 0 m 0 n f ≡ None → storedIn m n f ≡ 0
+  unfolding lowestIn storedIn
+  no-score-there e = inside-none _+_ 0 sums 0 m 0 n stored (λ r c h. each-kind r c h .no-score (inside-each lesser None lesser-parts 0 m 0 n _ e r c h))
+
+  none-stored : storedIn m n f ≡ 0 → lowestIn 0 m 0 n f ≡ None
+  unfolding lowestIn storedIn
+  none-stored e = inside-none lesser None scores 0 m 0 n _ (λ r c h. each-kind r c h .fill-none (inside-each _+_ 0 sum-parts 0 m 0 n stored e r c h))
+
+  all-stored : ((r c : ℕ) → r < m → c < n → isStored (f r c) ≡ true) → fillsIn 0 m 0 n f ≡ 0
+  unfolding fillsIn
+  all-stored e =
+      inside-none _+_ 0 sums 0 m 0 n fill
+      (λ r c h. let z : stored r c ≡ 1 = ap {B = ℕ} (λ (b : Bool). pick b 1 0) (e r c (omega arith) (omega arith)) in omega (arith, each-kind r c h .one))
+
+  all-within : ((r c : ℕ) → r < m → c < n → scoreWithin rule (scoreOf (f r c)) ≡ true) → certainBy rule 0 m 0 n f ≡ true
+  unfolding certainBy
+  all-within e = inside-none both true truths 0 m 0 n _ (λ r c h. e r c (omega arith) (omega arith))
+
+  each-within : certainBy rule 0 m 0 n f ≡ true → (r c : ℕ) → Inside 0 m 0 n r c → scoreWithin rule (scoreOf (f r c)) ≡ true
+  unfolding certainBy
+  each-within e r c h = inside-each both true both-parts 0 m 0 n _ e r c h
+
+  lowest-least : (r c : ℕ) → Inside 0 m 0 n r c → lesser (lowestIn 0 m 0 n f) (scoreOf (f r c)) ≡ lowestIn 0 m 0 n f
+  unfolding lowestIn
+  lowest-least r c h = inside-absorbs lesser None scores lesser-comm 0 m 0 n (λ r c. scoreOf (f r c)) lesser-self r c h
+
+  lowest-found : (lowestIn 0 m 0 n f ≡ None → ⊥) → (r : ℕ) × (c : ℕ) × ((r < m) × (c < n)) × (scoreOf (f r c) ≡ lowestIn 0 m 0 n f)
+  unfolding lowestIn
+  lowest-found h = let y = inside-found lesser None lesser-either 0 m 0 n (λ r c. scoreOf (f r c)) h in (y .0, y .1, (omega arith, omega arith), y .3)
+
+  any-fill-unread : 1 ≤ fillsIn 0 m 0 n f → gradeBy rule 0 m 0 n f ≡ Unread
+  unfolding gradeBy
+  any-fill-unread h = sym (grade-unread _ _ h)
+
+  unread-any-fill : gradeBy rule 0 m 0 n f ≡ Unread → 1 ≤ fillsIn 0 m 0 n f
+  unfolding gradeBy
+  unread-any-fill e = by-cases (decLe 1 (fillsIn 0 m 0 n f)) (λ h. h) (λ h. absurd (grade-is (fillsIn 0 m 0 n f) _ (omega arith) .0 e))
+
+  read-no-fill : (gradeBy rule 0 m 0 n f ≡ Unread → ⊥) → fillsIn 0 m 0 n f ≡ 0
+  read-no-fill h = by-cases (decLe 1 (fillsIn 0 m 0 n f)) (λ k. absurd (h (any-fill-unread k))) (λ k. omega arith)
+
+  certain-no-fill : gradeBy rule 0 m 0 n f ≡ Certain → (fillsIn 0 m 0 n f ≡ 0) × (certainBy rule 0 m 0 n f ≡ true)
+  unfolding gradeBy
+  certain-no-fill e =
+      let z : fillsIn 0 m 0 n f ≡ 0 = read-no-fill (λ u. let q = sym e ∙ u in let z : _≡_ {A = ℕ} 0 1 = cc in omega arith) in
+      (z, grade-is (fillsIn 0 m 0 n f) _ z .1 e)
+
+  all-certain :
+      ((r c : ℕ) → r < m → c < n → (isStored (f r c) ≡ true) × (scoreWithin rule (scoreOf (f r c)) ≡ true)) → gradeBy rule 0 m 0 n f ≡ Certain
+  unfolding gradeBy
+  all-certain e = sym (grade-certain _ _ (all-stored (λ r c h k. e r c h k .0)) (all-within (λ r c h k. e r c h k .1)))
+
+  some-cell : 1 ≤ m → 1 ≤ n → 1 ≤ m * n
+  some-cell h k = let z : 1 * 1 ≤ m * n = mul-le-mul h k in omega arith
+
+  sound : 1 ≤ m → 1 ≤ n → Sound rule m n f (gradeBy rule 0 m 0 n f) (fillsIn 0 m 0 n f) (lowestIn 0 m 0 n f)
+  sound h k =
+      record {
+        none-refused = λ r c l w. none-refused-there r c (omega arith);
+        counted = all-cells;
+        fill-unread = λ r c l w e. any-fill-unread (fill-there r c (omega arith) e);
+        unread-fill = λ e. some-fill (unread-any-fill e);
+        any-fill = any-fill-unread;
+        no-fill = read-no-fill;
+        has-lowest = λ e. some-lowest (lowestIn 0 m 0 n f) (λ (u : lowestIn 0 m 0 n f ≡ None). omega (arith, all-cells, read-no-fill e, no-score-there u, some-cell h k));
+        least = λ r c l w b z d e. lower-least b z (rw (d, e) at (lowest-least r c (omega arith)));
+        found = λ e. lowest-found (lowest-some _ e);
+        no-score = λ e. omega (arith, all-cells, no-score-there e);
+        all-fill = λ e. none-stored (omega (arith, all-cells));
+        certain = λ e r c l w.
+            let z = certain-no-fill e in
+            (no-fill-there (z .0) r c (omega arith), each-within (z .1) r c (omega arith));
+        each-certain = all-certain;
+      }
+
+-- an answer that is graded
+
+graded-by : (v : Verdict) (x : Deed) (grade : Grade) (fills : ℕ) (lowest : Lowest) → unlessRefused Refused v x ≡ Graded grade fills lowest → (v ≡ verdict.Accepted) × (x ≡ Graded grade fills lowest)
+unfolding unlessRefused
+graded-by verdict.Accepted x g k l e = (refl, e)
+graded-by (verdict.Refused r) x g k l e = let z : _≡_ {A = ℕ} 0 1 = cc in absurd (omega arith)
+
+graded-parts : (g g2 : Grade) (k k2 : ℕ) (l l2 : Lowest) → Graded g k l ≡ Graded g2 k2 l2 → (g ≡ g2) × ((k ≡ k2) × (l ≡ l2))
+graded-parts g g2 k k2 l l2 e = (cc, (cc, cc))
+
+pub graded-sound : GradedSound
+unfolding deedBy graded
+graded-sound rule m n f g k l h w e =
+    let y = graded-by _ _ g k l e in
+    let z = graded-parts _ g _ k _ l (y .1) in
+    rw (z .0, z .1 .0, z .1 .1) at (sound rule m n f (y .0) h w)
+
+-- and what it says of a page
+
+picked : (b : Bool) (x : Deed) (r : Refusal) (grade : Grade) (fills : ℕ) (lowest : Lowest) → pick b x (Refused r) ≡ Graded grade fills lowest → (b ≡ true) × (x ≡ Graded grade fills lowest)
+picked true x r g k l e = (refl, e)
+picked false x r g k l e = let z : _≡_ {A = ℕ} 0 1 = cc in absurd (omega arith)
+
+-- the tests that it has passed
+pub record Passed (s : List ℕ) (ci e row column rows columns : ℕ) (grade : Grade) (fills : ℕ) (lowest : Lowest) : Type 0 where
+  pub accepted : check s ≡ verdict.Accepted
+  pub inside : rectangleInside s e row column rows columns ≡ true
+  pub some : (1 ≤ rows) × (1 ≤ columns)
+  pub short : element s e .kind ≡ shortKind
+  pub is : deedBy firstRule rows columns (cellsOf s ci e row column) ≡ Graded grade fills lowest
+
+passed :
+    (s : List ℕ) (ci e row column rows columns : ℕ) (grade : Grade) (fills : ℕ) (lowest : Lowest) →
+    deed s ci e row column rows columns ≡ Graded grade fills lowest → Passed s ci e row column rows columns grade fills lowest
+unfolding deed deedIn rectangleScored
+passed s ci e row column rows columns g k l q =
+    let a = graded-by _ _ g k l q in
+    let b = picked _ _ _ g k l (a .1) in
+    let c = picked _ _ _ g k l (b .1) in
+    let t = means ((1 ≤? rows) ∷ (1 ≤? columns) ∷ (element s e .kind ≡? shortKind) ∷ []) (c .0) in
+    record { accepted = a .0; inside = b .0; some = (t .0, t .1 .0); short = t .1 .1 .0; is = c .1 }
+
+pub deed-sound : DeedSound
+deed-sound s ci e row column rows columns g k l q =
+    let p = passed s ci e row column rows columns g k l q in
+    graded-sound firstRule rows columns (cellsOf s ci e row column) g k l (p .some .0) (p .some .1) (p .is)
+
+-- a score from 900 to 1000 is one by its bits
+
+stored-kind : (x : Cell) → isStored x ≡ true → (cellKind x ≡ 32) ⊎ (cellKind x ≡ 34)
+unfolding isStored
+stored-kind x e = go (cellKind x) e (eqb (cellKind x) 32) refl
+  where
+    go : (n : ℕ) → pick (eqb n 32) true (eqb n 34) ≡ true → (b : Bool) → eqb n 32 ≡ b → (n ≡ 32) ⊎ (n ≡ 34)
+    go n e true f = inl (eqb-true n 32 f)
+    go n e false f = inr (eqb-true n 34 (rw f at e))
+
+certain-bits : (n : ℕ) → n < 65536 → scoreWithin firstRule (Score (toZ w16 (n % 65536))) ≡ true → (900 ≤ n) × (n ≤ 1000)
+unfolding scoreWithin firstRule
+certain-bits n h e =
+    let z : n % 65536 ≡ n = omega arith in
+    let y = means (is (leZ (pos 900) (toZ w16 (n % 65536))) ∷ is (leZ (toZ w16 (n % 65536)) (pos 1000)) ∷ []) e in
+    by-cases (decLe 32768 n)
+    (λ k.
+    let back : 65536 - suc (65535 - n) ≡ n = omega arith in
+    let low : toZ w16 n ≡ negsuc (65535 - n) = rw back at (toZ-neg w16 (65535 - n) (omega arith)) in
+    not-both (rw (z, low) at (y .0)) refl)
+    (λ k.
+    let l : n < 32768 = omega arith in
+    let u : leZ (pos 900) (pos n) ≡ true = rw (z, toZ-pos w16 l) at (y .0) in
+    let v : leZ (pos n) (pos 1000) ≡ true = rw (z, toZ-pos w16 l) at (y .1 .0) in
+    (leb-true 900 n u, leb-true n 1000 v))
+
+certain-cell : (x : Cell) → cellBits x < 65536 → (isStored x ≡ true) × (scoreWithin firstRule (scoreOf x) ≡ true) → CertainCell x
+unfolding scoreOf
+certain-cell x h e =
+    let w : scoreWithin firstRule (Score (toZ w16 (cellBits x % 65536))) ≡ true = rw (e .0) at (e .1) in
+    let b = certain-bits (cellBits x) h w in
+    record { stored = stored-kind x (e .0); from-mark = b .0; to-scale = b .1 }
+
+bits-certain : (n : ℕ) → 900 ≤ n → n ≤ 1000 → scoreWithin firstRule (Score (toZ w16 (n % 65536))) ≡ true
+unfolding scoreWithin firstRule
+bits-certain n h k =
+    let z : n % 65536 ≡ n = omega arith in
+    let l : n < 32768 = omega arith in
+    rw (z, toZ-pos w16 l) (sym (yes (is (leZ (pos 900) (pos n)) ∷ is (leZ (pos n) (pos 1000)) ∷ []) (le-leb 900 n h, (le-leb n 1000 k, tt))))
+
+kind-stored : (x : Cell) → (cellKind x ≡ 32) ⊎ (cellKind x ≡ 34) → isStored x ≡ true
+unfolding isStored
+kind-stored x e = ⊎-elim (λ h. rw h) (λ h. rw h) e
+
+cell-certain : (x : Cell) → CertainCell x → (isStored x ≡ true) × (scoreWithin firstRule (scoreOf x) ≡ true)
+unfolding scoreOf
+cell-certain x c = let s = kind-stored x (c .stored) in (s, rw s (bits-certain (cellBits x) (c .from-mark) (c .to-scale)))
+
+pub certain-exactly : CertainExactly
+unfolding cellsOf
+certain-exactly s ci e row column rows columns g k l q =
+    let p = passed s ci e row column rows columns g k l q in
+    let d = deed-sound s ci e row column rows columns g k l q in
+    record {
+      each = λ f r c h w. certain-cell _ (bits-short s ci (row + r) (column + c) e (p .short)) (d .certain f r c h w);
+      all = λ f. d .each-certain (λ r c h w. cell-certain _ (f r c h w));
+    }
+
+-- the refusals
+
+module _ (s : List ℕ) (ci e row column rows columns : ℕ) where
+  abbrev verdictAt : ℕ → ℕ → Verdict
+  verdictAt r c = cellVerdict (meaning s ci (row + r) (column + c) e)
+
+  refusal-first :
+      (r c : ℕ) → r < rows → c < columns → (x : Refusal) → verdictAt r c ≡ verdict.Refused x → ((i k : ℕ) → i < r → k < columns → verdictAt i k ≡ verdict.Accepted) →
+      ((k : ℕ) → k < c → verdictAt r k ≡ verdict.Accepted) → refusalIn 0 rows 0 columns (cellsOf s ci e row column) ≡ verdict.Refused x
+  unfolding refusalIn cellsOf
+  refusal-first r c i j x q above before =
+      inside-first-at (unlessRefused verdict.Refused) verdict.Accepted verdicts 0 rows 0 columns _ r c (verdict.Refused x) q
+      (λ i k g. above i k (omega arith) (omega arith)) (λ k l w. before k w) (stays x) (omega arith)
+
+  deed-first :
+      (x : Refusal) → refusalIn 0 rows 0 columns (cellsOf s ci e row column) ≡ verdict.Refused x → 1 ≤ rows → 1 ≤ columns → element s e .kind ≡ shortKind →
+      Refused x ≡ deedIn s ci e row column rows columns
+  unfolding deedIn deedBy unlessRefused rectangleScored
+  deed-first x q h k t = rw (← yes ((1 ≤? rows) ∷ (1 ≤? columns) ∷ (element s e .kind ≡? shortKind) ∷ []) (h, (k, (t, tt))), q)
+
+  refused-order : InOrder s ci e row column rows columns
+  refused-order =
+      record {
+        checked = λ x q. sym (deed-refused s ci e row column rows columns (check s) refl x q);
+        outside = λ a h. sym (deed-outside s ci e row column rows columns (check s) refl _ refl a (sym (not-inside s e row column rows columns h)));
+        input = λ a h k l f.
+            sym (deed-inside s ci e row column rows columns (check s) refl _ refl a (Refused Input) (sym (means-inside s e row column rows columns h k l))
+            (deed-input s ci e row column rows columns false (not-scored s e rows columns f) refl));
+        cell = λ a h k l t r c i j x q above before.
+            sym (deed-inside s ci e row column rows columns (check s) refl _ refl a (Refused x) (sym (means-inside s e row column rows columns h k l))
+            (deed-first x (refusal-first r c i j x q above before) (omega arith) (omega arith) t));
+      }
+
+pub refused-in-order : RefusedInOrder
+refused-in-order s ci e row column rows columns = refused-order s ci e row column rows columns
