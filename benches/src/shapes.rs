@@ -56,6 +56,19 @@ pub fn tiles_in_reverse() -> Vec<u8> {
     bytes_of(&page)
 }
 
+/// As many tiles as there may be, of one cell of so many Short elements.
+pub fn tiles_of_one_cell(elements: usize) -> Vec<u8> {
+    let mut page = Page::of_sides([256, 256], [1, 1]);
+    let names = (0..elements).map(|e| format!("e{e}"));
+    page.elements = names.map(|name| Element::new(SHORT, name.as_bytes())).collect();
+    for index in 0..65_536u32 {
+        let cell = (index as u16).to_le_bytes().to_vec();
+        let tile = Tile { index, contents: vec![cell; elements] };
+        page.records.push(Record::new(Body::Tile(tile)));
+    }
+    bytes_of(&page)
+}
+
 /// 4,000 metadata records of 4,000 bytes, listed in file order.
 pub fn many_metadata(checksums: bool) -> Vec<u8> {
     let mut page = Page::plain();
@@ -101,14 +114,23 @@ pub fn free_records(length: usize) -> usize {
     (length - 1024) / 28
 }
 
+/// So many, listed first one first.
+pub fn free_in_order(records: usize) -> Vec<u8> {
+    free_listed(records, |listed| listed)
+}
+
 /// So many, listed last one first.
 pub fn free_in_reverse(records: usize) -> Vec<u8> {
+    free_listed(records, |listed| listed.into_iter().rev().collect())
+}
+
+fn free_listed(records: usize, order: impl Fn(Vec<usize>) -> Vec<usize>) -> Vec<u8> {
     let mut page = Page::plain();
     let first = page.records.len();
     for _ in 0..records {
         page.records.push(Record::new(Body::Free(16)));
     }
-    let listed = (first..page.records.len()).rev().collect();
+    let listed = order((first..page.records.len()).collect());
     page.records.push(Record::new(Body::FileSpaceDirectory(listed)));
     bytes_of(&page)
 }
@@ -127,6 +149,13 @@ pub fn metadata_in_reverse(records: usize) -> Vec<u8> {
     }
     let listed = (first..page.records.len()).rev().collect();
     page.records.push(Record::new(Body::MetadataDirectory(listed)));
+    bytes_of(&page)
+}
+
+/// A header that empty names of compression methods fill.
+pub fn many_methods() -> Vec<u8> {
+    let mut page = Page::plain();
+    page.methods = vec![Vec::new(); 8_000_000];
     bytes_of(&page)
 }
 

@@ -1,6 +1,6 @@
 -- The sections of a tile record, one behind the other. Assumes nothing.
 use Prim.Native.Nat.{ℕ, zero, suc, _+_, _-_, _≤_, _<_}
-use mathlib.Core.Path.{_≡_, _∙_}
+use mathlib.Core.Path.{_≡_, sym, _∙_}
 use mathlib.Core.List.{List}
 use native.Mathlib.Omega.{arith}
 use native.Mathlib.Numerals.{add-one}
@@ -12,7 +12,7 @@ use Rattle.wire.specs.Tests.{sumBelow}
 use Rattle.wire.specs.Items.{advance}
 use Rattle.geometry.specs.Sizes.{storedSize, cap}
 use Rattle.record.specs.Record.{recordLimit, lengthAt}
-use Rattle.bodies.specs.TileRecord.{sectionEnd, sectionAt, sectionStart, sectionLength, longestSection}
+use Rattle.bodies.specs.TileRecord.{sectionEnd, sectionAt, nextSection, sectionStart, sectionLength, longestSection}
 
 pub section-is : (s : List ℕ) (p l n : ℕ) → l ≡ u32At s p → n ≡ storedSize l → p + n ≡ sectionEnd s p
 unfolding sectionEnd
@@ -55,6 +55,20 @@ unfolding sectionAt
 section-mono s at e f h =
     let q : e + (f - e) ≡ f = omega arith in
     rw q at (advance-mono (sectionEnd s) (recordLimit s at) (λ p. omega (arith, section-grows s p)) e (f - e) (at + 12))
+
+-- a section more
+
+pub next-past : (s : List ℕ) (at p l : ℕ) → l ≡ recordLimit s at → l < p → p ≡ nextSection s at p
+unfolding nextSection
+next-past s at p l q h = rw (lt-leb p (recordLimit s at) (omega arith))
+
+pub next-in : (s : List ℕ) (at p l r : ℕ) → l ≡ recordLimit s at → p ≤ l → r ≡ sectionEnd s p → r ≡ nextSection s at p
+unfolding nextSection
+next-in s at p l r q h t = rw (le-leb p (recordLimit s at) (omega arith)) t
+
+pub section-more : (s : List ℕ) (at e p r : ℕ) → p ≡ sectionAt s at e → r ≡ nextSection s at p → r ≡ sectionAt s at (e + 1)
+unfolding sectionAt nextSection
+section-more s at e p r q t = t ∙ rw q (sym (advance-more (sectionEnd s) (recordLimit s at) e (at + 12)))
 
 pub section-next : (s : List ℕ) (at e : ℕ) → sectionAt s at e ≤ recordLimit s at → sectionAt s at (e + 1) ≡ sectionEnd s (sectionAt s at e)
 unfolding sectionAt

@@ -27,7 +27,12 @@ longestSection = 4 + cap
 unfoldable pub sectionAt : List ℕ → ℕ → ℕ → ℕ
 sectionAt s at e = advance (sectionEnd s) (recordLimit s at) e (at + 12)
 
--- the same where `at` lies in the file; 0 where not
+-- where the section behind the one at p starts, in the tile record at `at`; p itself where it is past the start of the
+-- record's checksum
+unfoldable pub nextSection : List ℕ → ℕ → ℕ → ℕ
+nextSection s at p = pick (leb p (recordLimit s at)) (sectionEnd s p) p
+
+-- where element e's starts where `at` lies in the file; 0 where not
 unfoldable pub sectionStart : List ℕ → ℕ → ℕ → ℕ
 sectionStart s at e = pick (leb (length s) at) 0 (sectionAt s at e)
 

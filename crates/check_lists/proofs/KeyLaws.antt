@@ -1,305 +1,226 @@
--- Metadata records with the same name and ID are of one part of the hashes and have one place there. So no two have, where each
--- record is the first at its place or has a pair that is its own. Assumes nothing.
-use Prim.Native.Nat.{ℕ, _+_, _*_, _/_, _%_, _≤_, _<_}
+-- No two metadata records have the same pair of name and ID, where they fall into rounds of records that ascend. Assumes nothing.
+use Prim.Native.Nat.{ℕ, zero, suc, _+_, _*_, _-_, _≤_, _<_}
 use mathlib.Core.Path.{_≡_, refl, sym, ap, _∙_}
 use mathlib.Core.List.{List, [], _∷_, List·Memᴰ, List·Memᴰ·head, List·Memᴰ·tail, List·Memᴰ·not-nil, List·Memᴰ·cases-cons}
-use mathlib.Core.Logic.{⊎-elim, _⊎_}
+use mathlib.Core.Logic.{_⊎_, inl, inr, ⊎-elim, by-cases}
 use mathlib.Core.Bool.{Bool, true, false, not, _||_}
 use native.Mathlib.Omega.{arith}
-use native.Mathlib.Nat.{mod-lt}
-use lib.ListN.{length, getD, set, replicate, length-set, length-replicate}
-use lib.Seq.{set-out, getD-set-same, getD-set-other}
+use native.Mathlib.Decide.{decLt}
+use lib.ListN.{length, getD}
 use denote.Enum.Declared.{tagOf}
-use lib.Dec.{leb, eqb}
-use borrow.Author.Tests.{eqb-true, eqb-false, ne-eqb, le-leb, lt-leb}
-use Rattle.wire.specs.Tests.{_≡?_, is, passes, allBelow}
-use Rattle.wire.proofs.TestLaws.{means, yes, no, no-true, not-both, below-none, below-more, below-each}
-use Rattle.wire.proofs.ByteLaws.{same-is}
-use Rattle.crc32c.specs.Crc.{crcOf}
+use lib.Dec.{eqb}
+use borrow.Author.Tests.{eqb-false}
+use Rattle.wire.specs.Pick.{pick}
+use Rattle.wire.specs.Tests.{both, passes}
+use Rattle.wire.proofs.TestLaws.{means, no, no-true, not-both, either-way}
 use Rattle.record.specs.declared.Cursor.{Cursor}
 use Rattle.record.specs.declared.Step.{Step}
 use Rattle.record.specs.declared.Step.the-variants.{Record}
+use Rattle.record.specs.declared.Found.{Found}
+use Rattle.record.specs.declared.Found.the-variants.{At, Nothing}
 use Rattle.record.specs.Record.{typeAt, stepAt}
-use Rattle.record.specs.Chain.{starts, headerEnd, records, recordsOf}
-use Rattle.record.proofs.ChainLaws.{stepped, starts-none, starts-record, less}
-use Rattle.record.proofs.SeekLaws.{over, seek-type}
+use Rattle.record.specs.Chain.{starts, firstRecord, find, headerEnd, records, recordsOf}
+use Rattle.record.proofs.ChainLaws.{stepped, starts-none, starts-record}
+use Rattle.record.proofs.SeekLaws.{over}
+use Rattle.record.proofs.FindLaws.{isFound, every-found, found-not, of-type, type-of}
 use Rattle.record.proofs.Step.{the-type}
-use Rattle.bodies.specs.MetadataRecord.{metadataName, recordId}
-use Rattle.record.proofs.FindLaws.{of-type, type-of}
-use Rattle.record.specs.Types.{metadataType}
-use Rattle.wire.proofs.ListLaws.{every-member, member-every, member-some}
-use Rattle.wire.specs.Lists.{some}
+use Rattle.wire.specs.Lists.{every}
+use Rattle.wire.proofs.ListLaws.{every-member, member-every}
 use Rattle.check_lists.specs.Metadata.{sameKey, keysDistinct}
-use Rattle.check_lists.specs.inner.Keys.{keyHash, keySlot, keyFine, keySeen, allFine, partDistinct, partPlaces}
-use Rattle.check_lists.specs.inner.Search.{hasTwin}
+use Rattle.check_lists.specs.inner.Search.{twinOf, hasTwin, doubled}
+use Rattle.check_lists.specs.inner.Keys.{keyOf, keyBefore, keyAfter, inRound, OneOf, Kept, Ascend, Covered}
 use Rattle.check_lists.proofs.FindLaws.{twin-not}
+use Rattle.check_lists.proofs.OrderLaws.{key-self, key-through, same-pair, pair-before, pair-after, after-none, after-is, round-open, round-in}
 
--- the hash and the place of a record
+-- a search among a list
 
-pub hash-is : (s : List ℕ) (x n i : ℕ) (name : List ℕ) → n ≡ crcOf name → name ≡ metadataName s x → i ≡ recordId s x → n + i * 2654435761 ≡ keyHash s x
-unfolding keyHash
-hash-is s x n i name p q e = rw (p, q, e)
-
-module _ (s : List ℕ) (parts part x : ℕ) where
-  module _ (k : ℕ) (p : k ≡ typeAt s x) where
-    pub place-type : (k ≡ 1 → ⊥) → partPlaces ≡ keySlot s parts part x
-    unfolding keySlot
-    place-type h = rw (← no ((typeAt s x ≡? metadataType) ∷ (keyHash s x % parts ≡? part) ∷ []) (λ z. h (p ∙ z .0)))
-
-    module _ (h : ℕ) (q : h ≡ keyHash s x) where
-      pub place-part : (h % parts ≡ part → ⊥) → partPlaces ≡ keySlot s parts part x
-      unfolding keySlot
-      place-part f = rw (← no ((typeAt s x ≡? metadataType) ∷ (keyHash s x % parts ≡? part) ∷ []) (λ z. f (rw q (z .1 .0))))
-
-      pub place-is : k ≡ 1 → h % parts ≡ part → h / parts % partPlaces ≡ keySlot s parts part x
-      unfolding keySlot
-      place-is f g =
-          rw (← yes ((typeAt s x ≡? metadataType) ∷ (keyHash s x % parts ≡? part) ∷ []) (sym p ∙ f, (rw (← q) g, tt))) (rw q)
-
--- a record takes its place
-
-module _ (s : List ℕ) (parts part : ℕ) (seen : List ℕ) (x j : ℕ) (q : j ≡ keySlot s parts part x) where
-  pub fine-out : length seen ≤ j → (true ≡ keyFine s parts part seen x) × (seen ≡ keySeen s parts part seen x)
-  unfolding keyFine keySeen
-  fine-out h = rw (← q) (rw (le-leb (length seen) j h), sym (set-out seen j 1 h))
-
-  pub fine-first : getD seen j 0 ≡ 0 → (true ≡ keyFine s parts part seen x) × (set seen j 1 ≡ keySeen s parts part seen x)
-  unfolding keyFine keySeen
-  fine-first h = rw (← q) (go (leb (length seen) j), refl)
-    where
-      go : (a : Bool) → true ≡ (a || (eqb (getD seen j 0) 0 || not (hasTwin s x)))
-      go true = refl
-      go false = rw h
-
-  module _ (b : Bool) (e : b ≡ hasTwin s x) where
-    pub fine-alone : b ≡ false → (true ≡ keyFine s parts part seen x) × (set seen j 1 ≡ keySeen s parts part seen x)
-    unfolding keyFine keySeen
-    fine-alone f = rw (← q) (go (leb (length seen) j) (eqb (getD seen j 0) 0), refl)
-      where
-        go : (a c : Bool) → true ≡ (a || (c || not (hasTwin s x)))
-        go true c = refl
-        go false true = refl
-        go false false = rw (← e, f)
-
-    pub fine-twin : j < length seen → (getD seen j 0 ≡ 0 → ⊥) → b ≡ true → (false ≡ keyFine s parts part seen x) × (set seen j 1 ≡ keySeen s parts part seen x)
-    unfolding keyFine keySeen
-    fine-twin h n f = rw (← q) (rw (lt-leb (length seen) j h, ne-eqb (getD seen j 0) 0 n, ← e, f), refl)
-
-seen-length : (s : List ℕ) (parts part : ℕ) (seen : List ℕ) (x : ℕ) → length (keySeen s parts part seen x) ≡ length seen
-unfolding keySeen
-seen-length s parts part seen x = length-set seen (keySlot s parts part x) 1
-
--- a loop over the cursor in which each record does
-
-plain : (b : Bool) → passes (is true ∷ is b ∷ []) ≡ b
-unfolding passes
-plain true = refl
-plain false = refl
-
-pub record Fine (s : List ℕ) (parts part : ℕ) (seen : List ℕ) (at : ℕ) (now : List ℕ) : Type 0 where
-  pub same : allFine s parts part now (starts s at) ≡ allFine s parts part seen (records s)
-  pub long : length now ≡ length seen
-
-pub fine-begin : (s : List ℕ) (parts part : ℕ) (seen : List ℕ) (at : ℕ) → at ≡ headerEnd s → Fine s parts part seen at seen
-unfolding records
-fine-begin s parts part seen at e = record { same = rw e; long = refl }
-
-module _ (s : List ℕ) (parts part : ℕ) (seen : List ℕ) (at : ℕ) (now : List ℕ) (g : Fine s parts part seen at now) (x : Step) (v : x ≡ stepAt s at) where
-  module _ (r : Bool) (next : List ℕ) where
-    module _ (k st n : ℕ) (nx : Cursor) (u : x ≡ Record k st n nx) (p : r ≡ keyFine s parts part now st) (q : next ≡ keySeen s parts part now st) where
-      pub fine-next : r ≡ true → Fine s parts part seen (nx .at) next
-      unfolding allFine
-      fine-next e =
-          let h = stepped u v in
-          let f : keyFine s parts part now at ≡ true = rw (← h .start) (sym p ∙ e) in
-          let o : next ≡ keySeen s parts part now at = q ∙ rw (h .start) in
-          let w : allFine s parts part now (starts s at) ≡ allFine s parts part next (starts s (nx .at)) =
-          rw (starts-record s at (h .ok), f, o, h .next) (plain _) in
-          record { same = sym w ∙ g .same; long = rw q (seen-length s parts part now st) ∙ g .long }
-
-      pub fine-not : r ≡ false → false ≡ allFine s parts part seen (records s)
-      unfolding allFine
-      fine-not e =
-          let h = stepped u v in
-          let f : keyFine s parts part now at ≡ false = rw (← h .start) (sym p ∙ e) in
-          rw (starts-record s at (h .ok)) (no _ (λ z. not-both (z .0) f)) ∙ g .same
-
-  pub fine-over : (tagOf the-type x ≡ 1) ⊎ (tagOf the-type x ≡ 2) → true ≡ allFine s parts part seen (records s)
-  unfolding allFine
-  fine-over t = rw (starts-none s at (over s at x v t)) refl ∙ g .same
-
-pub ruleset fining = (less, seek-type, fine-begin, fine-next, fine-not, fine-over)
-
--- where each record is fine, no two with one place have twins
-
-old-fine :
-    (s : List ℕ) (parts part : ℕ) (seen : List ℕ) (x j : ℕ) → keySlot s parts part x ≡ j → j < length seen → (getD seen j 0 ≡ 0 → ⊥) → keyFine s parts part seen x ≡ true →
-    hasTwin s x ≡ false
-old-fine s parts part seen x j q h n e = go (hasTwin s x) refl
+find-at : (p : ℕ → Bool) (l : List ℕ) (y : ℕ) → find p l ≡ At y → List·Memᴰ y l × (p y ≡ true)
+unfolding find
+find-at p [] y e = found-not (sym e) refl
+find-at p (x ∷ xs) y e = go (p x) refl e (find-at p xs y)
   where
-    go : (b : Bool) → hasTwin s x ≡ b → hasTwin s x ≡ false
-    go true f = not-both e (sym (fine-twin s parts part seen x j (sym q) true (sym f) h n refl .0))
-    go false f = f
+    go : (b : Bool) → p x ≡ b → pick b (At x) (find p xs) ≡ At y → (find p xs ≡ At y → List·Memᴰ y xs × (p y ≡ true)) → List·Memᴰ y (x ∷ xs) × (p y ≡ true)
+    go true f g r = let w : y ≡ x = cc in (List·Memᴰ·head w, rw w f)
+    go false f g r = let m = r g in (List·Memᴰ·tail (m .0), m .1)
 
-taken : (s : List ℕ) (parts part : ℕ) (seen : List ℕ) (x j : ℕ) → keySlot s parts part x ≡ j → j < length seen → getD (keySeen s parts part seen x) j 0 ≡ 1
-unfolding keySeen
-taken s parts part seen x j q h = rw q (getD-set-same seen j 1 0 h)
+-- a metadata record with a twin
 
-elsewhere : (s : List ℕ) (parts part : ℕ) (seen : List ℕ) (x j : ℕ) → (j ≡ keySlot s parts part x → ⊥) → getD (keySeen s parts part seen x) j 0 ≡ getD seen j 0
-unfolding keySeen
-elsewhere s parts part seen x j f = getD-set-other seen (keySlot s parts part x) j 1 0 f
+module _ (s : List ℕ) (x k : ℕ) (q : k ≡ typeAt s x) where
+  pub doubled-type : (k ≡ 1 → ⊥) → false ≡ doubled s x
+  unfolding doubled
+  doubled-type h = no _ (λ z. h (q ∙ z .0))
 
--- a place that is taken stays so
-stays : (s : List ℕ) (parts part : ℕ) (seen : List ℕ) (x j : ℕ) → j < length seen → (getD seen j 0 ≡ 0 → ⊥) → getD (keySeen s parts part seen x) j 0 ≡ 0 → ⊥
-stays s parts part seen x j h n = go (eqb (keySlot s parts part x) j) refl
-  where
-    go : (b : Bool) → eqb (keySlot s parts part x) j ≡ b → getD (keySeen s parts part seen x) j 0 ≡ 0 → ⊥
-    go true f z = omega (arith, z, taken s parts part seen x j (eqb-true _ _ f) h)
-    go false f z = n (sym (elsewhere s parts part seen x j (λ g. eqb-false _ _ f (sym g))) ∙ z)
+  pub doubled-is : (b : Bool) → k ≡ 1 → b ≡ hasTwin s x → b ≡ doubled s x
+  unfolding doubled
+  doubled-is b h e = either-way _ b (λ z. (sym q ∙ h, (sym e ∙ z, tt))) (λ z w. not-both (w .1 .0) (sym e ∙ z))
 
-fine-split :
-    {C : Type 0} (s : List ℕ) (parts part : ℕ) (seen : List ℕ) (x : ℕ) (xs : List ℕ) → allFine s parts part seen (x ∷ xs) ≡ true →
-    (keyFine s parts part seen x ≡ true → allFine s parts part (keySeen s parts part seen x) xs ≡ true → C) → C
-unfolding allFine
-fine-split s parts part seen x xs e f = let h = means _ e in f (h .0) (h .1 .0)
-
-module _ (s : List ℕ) (parts part j : ℕ) where
-  all-old :
-      (seen l : List ℕ) → allFine s parts part seen l ≡ true → j < length seen → (getD seen j 0 ≡ 0 → ⊥) → {x : ℕ} → List·Memᴰ x l → keySlot s parts part x ≡ j → hasTwin s x ≡ false
-  all-old seen [] e h n m q = absurd (List·Memᴰ·not-nil m)
-  all-old seen (y ∷ ys) e h n {x} m q =
-      fine-split s parts part seen y ys e
-      (λ a b.
-      ⊎-elim (λ i. old-fine s parts part seen x j q h n (rw i a))
-      (λ k.
-      let w = seen-length s parts part seen y in
-      all-old (keySeen s parts part seen y) ys b (omega arith) (stays s parts part seen y j h n) k q)
-      (List·Memᴰ·cases-cons m))
-
-  -- the later of two has no twin
-  all-two :
-      (seen l : List ℕ) → allFine s parts part seen l ≡ true → j < length seen → {x y : ℕ} → List·Memᴰ x l → List·Memᴰ y l → (x ≡ y → ⊥) →
-      keySlot s parts part x ≡ j → keySlot s parts part y ≡ j → hasTwin s x ≡ true → hasTwin s y ≡ true → ⊥
-  all-two seen [] e h m n d p q f g = List·Memᴰ·not-nil m
-  all-two seen (z ∷ zs) e h {x} {y} m n d p q f g =
-      fine-split s parts part seen z zs e
-      (λ a b.
-      let w = seen-length s parts part seen z in
-      let i : j < length (keySeen s parts part seen z) = omega arith in
-      ⊎-elim
-      (λ u.
-      ⊎-elim (λ v. d (u ∙ sym v))
-      (λ k. not-both g (all-old (keySeen s parts part seen z) zs b i (λ o. omega (arith, o, taken s parts part seen z j (rw (← u) p) h)) k q))
-      (List·Memᴰ·cases-cons n))
-      (λ c.
-      ⊎-elim
-      (λ v. not-both f (all-old (keySeen s parts part seen z) zs b i (λ o. omega (arith, o, taken s parts part seen z j (rw (← v) q) h)) c p))
-      (λ k. all-two (keySeen s parts part seen z) zs b i c k d p q f g)
-      (List·Memᴰ·cases-cons n))
-      (List·Memᴰ·cases-cons m))
-
--- and where no metadata record has a twin, each is fine
-
-alone-fine :
-    (s : List ℕ) (parts part : ℕ) (seen : List ℕ) (x : ℕ) → length seen ≤ partPlaces → (typeAt s x ≡ 1 → hasTwin s x ≡ false) → true ≡ keyFine s parts part seen x
-alone-fine s parts part seen x h f = go (eqb (typeAt s x) 1) refl
-  where
-    go : (b : Bool) → eqb (typeAt s x) 1 ≡ b → true ≡ keyFine s parts part seen x
-    go true e = fine-alone s parts part seen x (keySlot s parts part x) refl false (sym (f (eqb-true _ _ e))) refl .0
-    go false e =
-        fine-out s parts part seen x (keySlot s parts part x) refl (omega (arith, h, place-type s parts part x (typeAt s x) refl (eqb-false _ _ e))) .0
-
-all-alone :
-    (s : List ℕ) (parts part : ℕ) (seen l : List ℕ) → length seen ≤ partPlaces → ((x : ℕ) → List·Memᴰ x l → typeAt s x ≡ 1 → hasTwin s x ≡ false) →
-    allFine s parts part seen l ≡ true
-unfolding allFine
-all-alone s parts part seen [] h f = refl
-all-alone s parts part seen (x ∷ xs) h f =
-    let w = seen-length s parts part seen x in
-    sym
-    (yes _ (
-      sym (alone-fine s parts part seen x h (f x (List·Memᴰ·head refl))),
-      (all-alone s parts part (keySeen s parts part seen x) xs (omega arith) (λ y m. f y (List·Memᴰ·tail m)), tt),
-    ))
-
--- records with the same name and ID
-
-same-hash : (s : List ℕ) (x y : ℕ) → sameKey s x y ≡ true → keyHash s x ≡ keyHash s y
-unfolding sameKey keyHash
-same-hash s x y e = let h = means _ e in rw (same-is _ _ (h .0), h .1 .0)
-
-same-back : (s : List ℕ) (x y : ℕ) → sameKey s x y ≡ true → sameKey s y x ≡ true
-unfolding sameKey
-same-back s x y e =
-    let h = means _ e in
-    let n : metadataName s x ≡ metadataName s y = same-is _ _ (h .0) in
-    sym (yes _ (rw (← n) (rw (← n) at (h .0)), (sym (h .1 .0), tt)))
-
-twin-from : (s : List ℕ) (x y : ℕ) → List·Memᴰ y (recordsOf s 1) → (x ≡ y → ⊥) → sameKey s x y ≡ true → hasTwin s x ≡ true
-unfolding hasTwin
-twin-from s x y m d e = member-some _ (recordsOf s 1) m (sym (yes _ (d, (e, tt))))
-
-part-apart :
-    (s : List ℕ) (parts : ℕ) → 0 < parts → allBelow parts (partDistinct s parts) ≡ true → {x y : ℕ} → List·Memᴰ x (recordsOf s 1) → List·Memᴰ y (recordsOf s 1) →
-    (x ≡ y → ⊥) → sameKey s x y ≡ true → ⊥
-unfolding partDistinct
-part-apart s parts h e {x} {y} m n d k =
-    let o = of-type s 1 m in
-    let p = of-type s 1 n in
-    let u = place-is s parts (keyHash s x % parts) x (typeAt s x) refl (keyHash s x) refl (o .1) refl in
-    let v = place-is s parts (keyHash s x % parts) y (typeAt s y) refl (keyHash s x) (same-hash s x y k) (p .1) refl in
-    let l = length-replicate {A = ℕ} partPlaces 0 in
-    all-two s parts (keyHash s x % parts) (keyHash s x / parts % partPlaces) (replicate partPlaces 0) (records s)
-    (below-each parts (partDistinct s parts) e (keyHash s x % parts) (mod-lt (keyHash s x) h))
-    (omega (arith, l)) (o .0) (p .0) d (sym u) (sym v) (twin-from s x y n d k) (twin-from s y x m (λ i. d (sym i)) (same-back s x y k))
-
-parts-distinct : (s : List ℕ) (parts : ℕ) → 0 < parts → allBelow parts (partDistinct s parts) ≡ true → true ≡ keysDistinct s
+no-twin : (s : List ℕ) → keysDistinct s ≡ true → {x : ℕ} → List·Memᴰ x (recordsOf s 1) → hasTwin s x ≡ false
 unfolding keysDistinct
-parts-distinct s parts h e =
-    sym (member-every _ (recordsOf s 1) (λ x m. member-every _ (recordsOf s 1) (λ y n. go x y m n (eqb x y) refl (sameKey s x y) refl)))
+no-twin s k {x} m = twin-not s x ∙ ap not (every-member _ (recordsOf s 1) k m)
+
+pub twin-breaks : (s : List ℕ) (x y : ℕ) (f : Found) (r : Bool) → f ≡ At y → f ≡ firstRecord s (headerEnd s) (twinOf s x) → r ≡ hasTwin s y → r ≡ true → keysDistinct s ≡ false
+unfolding firstRecord twinOf records
+twin-breaks s x y f r p e q t =
+    let m = find-at (twinOf s x) (starts s (headerEnd s)) y (sym e ∙ p) in
+    sym (no-true _ (λ k. not-both (sym q ∙ t) (no-twin s k (type-of s 1 (m .0) (means _ (m .1) .0)))))
+
+pub false-true : {C : Type 0} → false ≡ true → C
+false-true e = not-both e refl
+
+distinct-found : (s : List ℕ) (f : Found) → f ≡ firstRecord s (headerEnd s) (doubled s) → not (isFound f) ≡ keysDistinct s
+unfolding keysDistinct recordsOf records firstRecord doubled passes
+distinct-found s f e =
+    ap (λ (g : Found). not (isFound g)) e
+    ∙ sym (every-found _ (λ y. eqb (typeAt s y) 1) (doubled s) (λ x. rw (twin-not s x) (go (eqb (typeAt s x) 1) (every (λ y. eqb x y || not (sameKey s x y)) (recordsOf s 1)))) (starts s (headerEnd s)))
+  where
+    go : (a b : Bool) → both a (both (not b) true) ≡ both a (not b)
+    go true true = refl
+    go true false = refl
+    go false b = refl
+
+pub distinct-not : (s : List ℕ) (x : ℕ) (f : Found) → f ≡ At x → f ≡ firstRecord s (headerEnd s) (doubled s) → false ≡ keysDistinct s
+distinct-not s x f p e = ap (λ (g : Found). not (isFound g)) (sym p) ∙ distinct-found s f e
+
+pub distinct-yes : (s : List ℕ) (f : Found) → f ≡ Nothing → f ≡ firstRecord s (headerEnd s) (doubled s) → true ≡ keysDistinct s
+distinct-yes s f p e = ap (λ (g : Found). not (isFound g)) (sym p) ∙ distinct-found s f e
+
+-- of records that ascend, no two have the same pair
+
+module _ (s a : List ℕ) (n : ℕ) (up : Ascend s a n) where
+  ascend-far : (i d : ℕ) → i + 1 + d < n → keyBefore s (getD a i 0 * 8) (getD a (i + 1 + d) 0 * 8) ≡ true
+  unfolding Ascend
+  ascend-far i zero h = let e : i + 1 + 0 ≡ i + 1 = omega arith in rw e (up i (omega arith))
+  ascend-far i (suc d) h =
+      let e : i + 1 + suc d ≡ i + 1 + d + 1 = omega arith in
+      rw e (key-through s _ _ _ (ascend-far i d (omega arith)) (up (i + 1 + d) (omega arith)))
+
+  ascend-less : (i j : ℕ) → i < j → j < n → keyBefore s (getD a i 0 * 8) (getD a j 0 * 8) ≡ true
+  ascend-less i j h k = let e : j ≡ i + 1 + (j - (i + 1)) = omega arith in rw e (ascend-far i (j - (i + 1)) (omega arith))
+
+  held-less : (x y : ℕ) (u : OneOf a n x) (v : OneOf a n y) → u .place < v .place → keyOf s x ≡ keyOf s y → ⊥
+  held-less x y u v h e =
+      let b : keyBefore s x y ≡ true = rw (← u .start, ← v .start) (ascend-less (u .place) (v .place) h (v .inside)) in
+      not-both b (key-self s x y e)
+
+  held-apart : (x y : ℕ) → OneOf a n x → OneOf a n y → (x ≡ y → ⊥) → keyOf s x ≡ keyOf s y → ⊥
+  held-apart x y u v d e =
+      by-cases (decLt (u .place) (v .place)) (λ h. held-less x y u v h e)
+      (λ h.
+      by-cases (decLt (v .place) (u .place)) (λ k. held-less y x v u k (sym e))
+      (λ k.
+      let w : u .place ≡ v .place = omega (arith, h, k) in
+      d (sym (u .start) ∙ ap (λ (i : ℕ). getD a i 0 * 8) w ∙ v .start)))
+
+-- rounds: two records with the same pair come behind the last that is judged
+
+abbrev pub Twins : List ℕ → ℕ → ℕ → Type 0
+Twins s x y = List·Memᴰ x (recordsOf s 1) × (List·Memᴰ y (recordsOf s 1) × ((x ≡ y → ⊥) × (sameKey s x y ≡ true)))
+
+pub record Judged (s : List ℕ) (low : ℕ) : Type 0 where
+  pub beyond : (x y : ℕ) → Twins s x y → keyAfter s low x ≡ true
+
+pub judged-begin : (s : List ℕ) → Judged s 0
+judged-begin s = record { beyond = λ x y t. sym (after-none s 0 x refl) }
+
+distinct-if : (s : List ℕ) → ((x y : ℕ) → Twins s x y → ⊥) → keysDistinct s ≡ true
+unfolding keysDistinct
+distinct-if s f = member-every _ (recordsOf s 1) (λ x m. member-every _ (recordsOf s 1) (λ y n. go x y m n (eqb x y) refl (sameKey s x y) refl))
   where
     go :
         (x y : ℕ) → List·Memᴰ x (recordsOf s 1) → List·Memᴰ y (recordsOf s 1) → (a : Bool) → eqb x y ≡ a → (b : Bool) → sameKey s x y ≡ b →
         (eqb x y || not (sameKey s x y)) ≡ true
-    go x y m n true f b g = rw f
-    go x y m n false f true g = absurd (part-apart s parts h e m n (eqb-false _ _ f) g)
-    go x y m n false f false g = rw (f, g)
+    go x y m n true p b q = rw p
+    go x y m n false p true q = absurd (f x y (m, (n, (eqb-false _ _ p, q))))
+    go x y m n false p false q = rw (p, q)
 
-no-twin : (s : List ℕ) → keysDistinct s ≡ true → (x : ℕ) → List·Memᴰ x (recordsOf s 1) → hasTwin s x ≡ false
-unfolding keysDistinct
-no-twin s k x m = twin-not s x ∙ ap not (every-member _ (recordsOf s 1) k m)
+module _ (s : List ℕ) (low high : ℕ) (a : List ℕ) (n : ℕ) (g : Judged s low) (up : Ascend s a n) (all : Covered s low high a n) where
+  round-apart : (x y : ℕ) → Twins s x y → inRound s low high x ≡ true → inRound s low high y ≡ true → ⊥
+  unfolding Covered
+  round-apart x y t p q =
+      held-apart s a n up x y (all x (of-type s 1 (t .0) .0) p) (all y (of-type s 1 (t .1 .0) .0) q) (t .1 .1 .0) (same-pair s x y (t .1 .1 .1))
 
-part-not : (s : List ℕ) (parts part : ℕ) → partDistinct s parts part ≡ false → false ≡ keysDistinct s
-unfolding partDistinct
-part-not s parts part e = no-true _ (λ k. not-both (all k) e)
-  where
-    all : keysDistinct s ≡ true → allFine s parts part (replicate partPlaces 0) (records s) ≡ true
-    all k =
-        all-alone s parts part (replicate partPlaces 0) (records s) (omega (arith, length-replicate {A = ℕ} partPlaces 0))
-        (λ x m t. no-twin s k x (type-of s 1 m t))
+  second-after : (x y : ℕ) → Twins s x y → keyAfter s low y ≡ true
+  second-after x y t = sym (pair-after s low x y (same-pair s x y (t .1 .1 .1))) ∙ g .beyond x y t
 
-pub part-is : (s : List ℕ) (parts part : ℕ) (seen : List ℕ) (r : Bool) → r ≡ allFine s parts part seen (records s) → seen ≡ replicate partPlaces 0 → r ≡ partDistinct s parts part
-unfolding partDistinct
-part-is s parts part seen r e z = e ∙ rw z
+  pub judged-all : high ≡ 0 → keysDistinct s ≡ true
+  judged-all e =
+      distinct-if s
+      (λ x y t.
+      round-apart x y t (sym (round-open s low high x _ refl _ refl (of-type s 1 (t .0) .1) (g .beyond x y t) e))
+      (sym (round-open s low high y _ refl _ refl (of-type s 1 (t .1 .0) .1) (second-after x y t) e)))
 
--- a loop over the parts
+  pub judged-more : (high ≡ 0 → ⊥) → Judged s high
+  judged-more d = record { beyond = λ x y t. go x y t (keyBefore s high x) refl }
+    where
+      go : (x y : ℕ) → Twins s x y → (b : Bool) → keyBefore s high x ≡ b → keyAfter s high x ≡ true
+      go x y t true e = sym (after-is s high x true d (sym e))
+      go x y t false e =
+          let k : keyBefore s high y ≡ false = sym (pair-before s high x y (same-pair s x y (t .1 .1 .1))) ∙ e in
+          absurd
+          (round-apart x y t (sym (round-in s low high x _ refl _ refl (of-type s 1 (t .0) .1) (g .beyond x y t) _ refl e))
+          (sym (round-in s low high y _ refl _ refl (of-type s 1 (t .1 .0) .1) (second-after x y t) _ refl k)))
 
-pub record Parted (s : List ℕ) (parts part : ℕ) : Type 0 where
-  pub done : allBelow part (partDistinct s parts) ≡ true
-  pub inside : part ≤ parts
-  pub some : 0 < parts
+-- a loop over a round: each comes before the next
 
-pub parted-begin : (s : List ℕ) (parts : ℕ) → 0 < parts → Parted s parts 0
-parted-begin s parts h = record { done = below-none (partDistinct s parts); inside = omega arith; some = h }
+pub record Ascending (s a : List ℕ) (i : ℕ) : Type 0 where
+  pub so-far : Ascend s a i
+  pub positive : 1 ≤ i
 
-module _ (s : List ℕ) (parts part : ℕ) (g : Parted s parts part) where
-  module _ (r : Bool) (q : r ≡ partDistinct s parts part) where
-    pub parted-more : part < parts → r ≡ true → Parted s parts (part + 1)
-    parted-more h e =
-        record { done = below-more part (partDistinct s parts) (g .done) (sym q ∙ e); inside = omega arith; some = g .some }
+pub ascend-begin : (s a : List ℕ) → Ascending s a 1
+unfolding Ascend
+ascend-begin s a = record { so-far = λ i h. absurd (omega arith); positive = omega arith }
 
-    pub parted-not : r ≡ false → false ≡ keysDistinct s
-    parted-not e = part-not s parts part (sym q ∙ e)
+module _ (s a : List ℕ) (i : ℕ) (g : Ascending s a i) where
+  pub ascend-more : (x y : ℕ) (r : Bool) → x ≡ getD a (i - 1) 0 * 8 → y ≡ getD a i 0 * 8 → r ≡ keyBefore s x y → r ≡ true → Ascending s a (i + 1)
+  unfolding Ascend
+  ascend-more x y r p q e t = record { so-far = λ j h. by-cases (decLt (j + 1) i) (λ k. g .so-far j k) (λ k. last j h k); positive = omega arith }
+    where
+      last : (j : ℕ) → j + 1 < i + 1 → (j + 1 < i → ⊥) → keyBefore s (getD a j 0 * 8) (getD a (j + 1) 0 * 8) ≡ true
+      last j h k =
+          let u : j ≡ i - 1 = omega (arith, h, k) in
+          let v : j + 1 ≡ i = omega (arith, h, k) in
+          rw (v, u, ← p, ← q, ← e) t
 
-  pub parted-all : parts ≤ part → true ≡ keysDistinct s
-  parted-all h = let e : part ≡ parts = omega (arith, g .inside) in parts-distinct s parts (g .some) (ap (λ (n : ℕ). allBelow n (partDistinct s parts)) (sym e) ∙ g .done)
+  pub ascend-all : (n : ℕ) → n ≤ i → Ascend s a n
+  unfolding Ascend
+  ascend-all n h = λ j k. g .so-far j (omega arith)
+
+pub never : {C : Type 0} {x : ℕ} → At x ≡ Nothing → C
+never e = found-not refl e
+
+-- a loop over the cursor that gathers a round: each record of it is still to come, or held
+
+pub record Gathered (s : List ℕ) (low high : ℕ) (a : List ℕ) (n at : ℕ) : Type 0 where
+  pub either : (x : ℕ) → List·Memᴰ x (records s) → inRound s low high x ≡ true → List·Memᴰ x (starts s at) ⊎ OneOf a n x
+
+pub gather-begin : (s : List ℕ) (low high : ℕ) (a : List ℕ) (at : ℕ) → at ≡ headerEnd s → Gathered s low high a 0 at
+unfolding records
+gather-begin s low high a at e = record { either = λ x m h. inl (rw e m) }
+
+module _ (s : List ℕ) (low high : ℕ) (a : List ℕ) (n at : ℕ) (g : Gathered s low high a n at) (x : Step) (v : x ≡ stepAt s at) where
+  gather-step :
+      (k st l : ℕ) (nx : Cursor) (b : List ℕ) (m : ℕ) → x ≡ Record k st l nx → (inRound s low high st ≡ true → OneOf b m st) →
+      ((y : ℕ) → OneOf a n y → OneOf b m y) → Gathered s low high b m (nx .at)
+  gather-step k st l nx b m u f kept =
+      let h = stepped u v in
+      record { either = λ y i r. ⊎-elim (λ j. go y r (rw (starts-record s at (h .ok), ← h .next) at j) (h .start)) (λ j. inr (kept y j)) (g .either y i r) }
+    where
+      go : (y : ℕ) → inRound s low high y ≡ true → List·Memᴰ y (at ∷ starts s (nx .at)) → st ≡ at → List·Memᴰ y (starts s (nx .at)) ⊎ OneOf b m y
+      go y r j z = ⊎-elim (λ i. let o : y ≡ st = i ∙ sym z in inr (rw o (f (rw (← o) r)))) (λ i. inl i) (List·Memᴰ·cases-cons j)
+
+  pub gather-keep :
+      (k st l : ℕ) (nx : Cursor) (b : List ℕ) (m : ℕ) → x ≡ Record k st l nx → (m ≤ 32768 → OneOf b m st) →
+      (m ≤ 32768 → (y : ℕ) → OneOf a n y → OneOf b m y) → m ≤ 32768 → Gathered s low high b m (nx .at)
+  gather-keep k st l nx b m u f kept h = gather-step k st l nx b m u (λ r. f h) (kept h)
+
+  pub gather-pass : (k st l : ℕ) (nx : Cursor) (r : Bool) → x ≡ Record k st l nx → r ≡ inRound s low high st → r ≡ false → Gathered s low high a n (nx .at)
+  gather-pass k st l nx r u q e = gather-step k st l nx a n u (λ t. not-both t (sym q ∙ e)) (λ y h. h)
+
+  pub gather-over : (tagOf the-type x ≡ 1) ⊎ (tagOf the-type x ≡ 2) → Covered s low high a n
+  unfolding Covered
+  gather-over t = λ y m r. ⊎-elim (λ j. absurd (List·Memᴰ·not-nil (rw (starts-none s at (over s at x v t)) at j))) (λ j. j) (g .either y m r)
+
+-- a round that is sorted is still whole
+pub covered-kept : (s : List ℕ) (low high : ℕ) (a b : List ℕ) (n : ℕ) → Covered s low high a n → Kept a b n → length a ≡ 32768 → Covered s low high b n
+unfolding Covered Kept
+covered-kept s low high a b n f k l = λ x m r. k l .1 n x (omega arith) (f x m r)

@@ -3,6 +3,8 @@ pub mod MetadataLaws
 pub mod ListLaws
 pub mod WindowLaws
 pub mod FindLaws
+pub mod OrderLaws
+pub mod SortLaws
 pub mod KeyLaws
 pub mod StageLaws
 pub mod RearrangedLaws

@@ -1,4 +1,4 @@
-// Stage 9: the records that a list names, each once, and metadata records with the same name and ID.
+// Stage 9: the records that a list names, each once.
 //
 // A list is judged a window of the file at a time. A window has 131,072 places, each eight bytes behind the one before it; the first
 // window starts at the header's end. A record's length is a multiple of eight, so every record starts at a place. One pass over the
@@ -6,21 +6,12 @@
 // a count of 1. A count goes no further than 2, so it is a byte. The time grows with the number of windows times the number of
 // entries and records: a file of one window, 1 MiB, is judged in two passes.
 //
-// Metadata records are compared by a hash of name and ID. The hashes are judged in parts, one for each 2,048 metadata records and one
-// more; a part has 131,072 places. Records with the same pair have the same hash, hence one part and one place. A record that is the
-// first at its place has no earlier one with its pair; any other is compared with every record. So the records are walked once for
-// each part, and names that are made to have one hash take time that grows with the square of their number.
-//
-// Counts and places are each a local array of 128 KiB; nothing else is written, and no memory is asked for. The compiler puts both
-// below one call, so a check runs in less than 320 KiB of stack, which tests/run tries.
-//
-// Measured at 16 MiB, where the checksums took 44 ms: a list of free records in reverse 123 ms, a metadata list in reverse 2.7 s,
-// 4,000 metadata records 49 ms. Record by record and entry by entry, the free list in reverse took 1,059 s.
+// The counts are a local array of 128 KiB, and so are the records of a round in keys.rt; nothing else is written, and no memory is
+// asked for. The compiler puts both below one call, so a check runs in less than 320 KiB of stack, which tests/run tries.
 use crate::ListKind;
 use crate::file_space;
 use crate::metadata;
 use bodies::list_directories;
-use bodies::metadata_record;
 use record::Cursor;
 use record::Found;
 use record::Step;
@@ -31,26 +22,16 @@ ghost use mathlib.Core.Bool.{true};
 ghost use Prim.Native.Nat.{_+_, _≤_, _<_};
 ghost use lib.ListN.{length};
 ghost use Rattle.record.specs.Record.{typeAt};
-ghost use Rattle.record.specs.Chain.{firstRecord, headerEnd, records};
+ghost use Rattle.record.specs.Chain.{firstRecord, headerEnd};
 ghost use Rattle.header.specs.Element.{longestString};
 ghost use Rattle.check_lists.specs.Listed.{listedOnce};
-ghost use Rattle.check_lists.specs.Metadata.{keysDistinct};
 ghost use Rattle.check_lists.specs.inner.Windows.{namedBy, slotOf, oneMore, noted, tallied, notOnceIn, windowRight};
-ghost use Rattle.check_lists.specs.inner.Keys.{keyHash, keySlot, keyFine, keySeen, allFine, partDistinct};
-ghost use Rattle.check_lists.specs.inner.Search.{listedKind, listCount, listFits, listEntryAt, listEntryOf, listEntryIs, listEntrySize, listRight, twinOf, hasTwin};
+ghost use Rattle.check_lists.specs.inner.Search.{listedKind, listCount, listFits, listEntryAt, listEntryOf, listEntryIs, listEntrySize, listRight};
 
 // A window's places, and the bytes that they lie over.
 const WINDOW_PLACES: usize = 131072;
 
 const WINDOW_BYTES: usize = 8 * WINDOW_PLACES;
-
-// The places of a part of the hashes, and for how many metadata records there is one part more.
-const PART_PLACES: usize = 131072;
-
-const PART_RECORDS: u64 = 2048;
-
-// What IDs are multiplied by: near 2^32 divided by the golden ratio, so that those that follow one another lie far apart.
-const SPREAD: u64 = 2654435761;
 
 // The type of the records that a list is of.
 fn listed_kind(list: ListKind) -> u32
@@ -271,150 +252,4 @@ pub fn list_right(s: &[u8], list: ListKind) -> bool
         return listed_once(s, list);
     }
     false
-}
-
-// Whether the record of a type at y is a metadata record other than the one at x and has its pair of name and ID.
-fn is_twin(s: &[u8], x: usize, kind: u32, y: usize) -> bool
-    requires { ⌜ kind ≡ typeAt (now s) y ⌝ }
-    ensures { λ r. ⌜ r ≡ twinOf (now (s .entry)) x y ⌝ }
-{
-    if kind != record::METADATA {
-        return false;
-    }
-    if x == y {
-        return false;
-    }
-    metadata::same_key(s, x, y)
-}
-
-// The first such record.
-fn find_twin(s: &[u8], x: usize) -> Found
-    ensures { λ r. ⌜ r ≡ firstRecord (now (s .entry)) (headerEnd (now (s .entry))) (twinOf (now (s .entry)) x) ⌝ }
-{
-    let mut c = Cursor {
-        at: chain::header_end(s),
-    };
-    loop {
-        let Step::Record {
-            kind,
-            start,
-            length: _,
-            next,
-        } = c.step(s)
-        else {
-            return Found::Nothing;
-        };
-        if is_twin(s, x, kind, start) {
-            return Found::At(start);
-        }
-        c = next;
-    }
-}
-
-// Whether there is one.
-fn has_twin(s: &[u8], x: usize) -> bool
-    ensures { λ r. ⌜ r ≡ hasTwin (now (s .entry)) x ⌝ }
-{
-    if let Found::At(_) = find_twin(s, x) {
-        return true;
-    }
-    false
-}
-
-// A hash of a metadata record's pair of name and ID.
-fn key_hash(s: &[u8], x: usize) -> u64
-    ensures { λ r. ⌜ r ≡ keyHash (now (s .entry)) x ⌝ }
-{
-    let name = crc32c::crc_of(metadata_record::metadata_name(s, x));
-    let id = metadata_record::record_id(s, x);
-    (name as u64) + (id as u64) * SPREAD
-}
-
-// The place of a metadata record of a part of the hashes; the number of places where it is of another part, or of
-// another type.
-fn key_slot(s: &[u8], parts: u64, part: u64, kind: u32, x: usize) -> usize
-    requires { ⌜ (0 < parts) × (kind ≡ typeAt (now s) x) ⌝ }
-    ensures { λ r. ⌜ r ≡ keySlot (now (s .entry)) parts part x ⌝ }
-{
-    if kind != record::METADATA {
-        return PART_PLACES;
-    }
-    let h = key_hash(s, x);
-    if h % parts != part {
-        return PART_PLACES;
-    }
-    (h / parts % PART_PLACES as u64) as usize
-}
-
-// A record takes its place. It is the first there, or no other has its pair.
-fn key_fine(s: &[u8], parts: u64, part: u64, seen: &mut [u8], kind: u32, x: usize) -> bool
-    requires { ⌜ (0 < parts) × (kind ≡ typeAt (now s) x) ⌝ }
-    ensures fine { λ r. ⌜ r ≡ keyFine (now (s .entry)) parts part (now (seen .entry)) x ⌝ }
-    ensures seen { λ _. ⌜ now (seen .exit) ≡ keySeen (now (s .entry)) parts part (now (seen .entry)) x ⌝ }
-{
-    let j = key_slot(s, parts, part, kind, x);
-    if seen.len() <= j {
-        return true;
-    }
-    let before = seen[j];
-    seen[j] = 1;
-    if before == 0 {
-        return true;
-    }
-    if has_twin(s, x) {
-        return false;
-    }
-    true
-}
-
-// Each record behind the header does so.
-fn all_fine(s: &[u8], parts: u64, part: u64, seen: &mut [u8]) -> bool
-    requires { ⌜ 0 < parts ⌝ }
-    ensures { λ r. ⌜ r ≡ allFine (now (s .entry)) parts part (now (seen .entry)) (records (now (s .entry))) ⌝ }
-{
-    let mut c = Cursor {
-        at: chain::header_end(s),
-    };
-    loop {
-        let Step::Record {
-            kind,
-            start,
-            length: _,
-            next,
-        } = c.step(s)
-        else {
-            return true;
-        };
-        if key_fine(s, parts, part, seen, kind, start) {
-            c = next;
-        } else {
-            return false;
-        }
-    }
-}
-
-// No two metadata records of a part have the same pair.
-fn part_distinct(s: &[u8], parts: u64, part: u64) -> bool
-    requires { ⌜ 0 < parts ⌝ }
-    ensures { λ r. ⌜ r ≡ partDistinct (now (s .entry)) parts part ⌝ }
-{
-    let mut seen = [0u8; PART_PLACES];
-    all_fine(s, parts, part, &mut seen)
-}
-
-// No two metadata records have the same pair of name and ID. Those with the same pair have the same hash, so they are of one part,
-// and have one place there.
-pub fn keys_distinct(s: &[u8]) -> bool
-    ensures { λ r. ⌜ r ≡ keysDistinct (now (s .entry)) ⌝ }
-{
-    let parts = (chain::record_count(s, record::METADATA) as u64) / PART_RECORDS + 1;
-    let mut part = 0;
-    while part < parts {
-        if part_distinct(s, parts, part) {
-            part += 1;
-        } else {
-            return false;
-        }
-    }
-    true
 }

@@ -1,5 +1,6 @@
 // Stage 9: the file-space and metadata directories, whole, and the stage.
 use crate::ListKind;
+use crate::keys;
 use crate::lists;
 use check_directory::references;
 use check_directory::tile_rules;
@@ -35,7 +36,7 @@ fn metadata_directory_right(s: &[u8]) -> bool
         return false;
     }
     if lists::list_right(s, ListKind::Metadata) {
-        return lists::keys_distinct(s);
+        return keys::keys_distinct(s);
     }
     false
 }

@@ -4,6 +4,7 @@ use bodies::tile_record;
 use geometry::Packing;
 use geometry::sizes;
 use geometry::tiles;
+use header::entries;
 use header::fields;
 ghost use mathlib.Core.Path.{_≡_};
 ghost use Prim.Native.Nat.{_+_, _<_};
@@ -11,29 +12,35 @@ ghost use lib.ListN.{length};
 ghost use Rattle.wire.specs.Tests.{allBelow};
 ghost use Rattle.check_records.specs.Frame.{endRight};
 ghost use Rattle.check_records.specs.TileBody.{sectionRight, indexRight, tileRight};
-ghost use Rattle.bodies.specs.TileRecord.{tileEnd};
+ghost use Rattle.header.specs.Element.{entryStart};
+ghost use Rattle.bodies.specs.TileRecord.{sectionAt, tileEnd};
 
-// Whether the length of element e there is from 1 to U.
-fn section_right(s: &[u8], at: usize, e: u32) -> bool
-    requires { ⌜ at < length (now s) ⌝ }
+// Whether the length of element e there is from 1 to U: its section starts at p, and its entry in the header at q.
+fn section_right(s: &[u8], at: usize, e: u32, p: usize, q: usize) -> bool
+    requires { ⌜ (p ≡ sectionAt (now s) at e) × (q ≡ entryStart (now s) e) ⌝ }
     ensures { λ r. ⌜ r ≡ sectionRight (now (s .entry)) at e ⌝ }
 {
-    let l = wire::u32_at(s, tile_record::section_start(s, at, e));
-    match sizes::element_packing(s, e as usize, l) {
+    let kind = wire::byte_at(s, q);
+    let l = wire::u32_at(s, p);
+    match sizes::kind_packing(s, kind, l) {
         Packing::Uncompressed => true,
         Packing::Compressed => true,
         Packing::Fault => false,
     }
 }
 
-// The first n of them.
+// The first n of them, in one pass over the sections and the entries.
 fn sections_right(s: &[u8], at: usize, n: u32) -> bool
     requires { ⌜ at < length (now s) ⌝ }
     ensures { λ r. ⌜ r ≡ allBelow n (sectionRight (now (s .entry)) at) ⌝ }
 {
     let mut e: u32 = 0;
+    let mut p = tile_record::section_start(s, at, 0);
+    let mut q = entries::entry_start(s, 0);
     while e < n {
-        if section_right(s, at, e) {
+        if section_right(s, at, e, p, q) {
+            p = tile_record::next_section(s, at, p);
+            q = entries::next_entry(s, q);
             e += 1;
         } else {
             return false;

@@ -1,278 +1,112 @@
-// CRC32C by a table of 256 entries: entry k is k after eight steps of one bit.
-ghost use mathlib.Core.Path.{_≡_};
-ghost use Rattle.crc32c.specs.Crc.{crcOf, crcPart};
+// CRC32C, eight bytes at a time: the bytes and the state are one number, and each few bits of it have a table of what they
+// do. Fewer bytes than eight are taken one by one.
+mod tables;
 
-const TABLE: [u32; 256] = [
-    0,
-    4067132163,
-    3778769143,
-    324072436,
-    3348797215,
-    904991772,
-    648144872,
-    3570033899,
-    2329499855,
-    2024987596,
-    1809983544,
-    2575936315,
-    1296289744,
-    3207089363,
-    2893594407,
-    1578318884,
-    274646895,
-    3795141740,
-    4049975192,
-    51262619,
-    3619967088,
-    632279923,
-    922689671,
-    3298075524,
-    2592579488,
-    1760304291,
-    2075979607,
-    2312596564,
-    1562183871,
-    2943781820,
-    3156637768,
-    1313733451,
-    549293790,
-    3537243613,
-    3246849577,
-    871202090,
-    3878099393,
-    357341890,
-    102525238,
-    4101499445,
-    2858735121,
-    1477399826,
-    1264559846,
-    3107202533,
-    1845379342,
-    2677391885,
-    2361733625,
-    2125378298,
-    820201905,
-    3263744690,
-    3520608582,
-    598981189,
-    4151959214,
-    85089709,
-    373468761,
-    3827903834,
-    3124367742,
-    1213305469,
-    1526817161,
-    2842354314,
-    2107672161,
-    2412447074,
-    2627466902,
-    1861252501,
-    1098587580,
-    3004210879,
-    2688576843,
-    1378610760,
-    2262928035,
-    1955203488,
-    1742404180,
-    2511436119,
-    3416409459,
-    969524848,
-    714683780,
-    3639785095,
-    205050476,
-    4266873199,
-    3976438427,
-    526918040,
-    1361435347,
-    2739821008,
-    2954799652,
-    1114974503,
-    2529119692,
-    1691668175,
-    2005155131,
-    2247081528,
-    3690758684,
-    697762079,
-    986182379,
-    3366744552,
-    476452099,
-    3993867776,
-    4250756596,
-    255256311,
-    1640403810,
-    2477592673,
-    2164122517,
-    1922457750,
-    2791048317,
-    1412925310,
-    1197962378,
-    3037525897,
-    3944729517,
-    427051182,
-    170179418,
-    4165941337,
-    746937522,
-    3740196785,
-    3451792453,
-    1070968646,
-    1905808397,
-    2213795598,
-    2426610938,
-    1657317369,
-    3053634322,
-    1147748369,
-    1463399397,
-    2773627110,
-    4215344322,
-    153784257,
-    444234805,
-    3893493558,
-    1021025245,
-    3467647198,
-    3722505002,
-    797665321,
-    2197175160,
-    1889384571,
-    1674398607,
-    2443626636,
-    1164749927,
-    3070701412,
-    2757221520,
-    1446797203,
-    137323447,
-    4198817972,
-    3910406976,
-    461344835,
-    3484808360,
-    1037989803,
-    781091935,
-    3705997148,
-    2460548119,
-    1623424788,
-    1939049696,
-    2180517859,
-    1429367560,
-    2807687179,
-    3020495871,
-    1180866812,
-    410100952,
-    3927582683,
-    4182430767,
-    186734380,
-    3756733383,
-    763408580,
-    1053836080,
-    3434856499,
-    2722870694,
-    1344288421,
-    1131464017,
-    2971354706,
-    1708204729,
-    2545590714,
-    2229949006,
-    1988219213,
-    680717673,
-    3673779818,
-    3383336350,
-    1002577565,
-    4010310262,
-    493091189,
-    238226049,
-    4233660802,
-    2987750089,
-    1082061258,
-    1395524158,
-    2705686845,
-    1972364758,
-    2279892693,
-    2494862625,
-    1725896226,
-    952904198,
-    3399985413,
-    3656866545,
-    731699698,
-    4283874585,
-    222117402,
-    510512622,
-    3959836397,
-    3280807620,
-    837199303,
-    582374963,
-    3504198960,
-    68661723,
-    4135334616,
-    3844915500,
-    390545967,
-    1230274059,
-    3141532936,
-    2825850620,
-    1510247935,
-    2395924756,
-    2091215383,
-    1878366691,
-    2644384480,
-    3553878443,
-    565732008,
-    854102364,
-    3229815391,
-    340358836,
-    3861050807,
-    4117890627,
-    119113024,
-    1493875044,
-    2875275879,
-    3090270611,
-    1247431312,
-    2660249211,
-    1828433272,
-    2141937292,
-    2378227087,
-    3811616794,
-    291187481,
-    34330861,
-    4032846830,
-    615137029,
-    3603020806,
-    3314634738,
-    939183345,
-    1776939221,
-    2609017814,
-    2295496738,
-    2058945313,
-    2926798794,
-    1545135305,
-    1330124605,
-    3173225534,
-    4084100981,
-    17165430,
-    307568514,
-    3762199681,
-    888469610,
-    3332340585,
-    3587147933,
-    665062302,
-    2042050490,
-    2346497209,
-    2559330125,
-    1793573966,
-    3190661285,
-    1279665062,
-    1595330642,
-    2910671697,
-];
+ghost use mathlib.Core.Path.{_≡_};
+ghost use Prim.Native.Nat.{_+_, _/_, _%_, _≤_, _<_};
+ghost use lib.ListN.{length};
+ghost use lib.Bits.{bitXor};
+ghost use Rattle.crc32c.specs.Crc.{crcOf, crcPart};
+ghost use Rattle.crc32c.specs.inner.Ahead.{overBits, crcFrom};
+
+// A step of the loop: the state but for an entry of the table of six bits, a number whose six lowest bits are that entry's
+// place, and the next position.
+struct Step {
+    rest: u32,
+    place: u64,
+    next: usize,
+}
+
+// The 22 lowest bits of 64.
+fn lower(y: u64) -> u32
+    ensures { λ r. ⌜ bitXor r (overBits 42 (y / 16 / 64 / 64 / 64)) ≡ overBits 64 y ⌝ }
+{
+    let y1 = y / 16;
+    let y2 = y1 / 64;
+    let y3 = y2 / 64;
+    let a = tables::bits_64(y % 16);
+    let b = tables::bits_60(y1 % 64);
+    let c = tables::bits_54(y2 % 64);
+    let d = tables::bits_48(y3 % 64);
+    a ^ (b ^ (c ^ d))
+}
+
+// The 18 lowest bits of 42.
+fn middle(y: u64) -> u32
+    ensures { λ r. ⌜ bitXor r (overBits 24 (y / 64 / 64 / 64)) ≡ overBits 42 y ⌝ }
+{
+    let y1 = y / 64;
+    let y2 = y1 / 64;
+    let a = tables::bits_42(y % 64);
+    let b = tables::bits_36(y1 % 64);
+    let c = tables::bits_30(y2 % 64);
+    a ^ (b ^ c)
+}
+
+// The 18 lowest bits of 24.
+fn upper(y: u64) -> u32
+    ensures { λ r. ⌜ bitXor r (overBits 6 (y / 64 / 64 / 64)) ≡ overBits 24 y ⌝ }
+{
+    let y1 = y / 64;
+    let y2 = y1 / 64;
+    let a = tables::bits_24(y % 64);
+    let b = tables::bits_18(y1 % 64);
+    let c = tables::bits_12(y2 % 64);
+    a ^ (b ^ c)
+}
+
+// Eight bytes, the state among them.
+fn eight(y: u64, next: usize) -> Step
+    ensures is { λ r. ⌜ bitXor (r .rest) (overBits 6 (r .place % 64)) ≡ overBits 64 y ⌝ }
+    ensures next { λ r. ⌜ r .next ≡ next ⌝ }
+{
+    let y4 = y / 16 / 64 / 64 / 64;
+    let y7 = y4 / 64 / 64 / 64;
+    let y10 = y7 / 64 / 64 / 64;
+    Step {
+        rest: lower(y) ^ (middle(y4) ^ upper(y7)),
+        place: y10,
+        next,
+    }
+}
+
+// One byte, the state in it and above it.
+fn one(x: u32, next: usize) -> Step
+    ensures is { λ r. ⌜ bitXor (r .rest) (overBits 6 (r .place % 64)) ≡ overBits 8 x ⌝ }
+    ensures next { λ r. ⌜ r .next ≡ next ⌝ }
+{
+    let x1 = x / 4;
+    Step {
+        rest: tables::bits_8((x % 4) as u64) ^ (x1 / 64),
+        place: x1 as u64,
+        next,
+    }
+}
+
+// The next eight bytes, or the next one where there are fewer.
+fn taken(c: u32, s: &[u8], i: usize) -> Step
+    requires { ⌜ i < length (now s) ⌝ }
+    ensures is { λ r. ⌜ crcFrom (bitXor (r .rest) (overBits 6 (r .place % 64))) (now (s .entry)) (r .next) ≡ crcFrom c (now (s .entry)) i ⌝ }
+    ensures ahead { λ r. ⌜ i < r .next ⌝ }
+    ensures inside { λ r. ⌜ r .next ≤ length (now (s .entry)) ⌝ }
+{
+    if s.len() - i < 8 {
+        return one(c ^ (s[i] as u32), i + 1);
+    }
+    eight((c as u64) ^ wire::u64_at(s, i), i + 8)
+}
 
 // The CRC32C of a slice.
 pub fn crc_of(s: &[u8]) -> u32
     ensures { λ r. ⌜ r ≡ crcOf (now (s .entry)) ⌝ }
 {
-    let table = TABLE;
     let mut c: u32 = 0xFFFF_FFFF;
     let mut i = 0;
     while i < s.len() {
-        let x = c ^ (s[i] as u32);
-        let k = (x % 256) as usize;
-        c = table[k] ^ (x / 256);
-        i += 1;
+        let t = taken(c, s, i);
+        let x = t.rest;
+        c = x ^ tables::bits_6(t.place % 64);
+        i = t.next;
     }
     c ^ 0xFFFF_FFFF
 }

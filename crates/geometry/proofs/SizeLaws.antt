@@ -81,10 +81,16 @@ packing-capped l u h =
     (λ p. sym (packing-less l cap (λ e. omega arith) (λ e. omega arith) (omega arith)) ∙ packing-less l u (λ e. omega arith) (λ e. omega arith) (omega arith))
     (λ m. let z : l ≡ 0 = omega arith in sym (packing-zero l cap z) ∙ packing-zero l u z)))
 
+pub kind-packing-is :
+    (s : List ℕ) (k h w l u : ℕ) (r : Packing) → h ≡ tileRows s → w ≡ tileColumns s → u ≡ min (uncompressed h w k) cap → r ≡ packingOf l u → l < cap →
+    r ≡ packingOf l (uncompressed (tileRows s) (tileColumns s) k)
+kind-packing-is s k h w l u r a b p q m = q ∙ ap (packingOf l) p ∙ packing-capped l (uncompressed h w k) m ∙ rw (a, b)
+
+-- by its type code, of a file's element
 pub element-packing-is :
-    (s : List ℕ) (e l u : ℕ) (r : Packing) → u ≡ min (elementBytes s e) cap → r ≡ packingOf l u → l < cap → r ≡ elementPacking s e l
-unfolding elementPacking
-element-packing-is s e l u r p q h = q ∙ ap (packingOf l) p ∙ packing-capped l (elementBytes s e) h
+    (s : List ℕ) (e k l : ℕ) (r : Packing) → k ≡ element s e .kind → r ≡ packingOf l (uncompressed (tileRows s) (tileColumns s) k) → r ≡ elementPacking s e l
+unfolding elementPacking elementBytes
+element-packing-is s e k l r p q = q ∙ rw p
 
 pub element-is :
     (s : List ℕ) (e h w u : ℕ) (x : Element) → x ≡ element s e → h ≡ tileRows s → w ≡ tileColumns s →

@@ -4,7 +4,8 @@ use header::entries;
 use header::fields;
 ghost use mathlib.Core.Path.{_≡_};
 ghost use Prim.Native.Nat.{_+_, _≤_, min};
-ghost use Rattle.geometry.specs.Sizes.{uncompressed, packingOf, cellOffset, storedSize, leastLength, elementBytes, elementPacking, tileBytes, cap};
+ghost use Rattle.header.specs.Fields.{tileRows, tileColumns};
+ghost use Rattle.geometry.specs.Sizes.{uncompressed, packingOf, cellOffset, storedSize, leastLength, elementBytes, tileBytes, cap};
 
 // Above every length of four bytes, so none of them tells it from a greater U.
 const CAP: u64 = 4294967296;
@@ -74,11 +75,13 @@ pub fn element_bytes(s: &[u8], e: usize) -> u64
     uncompressed(h, w, kind)
 }
 
-// A length L against U of a file's element.
-pub fn element_packing(s: &[u8], e: usize, l: u32) -> Packing
-    ensures { λ r. ⌜ r ≡ elementPacking (now (s .entry)) e l ⌝ }
+// A length L against U of an element of a type code.
+pub fn kind_packing(s: &[u8], kind: u32, l: u32) -> Packing
+    ensures { λ r. ⌜ r ≡ packingOf l (uncompressed (tileRows (now (s .entry))) (tileColumns (now (s .entry))) kind) ⌝ }
 {
-    packing_of(l, element_bytes(s, e))
+    let h = fields::tile_rows(s);
+    let w = fields::tile_columns(s);
+    packing_of(l, uncompressed(h, w, kind))
 }
 
 // The uncompressed bytes of one tile, or the cap where there are more.

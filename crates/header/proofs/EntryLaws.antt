@@ -1,15 +1,15 @@
 -- Strings and element entries. Assumes nothing.
 use Prim.Native.Nat.{ℕ, _+_, _*_, _/_, _-_, _≤_, _<_}
-use mathlib.Core.Path.{_≡_}
+use mathlib.Core.Path.{_≡_, sym, _∙_}
 use mathlib.Core.List.{List}
 use native.Mathlib.Omega.{arith}
-use borrow.Author.Tests.{ne-eqb}
+use borrow.Author.Tests.{ne-eqb, le-leb, lt-leb}
 use Rattle.wire.specs.Bytes.{byteAt, numberAt, u16At}
 use Rattle.wire.specs.Items.{advance}
-use Rattle.wire.proofs.ItemLaws.{items-step}
+use Rattle.wire.proofs.ItemLaws.{advance-more, items-step}
 use Rattle.header.specs.declared.Element.{Element}
 use Rattle.header.specs.Fields.{headerLimit, elementCount}
-use Rattle.header.specs.Element.{stringSize, stringEnd, blockSize, fillOffset, cellSize, blockAt, labelAt, descriptionAt, unitAt, entryEnd, fillBits, entryAt, entryStart, entriesRead}
+use Rattle.header.specs.Element.{stringSize, stringEnd, blockSize, fillOffset, cellSize, blockAt, labelAt, descriptionAt, unitAt, entryEnd, fillBits, entryAt, entryStart, nextEntry, element, entriesRead}
 use Rattle.header.specs.Tail.{methodsAt, methodCount, productLabelAt, fieldsEnd}
 
 -- an entry, from its parts
@@ -72,6 +72,25 @@ entry-whole s at k n f e p q r t = rw (p, q, r, t)
 pub entries-begin : (s : List ℕ) (e l : ℕ) → l ≡ headerLimit s → advance (entryEnd s) l e 284 ≡ entryStart s e
 unfolding entryStart
 entries-begin s e l p = rw p
+
+-- an entry more
+
+pub next-past : (s : List ℕ) (at l : ℕ) → l ≡ headerLimit s → l < at → at ≡ nextEntry s at
+unfolding nextEntry
+next-past s at l p h = rw (lt-leb at (headerLimit s) (omega arith))
+
+pub next-in : (s : List ℕ) (at l r : ℕ) → l ≡ headerLimit s → at ≤ l → r ≡ entryEnd s at → r ≡ nextEntry s at
+unfolding nextEntry
+next-in s at l r p h q = rw (le-leb at (headerLimit s) (omega arith)) q
+
+pub entry-next : (s : List ℕ) (e at r : ℕ) → at ≡ entryStart s e → r ≡ nextEntry s at → r ≡ entryStart s (e + 1)
+unfolding entryStart nextEntry
+entry-next s e at r p q = q ∙ rw p (sym (advance-more (entryEnd s) (headerLimit s) e 284))
+
+-- its type code
+pub kind-is : (s : List ℕ) (e at k : ℕ) → at ≡ entryStart s e → k ≡ byteAt s at → k ≡ element s e .kind
+unfolding element entryAt
+kind-is s e at k p q = q ∙ rw p
 
 -- a string more
 pub strings-step :

@@ -1,7 +1,7 @@
 -- G Tables 5 and 8 to 12: strings and element specification entries, for any bytes.
 use Prim.Native.Nat.{ℕ, _+_, _-_, min, _*_}
 use mathlib.Core.List.{List}
-use lib.Dec.{eqb}
+use lib.Dec.{leb, eqb}
 use Rattle.wire.specs.Pick.{pick, roundUp}
 use Rattle.wire.specs.Bytes.{byteAt, numberAt, u16At, part}
 use Rattle.wire.specs.Items.{advance}
@@ -87,6 +87,10 @@ entryAt s at =
 -- before it starts past `headerLimit`, the start of the first that does
 unfoldable pub entryStart : List ℕ → ℕ → ℕ
 entryStart s e = advance (entryEnd s) (headerLimit s) e 284
+
+-- where the entry behind the one at `at` starts; `at` itself where it is past `headerLimit`
+unfoldable pub nextEntry : List ℕ → ℕ → ℕ
+nextEntry s at = pick (leb at (headerLimit s)) (entryEnd s at) at
 
 -- element number e, counted from 0; for an e at or above the count, whatever stands at that start is read as an entry
 unfoldable pub element : List ℕ → ℕ → Element

@@ -5,7 +5,7 @@ use crate::fields;
 ghost use mathlib.Core.Path.{_≡_};
 ghost use Prim.Native.Nat.{_+_, _≤_, _<_, _*_};
 ghost use lib.ListN.{length};
-ghost use Rattle.header.specs.Element.{stringSize, stringEnd, blockSize, cellSize, blockAt, labelAt, entryEnd, fillBits, entryAt, entryStart, element, entriesRead, longestString, longestEntry, mostElements};
+ghost use Rattle.header.specs.Element.{stringSize, stringEnd, blockSize, cellSize, blockAt, labelAt, entryEnd, fillBits, entryAt, entryStart, nextEntry, element, entriesRead, longestString, longestEntry, mostElements};
 
 // Type codes of elements (G Table 8); an Integer's is 0, and none is above a Short's.
 pub const INTEGER_CODED: u32 = 1;
@@ -138,6 +138,16 @@ pub fn entry_start(s: &[u8], e: usize) -> usize
         left -= 1;
     }
     at
+}
+
+// Where the entry behind the one at a position starts; the position itself where it is past the start of the header's last four bytes.
+pub fn next_entry(s: &[u8], at: usize) -> usize
+    ensures { λ r. ⌜ r ≡ nextEntry (now (s .entry)) at ⌝ }
+{
+    if fields::header_limit(s) < at {
+        return at;
+    }
+    entry_end(s, at)
 }
 
 // Element number e.

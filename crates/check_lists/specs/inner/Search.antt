@@ -1,4 +1,4 @@
--- For `list_right` and private functions of lists.rt; no rule of stage 9 rests on it.
+-- For `list_right` and private functions of lists.rt and keys.rt; no rule of stage 9 rests on it.
 -- The two lists by their names, and metadata records with the same name and ID.
 use Prim.Native.Nat.{ℕ}
 use mathlib.Core.List.{List, [], _∷_}
@@ -51,6 +51,10 @@ twinOf s x y = passes ((typeAt s y ≡? metadataType) ∷ (x ≢? y) ∷ is (sam
 
 unfoldable pub hasTwin : List ℕ → ℕ → Bool
 hasTwin s x = some (λ y. passes ((x ≢? y) ∷ is (sameKey s x y) ∷ [])) (recordsOf s metadataType)
+
+-- a metadata record that has one
+unfoldable pub doubled : List ℕ → ℕ → Bool
+doubled s x = passes ((typeAt s x ≡? metadataType) ∷ is (hasTwin s x) ∷ [])
 
 -- a list fits its record, every record of its type is listed once, and nothing else is
 unfoldable pub listRight : List ℕ → ListKind → Bool

@@ -14,6 +14,7 @@ mod deeds;
 mod face;
 mod guarded;
 mod hostile;
+mod keys;
 mod lay_downs;
 mod lengths;
 mod listings;
@@ -61,7 +62,7 @@ fn main() -> ExitCode {
 
 /// Every section. Each has a generator of its own, so that one can change without the others.
 fn whole_run(seed: u64, small: bool) -> bool {
-    let sections: [fn(&mut Run, &mut Prng); 20] = [
+    let sections: [fn(&mut Run, &mut Prng); 21] = [
         sample_sums::section,
         made::section,
         allowed::section,
@@ -82,6 +83,7 @@ fn whole_run(seed: u64, small: bool) -> bool {
         packed::section,
         face::section,
         deeds::section,
+        keys::section,
     ];
     let mut run = Run::new(small);
     for (number, section) in sections.into_iter().enumerate() {

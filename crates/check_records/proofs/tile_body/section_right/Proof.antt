@@ -1,5 +1,6 @@
 -- `check_records::tile_body::section_right` meets its contract. Assumes nothing.
-use Rattle.bodies.proofs.SectionLaws.{section-told}
+use Rattle.header.proofs.EntryLaws.{kind-is}
+use Rattle.geometry.proofs.SizeLaws.{element-packing-is}
 use Rattle.check_records.proofs.RecordLaws.{section-whole, section-packed, section-fault}
 use borrow.Author.Needs.{needs}
 use Rattle.check_records.proofs.tile_body.section_right.Statement.{statement}
@@ -15,6 +16,6 @@ section-right-spec =
     (λ c. search needs)
     (λ c. search needs)
     (λ c. search needs)
-    (λ c. search (needs, section-told, section-whole))
-    (λ c. search (needs, section-told, section-packed))
-    (λ c. search (needs, section-told, section-fault)))
+    (λ c. search (needs, kind-is, element-packing-is, section-whole))
+    (λ c. search (needs, kind-is, element-packing-is, section-packed))
+    (λ c. search (needs, kind-is, element-packing-is, section-fault)))

@@ -7,7 +7,7 @@ use gvrs_tests::prng::Prng;
 use gvrs_tests::second::deeds::{Deed, CERTAIN, DOUBTFUL, UNREAD};
 use gvrs_tests::second::rectangles::Rectangle;
 
-use super::scored::{graded, packed, EDGES};
+use super::scored::{graded, packed, packed_page, EDGES};
 use crate::face::sample_sums::{page, rectangle};
 use crate::reads::ask::Asked;
 use crate::run::Run;
@@ -236,12 +236,7 @@ fn every_score(run: &mut Run) {
 /// As many from this one on, in a packed tile.
 fn packed_scores(run: &mut Run, first: i16, random: &mut Prng) {
     let scores: Vec<i16> = (0..=255).map(|more| first + more).collect();
-    let mut page = page([16, 16], [16, 16], &[(0, &scores)]);
-    let content = packed(&page, &scores, INDEX, random).expect("steps of one can be packed");
-    if let Body::Tile(tile) = &mut page.records[0].body {
-        tile.contents[0] = content;
-    }
-    let file = bytes_of(&page);
+    let file = packed_page(16, &scores, INDEX, random);
     let asked = Asked::new(&file);
     if by_themselves(run, &asked, &scores, &[0, 256]).len() == 256 {
         run.deeds.reached(PACKED_SCORES);

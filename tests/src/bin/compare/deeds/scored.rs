@@ -4,7 +4,7 @@
 
 use std::collections::HashMap;
 
-use gvrs_tests::build::{build, Built};
+use gvrs_tests::build::{build, bytes_of, Built};
 use gvrs_tests::page::{Body, Element, Filler, Page, Tile, SHORT};
 use gvrs_tests::prng::Prng;
 use gvrs_tests::random_page::put_anywhere;
@@ -15,6 +15,7 @@ use gvrs_tests::second::rectangles::Rectangle;
 
 use crate::face::made::inside;
 use crate::face::mixed::{malformed, out_of_range, position};
+use crate::face::sample_sums::page;
 use crate::packed::contents::{of_cells, Form};
 use crate::reads::described::{fill, Described, Inside};
 
@@ -322,6 +323,16 @@ pub fn packed(page: &Page, scores: &[i16], index: u8, random: &mut Prng) -> Opti
     let mut good = of_cells(SHORT, tile, cells, predictor, form, random)?;
     good.packed.index = index;
     Some(good.packed.bytes())
+}
+
+/// The file of a page of one packed tile, as many rows as columns.
+pub fn packed_page(side: u32, scores: &[i16], index: u8, random: &mut Prng) -> Vec<u8> {
+    let mut page = page([side; 2], [side; 2], &[(0, scores)]);
+    let content = packed(&page, scores, index, random).expect("scores that can be packed");
+    if let Body::Tile(tile) = &mut page.records[0].body {
+        tile.contents[0] = content;
+    }
+    bytes_of(&page)
 }
 
 /// 11: good scores by another index. 14: malformed, or a Short out of range.

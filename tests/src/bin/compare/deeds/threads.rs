@@ -8,12 +8,15 @@ use gvrs_tests::second::deeds::Deed;
 use gvrs_tests::second::rectangles::Rectangle;
 
 use super::ask::is_the_deed;
-use super::scored::Scored;
+use super::scored::{graded, packed_page, Scored};
+use crate::face::sample_sums::rectangle;
 use crate::run::Run;
 
 const THREADS: usize = 16;
 /// How often each thread asks everything.
 const ROUNDS: usize = 6;
+/// Of a large tile.
+const SIDE: u32 = 96;
 
 const SAME: &str = "16 threads at once: deeds as one by one";
 
@@ -27,7 +30,9 @@ struct Question {
 
 pub fn section(run: &mut Run, random: &mut Prng) {
     run.deeds.want(SAME);
-    let questions: Vec<Question> = (0..run.times(300)).map(|_| question(random)).collect();
+    let mut questions: Vec<Question> = (0..run.times(300)).map(|_| question(random)).collect();
+    questions.extend((0..run.times(24)).map(|_| large(random)));
+    random.shuffle(&mut questions);
     let questions = &questions[..];
     let faulty: Vec<Option<usize>> = thread::scope(|scope| {
         let ask = |number| scope.spawn(move || first_fault(questions, number));
@@ -52,9 +57,23 @@ fn question(random: &mut Prng) -> Question {
     Question { rectangle, compressor, deed, file }
 }
 
+/// A packed tile that takes long, so that another call comes between. Its scores are of its own.
+fn large(random: &mut Prng) -> Question {
+    let mut scores = vec![random.between(900, 1000) as i16; (SIDE * SIDE) as usize];
+    for _ in 0..50 {
+        let at = random.below(scores.len());
+        scores[at] = random.between(1, 1000) as i16;
+    }
+    let index = random.byte();
+    let file = packed_page(SIDE, &scores, index, random);
+    let compressor = u32::from(index);
+    let rectangle = rectangle([0, 0, u64::from(SIDE), u64::from(SIDE)]);
+    Question { rectangle, compressor, deed: graded(0, scores), file }
+}
+
 /// Asks them all, each thread beginning with another, until one is answered otherwise.
 fn first_fault(questions: &[Question], number: usize) -> Option<usize> {
-    let mut memory = vec![0; 256];
+    let mut memory = vec![0; (SIDE * SIDE) as usize];
     let begin = number * questions.len() / THREADS;
     let in_turn = (begin..questions.len()).chain(0..begin);
     let mut all = (0..ROUNDS).flat_map(|_| in_turn.clone());
