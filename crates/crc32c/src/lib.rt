@@ -6,8 +6,8 @@ ghost use mathlib.Core.Path.{_≡_};
 ghost use Prim.Native.Nat.{_+_, _/_, _%_, _≤_, _<_};
 ghost use lib.ListN.{length};
 ghost use lib.Bits.{bitXor};
-ghost use Rattle.crc32c.specs.Crc.{crcOf, crcPart};
-ghost use Rattle.crc32c.specs.inner.Ahead.{overBits, crcFrom};
+ghost use Rattle.crc32c.specs.Crc.{crcBit, crcByte, crcOf, crcPart, crcWithout};
+ghost use Rattle.crc32c.specs.inner.Ahead.{overBits, crcFrom, byteWithout};
 
 // A step of the loop: the state but for an entry of the table of six bits, a number whose six lowest bits are that entry's
 // place, and the next position.
@@ -116,4 +116,57 @@ pub fn crc_part(s: &[u8], at: usize, n: usize) -> u32
     ensures { λ r. ⌜ r ≡ crcPart (now (s .entry)) at n ⌝ }
 {
     crc_of(wire::part_of(s, at, n))
+}
+
+// The state one bit further.
+fn bit(c: u32) -> u32
+    ensures { λ r. ⌜ r ≡ crcBit c ⌝ }
+{
+    if c % 2 == 1 {
+        return (c / 2) ^ 0x82F6_3B78;
+    }
+    c / 2
+}
+
+// The state one byte further, a bit at a time: the tables are compiled into their one use, and a second one would cost it time.
+fn byte(c: u32, b: u32) -> u32
+    ensures { λ r. ⌜ r ≡ crcByte c b ⌝ }
+{
+    let d = bit(bit(bit(bit(c ^ b))));
+    bit(bit(bit(bit(d))))
+}
+
+// The byte at a position, read as 0 from `from` up to `to`, where these lie whole in the slice.
+fn byte_without(s: &[u8], from: usize, to: usize, i: usize) -> u32
+    ensures { λ r. ⌜ r ≡ byteWithout (now (s .entry)) from to i ⌝ }
+{
+    if s.len() < to {
+        return wire::byte_at(s, i);
+    }
+    if i < from {
+        return wire::byte_at(s, i);
+    }
+    if i < to {
+        return 0;
+    }
+    wire::byte_at(s, i)
+}
+
+// The CRC32C of the n bytes from a position on, those from `from` up to `to` read as 0, where these lie whole in the slice.
+pub fn crc_without(s: &[u8], at: usize, n: usize, from: usize, to: usize) -> u32
+    ensures { λ r. ⌜ r ≡ crcWithout (now (s .entry)) at n from to ⌝ }
+{
+    if s.len() < n {
+        return 0;
+    }
+    if s.len() - n < at {
+        return 0;
+    }
+    let mut c: u32 = 0xFFFF_FFFF;
+    let mut i = 0;
+    while i < n {
+        c = byte(c, byte_without(s, from, to, at + i));
+        i += 1;
+    }
+    c ^ 0xFFFF_FFFF
 }

@@ -13,10 +13,12 @@ use Rattle.record.specs.Chain.{Whole, joined, startsOf, WellFormed}
 use Rattle.record.proofs.ChainLaws.{joined-whole}
 use Rattle.geometry.specs.Tiles.{tileCount}
 use Rattle.geometry.specs.Sizes.{tileBytes, plainTileLength}
-use Rattle.lay_down.specs.Pieces.{recordLength, recordOf}
-use Rattle.lay_down.specs.Page.{sections, tileRecord, tileRecords, directoryBody, directoryRecord, directoryStart, laidFront, laidFile}
-use Rattle.lay_down.proofs.PieceLaws.{record-well}
-use Rattle.lay_down.proofs.PageLaws.{tile-length, cells-split, directory-length, front-length}
+use Rattle.written_records.specs.Pieces.{recordLength, recordOf}
+use Rattle.written_records.specs.Tile.{sections, tileRecord}
+use Rattle.written_records.proofs.PieceLaws.{record-well}
+use Rattle.written_records.proofs.TileLaws.{tile-length}
+use Rattle.lay_down.specs.Page.{tileRecords, directoryBody, directoryRecord, directoryStart, laidFront, laidFile}
+use Rattle.lay_down.proofs.PageLaws.{cells-split, directory-length, front-length}
 
 -- each tile record is one by itself, and no byte more; so they make a whole chain with what comes behind them
 module _ (f : List ℕ) (all : entriesRead f ≡ elementCount f) (fits : plainTileLength f ≤ largestInteger) where

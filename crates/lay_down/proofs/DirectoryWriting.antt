@@ -1,44 +1,20 @@
 -- The tile directory as it is written. Assumes nothing.
-use Prim.Native.Nat.{ℕ, _+_, _*_, _/_, _%_, _≤_}
+use Prim.Native.Nat.{ℕ, _+_, _*_, _≤_}
 use mathlib.Core.Path.{_≡_, refl, sym, ap, _∙_}
-use mathlib.Core.List.{List, [], _∷_, _++_, append-assoc}
+use mathlib.Core.List.{List, _++_, append-assoc}
 use native.Mathlib.Omega.{arith}
 use lib.ListN.{length}
-use Rattle.wire.specs.Bytes.{bytesOf, put}
-use Rattle.wire.proofs.ByteLaws.{bytes-length}
-use Rattle.wire.proofs.PutLaws.{first, then, bytes-mod}
+use Rattle.wire.specs.Bytes.{put}
+use Rattle.wire.proofs.PutLaws.{first, then}
 use Rattle.header.specs.Fields.{checksumEnabled}
-use Rattle.record.specs.Record.{contentAt}
 use Rattle.geometry.specs.Tiles.{tilesAcross, tilesDown, tileCount}
-use Rattle.lay_down.specs.Pieces.{zeros, recordHead, recordLength, recordOf, closedAt}
-use Rattle.lay_down.specs.Page.{references, directoryForm, directoryBody, directoryRecord}
-use Rattle.lay_down.proofs.PieceLaws.{zeros-length, head-length}
-use Rattle.lay_down.proofs.PageLaws.{references-length, form-length, body-length, directory-holds}
-use Rattle.lay_down.proofs.PieceWriting.{closed-put}
-
--- what stands before the references
-
-sixteen : zeros 16 ≡ (0 ∷ 0 ∷ []) ++ zeros 6 ++ bytesOf 4 0 ++ bytesOf 4 0
-unfolding zeros bytesOf
-sixteen = refl
-
-pub form-put :
-    (d a b l : List ℕ) (at x y : ℕ) → a ≡ put d at (zeros 16) → b ≡ put a (at + 16) (bytesOf 4 x) → l ≡ put b (at + 20) (bytesOf 4 y) →
-    at + 24 ≤ length d → l ≡ put d at (directoryForm x y)
-unfolding directoryForm
-form-put d a b l at x y p q r h =
-    let w = first (p ∙ ap (put d at) sixteen) (ap length (sym sixteen) ∙ zeros-length 16) in
-    let u = then w (bytesOf 4 x) 4 (at + 16) q (bytes-length 4 x) refl (omega arith) in
-    let v = then u (bytesOf 4 y) 4 (at + 20) r (bytes-length 4 y) (omega arith) (omega arith) in
-    v .is
-
--- one reference
-pub reference-put :
-    (d l : List ℕ) (at i start v : ℕ) → l ≡ put d (at + 4 * i) (bytesOf 4 v) → v ≡ (start / 8 + 1) % 4294967296 →
-    l ≡ put d (at + 4 * i) (bytesOf 4 (contentAt start / 8))
-reference-put d l at i start v p e =
-    let s : start / 8 + 1 ≡ (start + 8) / 8 = omega arith in
-    p ∙ ap (put d (at + 4 * i)) (ap (bytesOf 4) e ∙ bytes-mod 4 (start / 8 + 1) ∙ ap (bytesOf 4) s)
+use Rattle.written_records.specs.Pieces.{recordHead, recordLength, recordOf, closedAt}
+use Rattle.written_records.specs.Directory.{directoryForm}
+use Rattle.written_records.proofs.PieceLaws.{head-length}
+use Rattle.written_records.proofs.PieceWriting.{closed-put}
+use Rattle.written_records.proofs.DirectoryLaws.{form-length}
+use Rattle.lay_down.specs.Page.{references, directoryBody, directoryRecord}
+use Rattle.lay_down.proofs.PageLaws.{references-length, body-length, directory-holds}
 
 -- the tile directory
 pub directory-put :

@@ -5,15 +5,15 @@ use mathlib.Core.List.{List, _++_}
 use mathlib.Core.Logic.{_⊎_, inl, inr, ⊎-elim}
 use native.Mathlib.Omega.{arith}
 use lib.ListN.{length}
-use Rattle.wire.specs.Bytes.{Bytes, byteAt, part, bytesOf, Same}
-use Rattle.wire.proofs.ByteLaws.{number-same, bytes-of}
+use Rattle.wire.specs.Bytes.{Bytes, byteAt, part, bytesOf, Same, zeros}
+use Rattle.wire.proofs.ByteLaws.{number-same, bytes-of, zeros-bytes}
 use Rattle.wire.proofs.PutLaws.{length-put, put-outside, put-aside, put-number, bytes-put}
 use Rattle.wire.proofs.PlaceLaws.{Placed}
 use Rattle.header.specs.Fields.{checksumEnabled}
-use Rattle.lay_down.specs.Pieces.{zeros, checksumFor}
+use Rattle.written_records.specs.Pieces.{checksumFor}
+use Rattle.written_records.proofs.SealLaws.{sealed-same, sealed-placed}
 use Rattle.lay_down.specs.Page.{fieldsSet, FieldsRead, NotSet, laidFront}
 use Rattle.lay_down.proofs.PageLaws.{fields-length}
-use Rattle.lay_down.proofs.SealLaws.{zeros-bytes, sealed-same, sealed-placed}
 
 -- the fields are read where the bytes that hold them stand
 pub read-same : {s u : List ℕ} {t d : ℕ} → Same s u 40 88 → FieldsRead s t d → FieldsRead u t d

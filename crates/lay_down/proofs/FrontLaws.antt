@@ -3,7 +3,6 @@ use Prim.Native.Nat.{ℕ, min, _+_, _*_, _≤_, _<_}
 use mathlib.Core.Path.{_≡_, ap, _∙_}
 use mathlib.Core.List.{List}
 use mathlib.Core.Logic.{by-cases}
-use mathlib.Core.Bool.{true}
 use native.Mathlib.Decide.{decLe}
 use native.Mathlib.Omega.{arith}
 use native.Mathlib.Nat.{mul-le-mul}
@@ -11,22 +10,16 @@ use lib.ListN.{length, getD, set}
 use lib.Seq.{getD-set-same, getD-set-other}
 use Rattle.wire.proofs.TestLaws.{means, sum-more, sum-within}
 use Rattle.answer.specs.declared.Verdict.the-variants.{Accepted}
-use Rattle.answer.proofs.VerdictLaws.{gate-passed}
-use Rattle.header.specs.Fields.{elementCount}
 use Rattle.record.specs.Chain.{headerEnd}
 use Rattle.header.specs.Element.{entriesRead}
 use Rattle.geometry.specs.Tiles.{tileCount}
 use Rattle.geometry.specs.Sizes.{storedSize, leastLength, tileLength, cap, elementBytes, tileBytes, plainTileLength}
 use Rattle.geometry.proofs.SizeLaws.{sum-stored, plain-most}
-use Rattle.check_header.specs.Identification.{identified, versionRight}
-use Rattle.check_header.specs.HeaderRecord.{headerRight}
-use Rattle.check_header.specs.Ceilings.{withinCeilings}
-use Rattle.check_header.specs.Stages.{firstTwo, nextTwo, stages, frontRight, checkFront}
-use Rattle.check_header.proofs.Judged.{header-long}
+use Rattle.check_header.specs.Stages.{frontRight, checkFront}
 use Rattle.check_header.specs.Passed.{Headed, InRange}
 use Rattle.check_header.proofs.PassedLaws.{range-of, stages-passed}
-use Rattle.lay_down.specs.Pieces.{recordLength}
-use Rattle.lay_down.proofs.PageLaws.{storedBefore, element-within}
+use Rattle.written_records.proofs.TileLaws.{storedBefore, element-within}
+use Rattle.written_records.specs.Pieces.{recordLength}
 
 -- a front passes stages 1 to 4 by itself, and is its header and no byte more
 pub front-passed : (f : List ℕ) → checkFront f ≡ Accepted → Headed f (length f) × (headerEnd f ≡ length f)

@@ -4,14 +4,13 @@ use mathlib.Core.Path.{_≡_, refl, _∙_}
 use mathlib.Core.List.{List}
 use native.Mathlib.Omega.{arith}
 use lib.ListN.{length}
-use Rattle.wire.specs.Bytes.{part, bytesOf, put}
-use Rattle.wire.proofs.ByteLaws.{bytes-length}
+use Rattle.wire.specs.Bytes.{part, bytesOf, put, zeros}
+use Rattle.wire.proofs.ByteLaws.{bytes-length, zeros-length}
 use Rattle.wire.proofs.PutLaws.{length-put}
 use Rattle.wire.proofs.PlaceLaws.{placed-part, put-placed, put-inside}
 use Rattle.header.specs.Fields.{checksumEnabled}
-use Rattle.lay_down.specs.Pieces.{zeros, checksumFor, sealed}
+use Rattle.written_records.specs.Pieces.{checksumFor, sealed}
 use Rattle.lay_down.specs.Page.{fieldsSet, laidFront}
-use Rattle.lay_down.proofs.PieceLaws.{zeros-length}
 use Rattle.lay_down.proofs.PageLaws.{fields-length}
 
 pub fields-are :

@@ -18,7 +18,7 @@ use Rattle.answer.proofs.VerdictLaws.{gate-passed, behind-passed}
 use Rattle.geometry.specs.Tiles.{tileCount}
 use Rattle.geometry.specs.Sizes.{cap, tileBytes, plainTileLength}
 use Rattle.check_header.specs.Stages.{checkFront}
-use Rattle.lay_down.specs.Pieces.{recordLength}
+use Rattle.written_records.specs.Pieces.{recordLength}
 use Rattle.lay_down.specs.Page.{directoryStart, fileLength}
 use Rattle.lay_down.specs.Answer.{ascending, inputRight, lengthAllowed, fitsIn, inputVerdict, layDownVerdict}
 use Rattle.lay_down.proofs.FrontLaws.{Front, front-of, tile-exact}

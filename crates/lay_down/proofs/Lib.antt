@@ -1,14 +1,11 @@
-pub mod PieceLaws
 pub mod PageLaws
 pub mod PlaceLaws
 pub mod ChainLaws
-pub mod SealLaws
 pub mod FieldLaws
 pub mod FrontLaws
 pub mod AscendLaws
 pub mod IndexLaws
 pub mod JudgeLaws
-pub mod PieceWriting
 pub mod FrontWriting
 pub mod SectionWriting
 pub mod TileWriting

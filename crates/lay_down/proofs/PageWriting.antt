@@ -14,7 +14,7 @@ use Rattle.answer.specs.Refusals.{unlessRefused}
 use Rattle.record.specs.Chain.{joined}
 use Rattle.geometry.specs.Tiles.{tileCount}
 use Rattle.geometry.specs.Sizes.{tileBytes, plainTileLength}
-use Rattle.lay_down.specs.Pieces.{recordLength}
+use Rattle.written_records.specs.Pieces.{recordLength}
 use Rattle.lay_down.specs.Page.{tileRecords, directoryRecord, directoryStart, fileLength, laidFront, laidFile}
 use Rattle.lay_down.specs.Answer.{layDownVerdict, laid, laidOut}
 use Rattle.lay_down.proofs.PageLaws.{tiles-length, directory-length, front-length, laid-length}

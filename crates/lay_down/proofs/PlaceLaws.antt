@@ -1,5 +1,5 @@
 -- Where the pieces of what is laid down stand. Assumes nothing.
-use Prim.Native.Nat.{ℕ, zero, suc, _+_, _*_, _≤_, _<_}
+use Prim.Native.Nat.{ℕ, zero, suc, _+_, _*_, _<_}
 use mathlib.Core.Path.{_≡_, sym, _∙_}
 use mathlib.Core.List.{List, [], _∷_, _++_, List·Memᴰ, List·Memᴰ·head, List·Memᴰ·tail, List·Memᴰ·not-nil, List·Memᴰ·cases-cons}
 use mathlib.Core.Logic.{⊎-elim, by-cases}
@@ -7,8 +7,7 @@ use native.Mathlib.Decide.{decLe}
 use native.Mathlib.Omega.{arith}
 use lib.ListN.{length, getD, take, drop}
 use lib.Seq.{drop-drop}
-use Rattle.wire.specs.Tests.{sumBelow}
-use Rattle.wire.specs.Bytes.{bytesOf, part}
+use Rattle.wire.specs.Bytes.{bytesOf, part, zeros}
 use Rattle.wire.proofs.ByteLaws.{part-in}
 use Rattle.wire.proofs.ItemLaws.{item-within}
 use Rattle.wire.proofs.PlaceLaws.{Placed, placed-self, placed-last, placed-before, placed-inner, placed-at, placed-first, placed-next}
@@ -16,25 +15,14 @@ use Rattle.header.specs.Fields.{checksumEnabled, elementCount}
 use Rattle.header.specs.Element.{entriesRead}
 use Rattle.record.specs.Chain.{joined, startsOf}
 use Rattle.geometry.specs.Tiles.{tilesAcross, tilesDown, tileCount}
-use Rattle.geometry.specs.Sizes.{elementBytes, tileBytes, plainTileLength}
-use Rattle.lay_down.specs.Pieces.{zeros, section}
-use Rattle.lay_down.specs.Page.{sections, tileRecord, tileRecords, compactFrom, references, directoryForm, directoryBody, directoryRecord}
-use Rattle.lay_down.proofs.PieceLaws.{record-body}
-use Rattle.lay_down.proofs.PageLaws.{storedBefore, sections-length, tile-length, cells-split, four-more, references-length, reserved-length, form-length}
-
--- where the sections stand from x on, the one of element e stands behind those before it
-module _ (f c : List ℕ) {s : List ℕ} {x : ℕ} where
-  pub section-there :
-      (n : ℕ) → sumBelow n (elementBytes f) ≤ length c → Placed s x (sections f n c) → (e : ℕ) → e < n →
-      Placed s (x + storedBefore f e) (section (part c (sumBelow e (elementBytes f)) (elementBytes f e)))
-  unfolding sections sumBelow
-  section-there zero l h e k = absurd (omega arith)
-  section-there (suc n) l h e k =
-      let a = sections f n c in
-      let b = section (part c (sumBelow n (elementBytes f)) (elementBytes f n)) in
-      let m : sumBelow n (elementBytes f) ≤ length c = omega arith in
-      by-cases (decLe (e + 1) n) (λ i. section-there n m (placed-first a b h) e (omega arith))
-      (λ i. let z : e ≡ n = omega arith in rw z (placed-next a b (sections-length f n c m) h))
+use Rattle.geometry.specs.Sizes.{tileBytes, plainTileLength}
+use Rattle.written_records.specs.Tile.{tileRecord}
+use Rattle.written_records.specs.Directory.{directoryForm}
+use Rattle.written_records.proofs.PieceLaws.{record-body}
+use Rattle.written_records.proofs.DirectoryLaws.{four-more, reserved-length, form-length}
+use Rattle.written_records.proofs.TileLaws.{tile-length}
+use Rattle.lay_down.specs.Page.{tileRecords, compactFrom, references, directoryBody, directoryRecord}
+use Rattle.lay_down.proofs.PageLaws.{cells-split, references-length}
 
 -- the cell bytes of a later tile, among those behind the first
 cells-behind : (t n k : ℕ) (c : List ℕ) → length c ≡ suc n * t → k < n → part (drop t c) (k * t) t ≡ part c (suc k * t) t

@@ -8,14 +8,12 @@ use native.Mathlib.Omega.{arith}
 use lib.ListN.{length, getD, take}
 use lib.Seq.{take-length}
 use borrow.Author.Tests.{eq-eqb, ne-eqb}
-use Rattle.wire.specs.Bytes.{bytesOf, put}
-use Rattle.wire.proofs.ByteLaws.{bytes-length}
+use Rattle.wire.specs.Bytes.{bytesOf, put, zeros}
+use Rattle.wire.proofs.ByteLaws.{bytes-length, zeros-length, zeros-joined}
 use Rattle.wire.proofs.ItemLaws.{item-within}
 use Rattle.wire.proofs.PlaceLaws.{put-before, put-last, put-inside, put-over}
 use Rattle.geometry.specs.Sizes.{plainTileLength}
-use Rattle.lay_down.specs.Pieces.{zeros}
 use Rattle.lay_down.specs.Page.{compactFrom, references, directoryStart, fileLength}
-use Rattle.lay_down.proofs.PieceLaws.{zeros-length, zeros-joined}
 use Rattle.lay_down.proofs.PageLaws.{references-length}
 use Rattle.lay_down.proofs.IndexLaws.{compact-next}
 

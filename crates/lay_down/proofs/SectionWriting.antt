@@ -13,10 +13,10 @@ use Rattle.wire.proofs.PutLaws.{length-put, put-nil, first, then}
 use Rattle.header.specs.Fields.{elementCount}
 use Rattle.header.specs.Element.{entriesRead}
 use Rattle.geometry.specs.Sizes.{storedSize, elementBytes, tileBytes}
-use Rattle.lay_down.specs.Pieces.{section}
-use Rattle.lay_down.specs.Page.{sections}
-use Rattle.lay_down.proofs.PieceLaws.{section-length}
-use Rattle.lay_down.proofs.PageLaws.{storedBefore, sections-length, element-within}
+use Rattle.written_records.specs.Pieces.{section}
+use Rattle.written_records.specs.Tile.{sections}
+use Rattle.written_records.proofs.TileLaws.{storedBefore, sections-length, element-within}
+use Rattle.written_records.proofs.PieceLaws.{section-length}
 use Rattle.lay_down.proofs.FrontLaws.{Front}
 
 -- where a writer stands behind the first e of them

@@ -13,12 +13,14 @@ use Rattle.wire.proofs.PutLaws.{length-put, put-put, put-nil, first, then}
 use Rattle.header.specs.Fields.{checksumEnabled, elementCount}
 use Rattle.record.specs.Chain.{joined}
 use Rattle.geometry.specs.Sizes.{tileBytes, plainTileLength}
-use Rattle.lay_down.specs.Pieces.{recordHead, recordOf, closedAt}
-use Rattle.lay_down.specs.Page.{sections, tileRecord, tileRecords, directoryStart}
-use Rattle.lay_down.proofs.PieceLaws.{head-length, record-length}
-use Rattle.lay_down.proofs.PageLaws.{storedBefore, sections-length, tile-sum, plain-holds, tile-body-length, tile-length, tiles-length}
+use Rattle.written_records.specs.Pieces.{recordHead, recordOf, closedAt}
+use Rattle.written_records.specs.Tile.{sections, tileRecord}
+use Rattle.written_records.proofs.PieceLaws.{head-length, record-length}
+use Rattle.written_records.proofs.TileLaws.{storedBefore, sections-length, tile-sum, plain-holds, tile-body-length, tile-length}
+use Rattle.written_records.proofs.PieceWriting.{closed-put}
+use Rattle.lay_down.specs.Page.{tileRecords, directoryStart}
+use Rattle.lay_down.proofs.PageLaws.{tiles-length}
 use Rattle.lay_down.proofs.FrontLaws.{Front}
-use Rattle.lay_down.proofs.PieceWriting.{closed-put}
 
 pub tile-put :
     (d a b s l : List ℕ) (at n end flag i : ℕ) (f c : List ℕ) → a ≡ put d at (recordHead n 2) → b ≡ put a (at + 8) (bytesOf 4 i) →

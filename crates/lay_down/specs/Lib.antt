@@ -1,6 +1,5 @@
--- The laying down of a page: a record from its body, the file byte for byte, the answer and the buffer, what inner writers rely on.
+-- The laying down of a page: the file byte for byte, the answer and the buffer, what inner writers rely on.
 -- The pages stand in the order in which to read them.
-pub mod Pieces
 pub mod Page
 pub mod Answer
 pub mod Ready

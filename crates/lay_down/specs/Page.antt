@@ -7,25 +7,16 @@ use mathlib.Core.List.{List, [], _∷_, _++_}
 use lib.ListN.{length, take, drop}
 use lib.Dec.{eqb}
 use Rattle.wire.specs.Pick.{pick}
-use Rattle.wire.specs.Tests.{sumBelow}
-use Rattle.wire.specs.Bytes.{bytesOf, part, put}
-use Rattle.header.specs.Fields.{checksumEnabled, elementCount, timeModified, timeOpened, fileSpaceReference, metadataReference, tileDirectoryReference}
+use Rattle.wire.specs.Bytes.{bytesOf, put, zeros}
+use Rattle.header.specs.Fields.{checksumEnabled, timeModified, timeOpened, fileSpaceReference, metadataReference, tileDirectoryReference}
 use Rattle.record.specs.Record.{contentAt}
 use Rattle.record.specs.Chain.{joined}
-use Rattle.record.specs.Types.{tileType, tileDirectoryType}
+use Rattle.record.specs.Types.{tileDirectoryType}
 use Rattle.geometry.specs.Tiles.{tilesAcross, tilesDown, tileCount}
-use Rattle.geometry.specs.Sizes.{elementBytes, tileBytes, plainTileLength}
-use Rattle.lay_down.specs.Pieces.{zeros, recordLength, recordOf, section, sealed}
-
--- the sections of the first n elements of a tile whose cell bytes are c
-unfoldable pub sections : List ℕ → ℕ → List ℕ → List ℕ
-sections f zero c = []
-sections f (suc n) c = sections f n c ++ section (part c (sumBelow n (elementBytes f)) (elementBytes f n))
-
--- G Tables 15 and 16: the tile index, then each element's section; a front that passes stage 4 has at most the 16 elements that
--- `tileBytes` counts
-unfoldable pub tileRecord : List ℕ → ℕ → List ℕ → List ℕ
-tileRecord f i c = recordOf (checksumEnabled f) tileType (bytesOf 4 i ++ sections f (elementCount f) c)
+use Rattle.geometry.specs.Sizes.{tileBytes, plainTileLength}
+use Rattle.written_records.specs.Pieces.{recordLength, recordOf, sealed}
+use Rattle.written_records.specs.Tile.{tileRecord}
+use Rattle.written_records.specs.Directory.{directoryForm}
 
 -- one tile record for each index in order
 unfoldable pub tileRecords : List ℕ → List ℕ → List ℕ → List (List ℕ)
@@ -43,12 +34,7 @@ unfoldable pub references : List ℕ → List ℕ → ℕ → List ℕ
 references f ix zero = []
 references f ix (suc n) = references f ix n ++ bytesOf 4 (compactFrom f (length f) ix n)
 
--- G Table 21: format 0, compact references, six reserved bytes; the rectangle from row 0 and column 0 on, of so many rows and columns
--- of tiles
-unfoldable pub directoryForm : ℕ → ℕ → List ℕ
-directoryForm down across = (0 ∷ 0 ∷ []) ++ zeros 6 ++ bytesOf 4 0 ++ bytesOf 4 0 ++ bytesOf 4 down ++ bytesOf 4 across
-
--- that of all tiles, then the references, row by row
+-- G Table 21: the rectangle of all tiles, then the references, row by row
 unfoldable pub directoryBody : List ℕ → List ℕ → List ℕ
 directoryBody f ix = directoryForm (tilesDown f) (tilesAcross f) ++ references f ix (tileCount f)
 

@@ -1,5 +1,4 @@
 // The fields of a front that a lay-down sets.
-use crate::pieces;
 use wire::writing;
 ghost use mathlib.Core.Path.{_≡_};
 ghost use Rattle.lay_down.specs.Page.{fieldsSet};
@@ -9,8 +8,8 @@ pub fn set_fields(out: &mut [u8], time: u64, directory: u64)
     ensures { λ _. ⌜ now (out .exit) ≡ fieldsSet (now (out .entry)) time directory ⌝ }
 {
     writing::put_u64(out, 40, time);
-    pieces::put_zeros(out, 48, 8);
-    pieces::put_zeros(out, 56, 8);
-    pieces::put_zeros(out, 64, 8);
+    writing::put_zeros(out, 48, 8);
+    writing::put_zeros(out, 56, 8);
+    writing::put_zeros(out, 64, 8);
     writing::put_u64(out, 80, directory);
 }

@@ -1,17 +1,15 @@
 // Laying down a page (document 01): the front, one tile record for each index, the tile directory last.
 //
-// The pieces of a record, of a front and of a directory are public and total; what does not fit whole is not written. Another writer
-// may use them, and close its records over the buffer's own bytes. The writers here are private and have a `requires`: the input was
-// judged, and what is written fits. Asking again in each of them would decide nothing.
+// The pieces of a record and of a directory are those of `written_records`, total as the fields of a front here; what does not fit
+// whole is not written. The writers here are private and have a `requires`: the input was judged, and what is written fits. Asking
+// again in each of them would decide nothing.
 //
 // The references of all tiles are set to zero, then that of each tile given is written at its index. The time grows with the number
 // of tiles plus the number of indexes; looking each tile up among the indexes would take their product.
 //
 // The elements' sizes are worked out once, into 16 numbers, and serve every tile record, since an element's entry is found by passing
 // over those before it. A front that passes stage 4 has at most 16, so a lay-down needs no memory that grows with the page.
-pub mod directory;
 pub mod front;
-pub mod pieces;
 
 use answer::Laid;
 use answer::Refusal;
@@ -23,6 +21,8 @@ use geometry::tiles;
 use header::entries;
 use header::fields;
 use wire::writing;
+use written_records::directory;
+use written_records::pieces;
 ghost use mathlib.Core.Path.{_≡_};
 ghost use mathlib.Core.Bool.{true};
 ghost use Prim.Native.Nat.{_+_, _*_, _≤_};
@@ -37,8 +37,9 @@ ghost use Rattle.geometry.specs.Sizes.{storedSize, elementBytes, plainTileLengt
 ghost use Rattle.check_header.specs.Stages.{checkFront};
 ghost use Rattle.check_header.specs.Ceilings.{mostTiles};
 ghost use Rattle.answer.specs.declared.Verdict.the-variants.{Accepted};
-ghost use Rattle.lay_down.specs.Pieces.{recordLength};
-ghost use Rattle.lay_down.specs.Page.{sections, tileRecord, tileRecords, references, directoryRecord, laidFront, laidFile};
+ghost use Rattle.written_records.specs.Pieces.{recordLength};
+ghost use Rattle.written_records.specs.Tile.{sections, tileRecord};
+ghost use Rattle.lay_down.specs.Page.{tileRecords, references, directoryRecord, laidFront, laidFile};
 ghost use Rattle.lay_down.specs.Answer.{ascending, inputRight, inputVerdict, layDownVerdict, laid, laidOut};
 ghost use Rattle.lay_down.specs.Ready.{SizesOf, TileReady, TilesReady, IndexesReady};
 
@@ -252,7 +253,7 @@ fn put_references(out: &mut [u8], at: usize, n: usize, front: &[u8], indexes: &[
     ensures { λ _. ⌜ now (out .exit) ≡ put (now (out .entry)) at (references (now (front .entry)) (now (indexes .entry)) (tileCount (now (front .entry)))) ⌝ }
 {
     let count = tiles::tile_count(front) as usize;
-    pieces::put_zeros(out, at, 4 * count);
+    writing::put_zeros(out, at, 4 * count);
     let mut start = front.len();
     let mut k = 0;
     while k < indexes.len() {

@@ -15,12 +15,12 @@ use Rattle.record.specs.Record.{lengthAt, typeAt, contentAt}
 use Rattle.check_header.specs.HeaderRecord.{frameRight, headerRight}
 use Rattle.check_records.specs.Checksum.{checksumRight}
 use Rattle.check_records.proofs.RecordLaws.{checksum-placed}
-use Rattle.lay_down.specs.Pieces.{checksumFor, recordLength, unclosed, recordOf}
+use Rattle.written_records.specs.Pieces.{checksumFor, recordLength, unclosed, recordOf}
+use Rattle.written_records.proofs.PieceLaws.{record-holds, unclosed-length, record-length, placed-kind, placed-stated}
+use Rattle.written_records.proofs.SealLaws.{unclosed-bytes}
 use Rattle.lay_down.specs.Page.{directoryStart, fieldsSet, laidFile}
-use Rattle.lay_down.proofs.PieceLaws.{record-holds, unclosed-length, record-length, placed-kind, placed-stated}
 use Rattle.lay_down.proofs.PageLaws.{fields-length}
 use Rattle.lay_down.proofs.ChainLaws.{laid-joined}
-use Rattle.lay_down.proofs.SealLaws.{unclosed-bytes}
 use Rattle.lay_down.proofs.FieldLaws.{fields-bytes, front-sealed}
 use Rattle.read_back.proofs.Setting.{Laying}
 use Rattle.read_back.proofs.FrontLaws.{front-judged, front-kept}

@@ -23,9 +23,9 @@ use Rattle.check_directory.proofs.OnlyLaws.{grid-reference}
 use Rattle.check_directory.proofs.CorrespondLaws.{if-listed, if-only}
 use Rattle.check_lists.specs.Stage.{directoriesRight}
 use Rattle.check_lists.proofs.EmptyLaws.{metadata-empty, space-empty}
-use Rattle.lay_down.specs.Pieces.{recordLength}
+use Rattle.written_records.specs.Pieces.{recordLength}
+use Rattle.written_records.proofs.PieceLaws.{least-holds}
 use Rattle.lay_down.specs.Page.{compactFrom, directoryStart, fileLength, laidFile}
-use Rattle.lay_down.proofs.PieceLaws.{least-holds}
 use Rattle.lay_down.proofs.PlaceLaws.{DirectoryPlaced, fields-placed}
 use Rattle.lay_down.proofs.IndexLaws.{Given, compact-given, compact-found, compact-most}
 use Rattle.read_back.proofs.Setting.{Laying, front-range, front-eights, across-kept, down-kept, tiles-kept}

@@ -18,9 +18,11 @@ use Rattle.check_records.proofs.RecordLaws.{body-other}
 use Rattle.page_check.specs.Stages.{check}
 use Rattle.page_check.specs.Accepted.{ObeysBy}
 use Rattle.page_check.proofs.AcceptedLaws.{obeys-accepted}
-use Rattle.lay_down.specs.Page.{tileRecord, directoryBody, directoryRecord, directoryStart, laidFile}
+use Rattle.written_records.specs.Tile.{tileRecord}
+use Rattle.written_records.proofs.SealLaws.{sections-bytes}
+use Rattle.lay_down.specs.Page.{directoryBody, directoryRecord, directoryStart, laidFile}
 use Rattle.lay_down.proofs.ChainLaws.{laidRecords}
-use Rattle.lay_down.proofs.SealLaws.{sections-bytes, directory-bytes}
+use Rattle.lay_down.proofs.PageLaws.{directory-bytes}
 use Rattle.read_back.proofs.Setting.{Laying}
 use Rattle.read_back.proofs.FrontLaws.{front-kept, front-headed}
 use Rattle.read_back.proofs.ChecksumLaws.{record-checksum, header-checksum}

@@ -33,9 +33,9 @@ use Rattle.cells.proofs.ApartLaws.{offset-within}
 use Rattle.cells.specs.Routes.{referredTo, tileBy, cellBy, meant}
 use Rattle.cells.proofs.DemandLaws.{demand-3}
 use Rattle.cells.proofs.RouteLaws.{directory-finds}
+use Rattle.written_records.proofs.TileLaws.{element-within}
 use Rattle.lay_down.specs.Page.{laidFile}
 use Rattle.lay_down.specs.Answer.{laidOut}
-use Rattle.lay_down.proofs.PageLaws.{element-within}
 use Rattle.record.specs.declared.Found.the-variants.{At, Nothing}
 use Rattle.read_back.specs.ReadBack.{contentGiven, contentLaid, cellGiven, cellLaid, ListedAs, ReadBack}
 use Rattle.read_back.proofs.Setting.{Laying, laying-of, front-range, tiles-kept, tile-kept, size-kept, grid-kept, asked-kept, offset-kept, fill-kept}

@@ -21,9 +21,10 @@ use Rattle.geometry.specs.Sizes.{tileBytes, plainTileLength}
 use Rattle.record.proofs.FindLaws.{no-type}
 use Rattle.wire.proofs.ListLaws.{select-append, select-all, select-none}
 use Rattle.wire.specs.Lists.{select}
-use Rattle.lay_down.specs.Pieces.{recordLength}
-use Rattle.lay_down.specs.Page.{tileRecord, tileRecords, directoryBody, directoryRecord, directoryStart, fileLength, laidFront, laidFile}
-use Rattle.lay_down.proofs.PieceLaws.{placed-kind, placed-stated}
+use Rattle.written_records.specs.Pieces.{recordLength}
+use Rattle.written_records.specs.Tile.{tileRecord}
+use Rattle.written_records.proofs.PieceLaws.{placed-kind, placed-stated}
+use Rattle.lay_down.specs.Page.{tileRecords, directoryBody, directoryRecord, directoryStart, fileLength, laidFront, laidFile}
 use Rattle.lay_down.proofs.PageLaws.{tiles-length, directory-length, front-length, lead-length}
 use Rattle.lay_down.proofs.PlaceLaws.{TileStart, tiles-placed, start-tile, tile-start}
 use Rattle.lay_down.proofs.ChainLaws.{laidRecords, laid-whole}

@@ -26,13 +26,15 @@ use Rattle.header.specs.Names.{fiveRules, identifier, lastByte, letter, nameByt
 use Rattle.header.specs.Tail.{fieldsEnd, methodCount, methodsAt, productLabelAt}
 use Rattle.header.specs.Texts.{entryTexts, stringText, textRight}
 use Rattle.utf8.specs.Utf8.{following, goesOn, never, octet, rows, tail, utf8}
+use Rattle.written_records.specs.Pieces.{checksumFor, recordHead, recordLength, recordOf, sealed, section, unclosed}
+use Rattle.written_records.specs.Tile.{sections, tileRecord}
+use Rattle.written_records.specs.Directory.{directoryForm}
 use Rattle.lay_down.specs.Answer.{ascending, fitsIn, inputRight, inputVerdict, laid, layDownVerdict, lengthAllowed}
-use Rattle.lay_down.specs.Page.{compactFrom, directoryBody, directoryForm, directoryRecord, directoryStart, fieldsSet, fileLength, laidFile, laidFront, references, sections, tileRecord, tileRecords}
-use Rattle.lay_down.specs.Pieces.{checksumFor, recordHead, recordLength, recordOf, sealed, section, unclosed, zeros}
+use Rattle.lay_down.specs.Page.{compactFrom, directoryBody, directoryRecord, directoryStart, fieldsSet, fileLength, laidFile, laidFront, references, tileRecords}
 use Rattle.page_check.specs.Stages.{unless}
 use Rattle.record.specs.Chain.{endOf, find, findNot, headerEnd, records, recordsEnd, recordsOf, starts, startsGo}
 use Rattle.record.specs.Record.{padded, recordLimit, recordOk}
-use Rattle.wire.specs.Bytes.{byteAt, bytesOf, number, numberAt, part, put, sameBytes}
+use Rattle.wire.specs.Bytes.{byteAt, bytesOf, number, numberAt, part, put, sameBytes, zeros}
 use Rattle.wire.specs.Items.{advance}
 use Rattle.wire.specs.Lists.{countBelow, every, oneIf, select, some}
 use Rattle.wire.specs.Tests.{allBelow, passes, sumBelow}

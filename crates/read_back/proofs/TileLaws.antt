@@ -27,11 +27,10 @@ use Rattle.check_records.proofs.RecordLaws.{section-whole, body-tile}
 use Rattle.bodies.proofs.SectionLaws.{section-next}
 use Rattle.check_header.specs.Passed.{InRange}
 use Rattle.cells.specs.TileCells.{packed}
-use Rattle.lay_down.specs.Pieces.{section}
-use Rattle.lay_down.specs.Page.{sections, tileRecord}
-use Rattle.lay_down.proofs.PieceLaws.{record-body, placed-kind, placed-stated, section-states, bytes-there}
-use Rattle.lay_down.proofs.PageLaws.{storedBefore, tile-sum, element-within, plain-is, plain-holds, tile-length}
-use Rattle.lay_down.proofs.PlaceLaws.{section-there}
+use Rattle.written_records.specs.Pieces.{section}
+use Rattle.written_records.specs.Tile.{sections, tileRecord}
+use Rattle.written_records.proofs.TileLaws.{storedBefore, tile-sum, element-within, plain-is, plain-holds, tile-length, section-there}
+use Rattle.written_records.proofs.PieceLaws.{record-body, placed-kind, placed-stated, section-states, bytes-there}
 use Rattle.lay_down.proofs.FrontLaws.{Front, plain-small}
 use Rattle.read_back.proofs.Setting.{Kept, tiles-kept, size-kept}
 

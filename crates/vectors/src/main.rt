@@ -43,8 +43,27 @@ fn rfc_3720() {
     );
 }
 
+// Two of them again, where ones stand that are read as zeros, all of it and from 4 up to 18.
+fn read_as_zero() {
+    show(
+        b"crc of 32 ones read as zeros ",
+        crc32c::crc_without(&[255u8; 32], 0, 32, 0, 32),
+    );
+    show(
+        b"crc of a read command, ones read as zeros ",
+        crc32c::crc_without(
+            b"xx\x01\xC0\xFF\xFF\xFF\xFF\xFF\xFF\xFF\xFF\xFF\xFF\xFF\xFF\xFF\xFF\x14\0\0\0\0\0\x04\0\0\0\0\x14\0\0\0\x18\x28\0\0\0\0\0\0\0\x02\0\0\0\0\0\0\0",
+            2,
+            48,
+            4,
+            18,
+        ),
+    );
+}
+
 fn main() {
     check_value();
     rfc_3720();
+    read_as_zero();
     sums::run();
 }

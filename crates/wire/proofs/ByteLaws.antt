@@ -7,13 +7,13 @@ use native.Mathlib.Omega.{arith}
 use native.Mathlib.Nat.{pow-suc, mul-assoc, mul-comm}
 use mathlib.Core.Logic.{_⊎_, inl, inr, by-cases}
 use native.Mathlib.Decide.{decLe}
-use lib.ListN.{length, getD, take, drop, replicate, length-append, length-take, length-drop, List·getD-eq-default}
+use lib.ListN.{length, getD, take, drop, length-append, length-take, length-drop, List·getD-eq-default, length-replicate, replicate-append-replicate}
 use lib.Seq.{drop-append-add, drop-append-le, take-append-le, getD-take, getD-drop, ext-getD, take-add, drop-drop, length-take-le, drop-cons, take-all, take-length}
 use lib.Dec.{leb, eqb}
 use borrow.Author.Tests.{le-leb, lt-leb, eqb-true, eq-eqb}
 use Rattle.wire.specs.Pick.{pick}
 use Rattle.wire.specs.Tests.{both}
-use Rattle.wire.specs.Bytes.{byteAt, part, number, numberAt, partAt, bytesOf, sameBytes, Bytes, Same}
+use Rattle.wire.specs.Bytes.{byteAt, part, number, numberAt, partAt, bytesOf, zeros, sameBytes, Bytes, Same}
 use Rattle.wire.proofs.TestLaws.{not-both}
 
 -- bytes
@@ -254,11 +254,23 @@ unfolding bytesOf
 bytes-of zero v = bytes-none
 bytes-of (suc w) v = bytes-cons (v % 256) (omega arith) (bytes-of w (v / 256))
 
--- zeros are the bytes of the number 0
-pub zeros-of : (w : ℕ) → replicate w 0 ≡ bytesOf w 0
-unfolding bytesOf
+-- zeros, which are the bytes of the number 0
+
+pub zeros-of : (w : ℕ) → zeros w ≡ bytesOf w 0
+unfolding zeros bytesOf
 zeros-of zero = refl
-zeros-of (suc w) = rw (zeros-of w)
+zeros-of (suc w) = ap (λ (l : List ℕ). 0 ∷ l) (zeros-of w)
+
+pub zeros-bytes : (n : ℕ) → Bytes (zeros n)
+zeros-bytes n = rw (zeros-of n) (bytes-of n 0)
+
+pub zeros-length : (n : ℕ) → length (zeros n) ≡ n
+unfolding zeros
+zeros-length n = length-replicate n _
+
+pub zeros-joined : (n m : ℕ) → zeros (n + m) ≡ zeros n ++ zeros m
+unfolding zeros
+zeros-joined n m = sym (replicate-append-replicate n m _)
 
 -- comparison
 

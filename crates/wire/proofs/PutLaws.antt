@@ -13,8 +13,8 @@ use lib.Dec.{leb}
 use lib.Seq.{getD-take, take-at, drop-append-add, drop-drop, paste, paste-zero, paste-suc, take-length, set-split}
 use borrow.Author.Tests.{le-leb, lt-leb}
 use Rattle.wire.specs.Pick.{pick}
-use Rattle.wire.specs.Bytes.{Bytes, byteAt, part, number, numberAt, put, bytesOf, Same}
-use Rattle.wire.proofs.ByteLaws.{part-whole, part-within, byte-behind, byte-drop, number-same, number-out, number-bytes, bytes-length, bytes-append, bytes-take, bytes-drop}
+use Rattle.wire.specs.Bytes.{Bytes, byteAt, part, number, numberAt, put, zeros, bytesOf, Same}
+use Rattle.wire.proofs.ByteLaws.{part-whole, part-within, byte-behind, byte-drop, number-same, number-out, number-bytes, bytes-length, bytes-append, bytes-take, bytes-drop, zeros-length, zeros-joined}
 
 module _ (d : List ℕ) (at : ℕ) (v : List ℕ) where
   pub put-fits : at + length v ≤ length d → put d at v ≡ take at d ++ v ++ drop (at + length v) d
@@ -216,3 +216,23 @@ module _ (d : List ℕ) (at : ℕ) (s : List ℕ) where
   pub pasted-all : (i : ℕ) → i ≡ length s → at + length s ≤ length d → pasted d at s i ≡ put d at s
   unfolding pasted
   pasted-all i e h = rw (e, take-length) (sym (put-fits d at s h))
+
+-- what is n long and does not fit is not written
+pub put-out : (d : List ℕ) (at : ℕ) (v : List ℕ) {n : ℕ} → length v ≡ n → length d < at + n → d ≡ put d at v
+put-out d at v e h = sym (put-not d at v (omega arith))
+
+-- zeros, one more at a time
+
+pub zeros-none : (d : List ℕ) (at : ℕ) → d ≡ put d at (zeros 0)
+unfolding zeros
+zeros-none d at = sym (put-nil d at)
+
+pub zeros-put-more : (d l : List ℕ) (at i : ℕ) → l ≡ put d at (zeros i) → at + i < length d → set l (at + i) 0 ≡ put d at (zeros (i + 1))
+unfolding zeros
+zeros-put-more d l at i e h =
+    let b = length-put d at (zeros i) in
+    let o = put-one l (at + i) 0 (omega (arith, ap length e)) in
+    then (first e (zeros-length i)) (0 ∷ []) 1 (at + i) o refl refl (omega arith) .is ∙ ap (put d at) (sym (zeros-joined i 1))
+
+pub zeros-all : (d l : List ℕ) (at i n : ℕ) → l ≡ put d at (zeros i) → i ≤ n → n ≤ i → l ≡ put d at (zeros n)
+zeros-all d l at i n e h k = let q : i ≡ n = omega arith in rw (← q) e

@@ -4,7 +4,7 @@ use Prim.Native.Nat.{ℕ, zero, suc, _+_, _*_, _/_, _%_, _≤_, _<_}
 use mathlib.Core.Path.{_≡_}
 use mathlib.Core.List.{List, [], _∷_, _++_}
 use mathlib.Core.Bool.{Bool, true, false}
-use lib.ListN.{length, getD, take, drop}
+use lib.ListN.{length, getD, take, drop, replicate}
 use lib.Dec.{leb, eqb}
 use Rattle.wire.specs.Pick.{pick}
 use Rattle.wire.specs.Tests.{both}
@@ -65,6 +65,10 @@ pub record Same (s t : List ℕ) (a b : ℕ) : Type 0 where
 -- the list d with v in place of what stands from `at` on; d as it is where v does not fit
 unfoldable pub put : List ℕ → ℕ → List ℕ → List ℕ
 put d at v = pick (leb (at + length v) (length d)) (take at d ++ v ++ drop (at + length v) d) d
+
+-- n bytes of zero, as reserved fields and padding are
+unfoldable pub zeros : ℕ → List ℕ
+zeros n = replicate n 0
 
 -- where a part starts in s: at its position, and at 0 where it is empty because it does not lie whole in s
 unfoldable pub partAt : List ℕ → ℕ → ℕ → ℕ

@@ -1,7 +1,7 @@
 // Bytes put into a lent buffer. Writing is total: what does not fit whole is not written.
 ghost use mathlib.Core.Path.{_≡_};
 ghost use mathlib.Core.List.{[], _∷_};
-ghost use Rattle.wire.specs.Bytes.{bytesOf, put};
+ghost use Rattle.wire.specs.Bytes.{bytesOf, put, zeros};
 
 // One byte.
 pub fn put_byte(out: &mut [u8], at: usize, v: u8)
@@ -70,6 +70,23 @@ pub fn put_bytes(out: &mut [u8], at: usize, src: &[u8])
     let mut i = 0;
     while i < src.len() {
         out[at + i] = src[i];
+        i += 1;
+    }
+}
+
+// Zeros: padding and reserved fields.
+pub fn put_zeros(out: &mut [u8], at: usize, n: usize)
+    ensures { λ _. ⌜ now (out .exit) ≡ put (now (out .entry)) at (zeros n) ⌝ }
+{
+    if out.len() < n {
+        return;
+    }
+    if out.len() - n < at {
+        return;
+    }
+    let mut i = 0;
+    while i < n {
+        out[at + i] = 0;
         i += 1;
     }
 }

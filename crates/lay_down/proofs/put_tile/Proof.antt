@@ -1,5 +1,5 @@
 -- `lay_down::put_tile` meets its contract. Assumes nothing.
-use Rattle.lay_down.proofs.PageLaws.{plain-holds}
+use Rattle.written_records.proofs.TileLaws.{plain-holds}
 use Rattle.lay_down.proofs.FrontLaws.{front-of, plain-small}
 use Rattle.lay_down.proofs.TileWriting.{tile-put}
 use native.Mathlib.Omega.{arith}

@@ -1,0 +1,13 @@
+pub mod HeaderLaws
+pub mod MovedLaws
+pub mod ChecksumLaws
+pub mod TileLaws
+pub mod MetadataLaws
+pub mod AloneLaws
+pub mod PieceLaws
+pub mod DirectoryLaws
+pub mod StandLaws
+pub mod FreeLaws
+pub mod EditedLaws
+pub mod TouchLaws
+pub mod MovesLaws

@@ -1,0 +1,5 @@
+pub mod PieceLaws
+pub mod SealLaws
+pub mod TileLaws
+pub mod DirectoryLaws
+pub mod PieceWriting
