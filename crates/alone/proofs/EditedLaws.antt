@@ -45,7 +45,7 @@ all-bytes : (rs : List (List ℕ)) → AllOf Piece rs → AllOf Bytes rs
 all-bytes [] a = _
 all-bytes (r ∷ rs) a = (a .0 .bytes, all-bytes rs (a .1))
 
-all-pieces : (rs : List (List ℕ)) → WellFormed rs → AllOf Bytes rs → AllOf Piece rs
+pub all-pieces : (rs : List (List ℕ)) → WellFormed rs → AllOf Bytes rs → AllOf Piece rs
 all-pieces [] w a = _
 all-pieces (r ∷ rs) w a = (record { ok = w .0 .0; stated = w .0 .1; bytes = a .0 }, all-pieces rs (w .1) (a .1))
 

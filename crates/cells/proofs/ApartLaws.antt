@@ -1,4 +1,4 @@
--- Two stored cells of an accepted file are one cell, or share no byte. Assumes nothing.
+-- Two stored cells of a sound page are one cell, or share no byte. Assumes nothing.
 use Prim.Native.Nat.{ℕ, _+_, _*_, _≤_, _<_}
 use mathlib.Core.Path.{_≡_, refl, sym, ap, _∙_}
 use mathlib.Core.List.{List, List·Memᴰ}
@@ -27,8 +27,8 @@ use Rattle.check_records.proofs.SectionLaws.{sections-end}
 use Rattle.record.proofs.FindLaws.{of-type}
 use Rattle.record.specs.declared.Found.{Found}
 use Rattle.record.specs.declared.Found.the-variants.{At, Nothing}
-use Rattle.page_check.specs.Accepted.{Obeys}
-use Rattle.page_check.proofs.GivenLaws.{obeys-range, obeys-tile}
+use Rattle.page_check.specs.Accepted.{Sound}
+use Rattle.page_check.proofs.GivenLaws.{sound-range, sound-tile}
 use Rattle.unpack.specs.declared.Unpacked as out
 use Rattle.unpack.specs.declared.Unpacked.the-variants as variant
 use Rattle.unpack.specs.Unpack.{cellAt}
@@ -130,11 +130,11 @@ pub record CellExtent (s : List ℕ) (x e place : ℕ) : Type 0 where
   pub own : sectionAt s x e ≤ place
   pub next : place + bytesOfCell s e ≤ sectionAt s x (e + 1)
 
-pub cell-extent : (s : List ℕ) → Obeys s → (row column e place : ℕ) (c : StoredAs s row column e place) → CellExtent s (c .start) e place
+pub cell-extent : (s : List ℕ) → Sound s → (row column e place : ℕ) (c : StoredAs s row column e place) → CellExtent s (c .start) e place
 unfolding placeIn
 cell-extent s o row column e place c =
-    let r = obeys-range s (records s) o in
-    let t = content-extent s (c .start) e (obeys-tile s o (c .among)) (c .element-in) in
+    let r = sound-range s (records s) o in
+    let t = content-extent s (c .start) e (sound-tile s o (c .among)) (c .element-in) in
     let w = offset-within s row column e (omega (arith, r .sides .tile-rows .0)) (omega (arith, r .sides .tile-columns .0)) in
     let l = whole-least s (c .start) e (c .whole) in
     let h : place ≡ elementContentAt s (c .start) e + offsetIn s row column e = c .here in
@@ -147,7 +147,7 @@ cell-extent s o row column e place c =
 
 -- two of them
 
-module _ (s : List ℕ) (o : Obeys s) (row column e place : ℕ) (c : StoredAs s row column e place) (row2 column2 e2 place2 : ℕ) (d : StoredAs s row2 column2 e2 place2) where
+module _ (s : List ℕ) (o : Sound s) (row column e place : ℕ) (c : StoredAs s row column e place) (row2 column2 e2 place2 : ℕ) (d : StoredAs s row2 column2 e2 place2) where
   abbrev Apart : Type 0
   Apart =
       ((row ≡ row2) × ((column ≡ column2) × (e ≡ e2)))
@@ -158,7 +158,7 @@ module _ (s : List ℕ) (o : Obeys s) (row column e place : ℕ) (c : StoredAs s
   unfolding placeIn offsetIn cellOffset cellTile cellInside
   same-element p q =
       let z = cellSize (element s e .kind) in
-      let r = obeys-range s (records s) o in
+      let r = sound-range s (records s) o in
       let a : place ≡ elementContentAt s (c .start) e + cellInside s row column * z = c .here in
       let b : place2 ≡ elementContentAt s (c .start) e + cellInside s row2 column2 * z = rw (p, q) (d .here) in
       let k : cellTile s row column ≡ cellTile s row2 column2 = sym (c .index) ∙ ap (tileIndex s) p ∙ d .index in
@@ -193,7 +193,7 @@ module _ (s : List ℕ) (o : Obeys s) (row column e place : ℕ) (c : StoredAs s
       (whole-apart s (headerEnd s) (records s) (o .chain) (of-type s 2 (c .among) .0) (of-type s 2 (d .among) .0))
 
 pub cells-apart :
-    (s : List ℕ) → Obeys s → (ci row column e place : ℕ) (v : Value) (row2 column2 e2 place2 : ℕ) (v2 : Value) →
+    (s : List ℕ) → Sound s → (ci row column e place : ℕ) (v : Value) (row2 column2 e2 place2 : ℕ) (v2 : Value) →
     meaning s ci row column e ≡ Stored v place → meaning s ci row2 column2 e2 ≡ Stored v2 place2 →
     ((row ≡ row2) × ((column ≡ column2) × (e ≡ e2))) ⊎ ((place + bytesOfCell s e ≤ place2) ⊎ (place2 + bytesOfCell s e2 ≤ place))
 cells-apart s o ci row column e place v row2 column2 e2 place2 v2 p q =

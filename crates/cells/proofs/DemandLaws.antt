@@ -35,9 +35,9 @@ use Rattle.unpack.specs.declared.Unpacked.{Unpacked}
 use Rattle.unpack.specs.declared.Unpacked.the-variants as out
 use Rattle.unpack.specs.Unpack.{Cells, cells, malformed, unpacked, cellAt, cellsIn, isWhole}
 use Rattle.unpack.proofs.AnswerLaws.{bits-small, taken-cell, whole-long, whole-cell}
-use Rattle.page_check.specs.Accepted.{Obeys}
-use Rattle.page_check.proofs.AcceptedLaws.{accepted-obeys}
-use Rattle.page_check.proofs.GivenLaws.{obeys-tile}
+use Rattle.page_check.specs.Accepted.{Sound}
+use Rattle.page_check.proofs.AcceptedLaws.{accepted-sound}
+use Rattle.page_check.proofs.GivenLaws.{sound-tile}
 use Rattle.header.specs.Element.{cellSize, element, entryAt, fillBits}
 use Rattle.cells.specs.Asked.{inGrid, inTiles}
 use Rattle.cells.specs.Routes.{meant, tileBy, cellBy}
@@ -51,11 +51,11 @@ use Rattle.cells.proofs.CellLaws.{grid-means, tiles-mean, tiles-in, sid
 use Rattle.cells.proofs.HeldLaws.{stored-cell, stored-long, in-at}
 use Rattle.cells.proofs.RouteLaws.{meant-is}
 use Rattle.cells.proofs.ApartLaws.{content-extent, stored-as, cell-extent, cells-apart, whole-least}
-use Rattle.cells.proofs.ReadLaws.{way-means, check-lawful, accepted-finds, walked-finds, passed-bodies}
+use Rattle.cells.proofs.ReadLaws.{sound-lawful, sound-cells, passed-bodies}
 
 -- what is stored lies in the file
 
-stored-inside : (s : List ℕ) → Obeys s → (ci row column e place : ℕ) (v : Value) → meaning s ci row column e ≡ cell.Stored v place → place + bytesOfCell s e ≤ length s
+pub stored-inside : (s : List ℕ) → Sound s → (ci row column e place : ℕ) (v : Value) → meaning s ci row column e ≡ cell.Stored v place → place + bytesOfCell s e ≤ length s
 stored-inside s o ci row column e place v q =
     let c = stored-as s ci row column e place v q in
     let x = cell-extent s o row column e place c in
@@ -72,22 +72,22 @@ present-in s x e at n q = go (packed s x e) refl q
     go true f g = let z : _≡_ {A = ℕ} 0 1 = cc in absurd (omega arith)
     go false f g = (f, (cc, cc))
 
-pub content-inside : ContentInside
+pub sound-inside : (s : List ℕ) → Sound s → (tile e at n : ℕ) → contentMeaning s tile e ≡ content.Present at n → at + n ≤ length s
 unfolding contentMeaning tileBy
-content-inside s a tile e at n q = go (inTiles s tile e) refl (meant s tile) refl
+sound-inside s o tile e at n q = go (inTiles s tile e) refl (meant s tile) refl
   where
-    o : Obeys s
-    o = accepted-obeys s a
-
     go : (b : Bool) → inTiles s tile e ≡ b → (f : Found) → meant s tile ≡ f → at + n ≤ length s
     go false i f j = let h : content.Refused OutsideGrid ≡ content.Present at n = rw i at q in let z : _≡_ {A = ℕ} 0 1 = cc in absurd (omega arith)
     go true i Nothing j = let h : content.Absent ≡ content.Present at n = rw (i, j) at q in let z : _≡_ {A = ℕ} 0 1 = cc in absurd (omega arith)
     go true i (At x) j =
         let t = meant-is s tile x j in
         let p = present-in s x e at n (rw (i, j) at q) in
-        let c = content-extent s x e (obeys-tile s o (t .among)) (tiles-mean s tile e i .1) in
+        let c = content-extent s x e (sound-tile s o (t .among)) (tiles-mean s tile e i .1) in
         let w = whole-extent s (headerEnd s) (records s) (o .chain) (of-type s 2 (t .among) .0) in
         omega (arith, p .1 .0, p .1 .1, whole-least s x e (p .0), c .next, c .inside, w .inside)
+
+pub content-inside : ContentInside
+content-inside s a = sound-inside s (accepted-sound s a)
 
 -- demand 3
 
@@ -95,11 +95,11 @@ pub demand-3 : Demand3
 unfolding readByDirectory readByWalk readByRecords unlessRefused
 demand-3 s a ci =
     record {
-      by-directory = λ row column e. rw a (way-means s _ (check-lawful s a) (accepted-finds s a) ci row column e);
-      by-walk = λ row column e. rw a (way-means s _ (check-lawful s a) (walked-finds s) ci row column e);
-      by-records = λ row column e. rw (passed-bodies s a) (way-means s _ (check-lawful s a) (walked-finds s) ci row column e);
-      inside = stored-inside s (accepted-obeys s a) ci;
-      apart = cells-apart s (accepted-obeys s a) ci;
+      by-directory = λ row column e. rw a (sound-cells s (accepted-sound s a) ci .through-directory row column e);
+      by-walk = λ row column e. rw a (sound-cells s (accepted-sound s a) ci .along-records row column e);
+      by-records = λ row column e. rw (passed-bodies s a) (sound-cells s (accepted-sound s a) ci .along-records row column e);
+      inside = stored-inside s (accepted-sound s a) ci;
+      apart = cells-apart s (accepted-sound s a) ci;
     }
 
 -- the bits: a value is made of a number of as many bytes as its type has, and gives it back
@@ -238,12 +238,13 @@ not-whole-cell malformed i e = refl
 pub content-long : (s : List ℕ) (x e : ℕ) → isWhole (unpackedIn s x e) ≡ true → length (cellsIn (unpackedAt s e (elementContentAt s x e))) ≡ tileRows s * tileColumns s
 content-long s x e w = whole-long _ (tileRows s) (tileColumns s) _ (ap isWhole (sym (in-at s x e)) ∙ w)
 
-pub held-each : HeldEach
+pub sound-each :
+    (s : List ℕ) → Sound s → (ci row column e : ℕ) → inGrid s row column e ≡ true → EachCell s ci row column e (heldMeaning s ci (cellTile s row column) e)
 unfolding meaning cellBy heldMeaning tileBy fillOf cellIn packedCell storedAt heldIn placeIn offsetIn cellInside
-held-each s a ci row column e g = go (meant s (cellTile s row column)) refl
+sound-each s o ci row column e g = go (meant s (cellTile s row column)) refl
   where
     d : Sides s
-    d = sides-mean s (check-lawful s a)
+    d = sides-mean s (sound-lawful s o)
 
     k : (row < gridRows s) × ((column < gridColumns s) × (e < elementCount s))
     k = grid-means s row column e g
@@ -280,6 +281,9 @@ held-each s a ci row column e g = go (meant s (cellTile s row column)) refl
     go : (f : Found) → meant s (cellTile s row column) ≡ f → EachCell s ci row column e (heldMeaning s ci (cellTile s row column) e)
     go Nothing j = record { kind = rw (g, i, j); verdict = rw (g, i, j); bits = λ b h. neither 33 (λ y. omega arith) (λ y. omega arith) (rw (i, j) at h) }
     go (At x) j = by x (packed s x e) refl (unpackable s ci x e) refl (isWhole (unpackedIn s x e)) refl j
+
+pub held-each : HeldEach
+held-each s a = sound-each s (accepted-sound s a)
 
 pub held-counted : HeldCounted
 unfolding heldMeaning tileBy heldIn

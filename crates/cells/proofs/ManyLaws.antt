@@ -1,4 +1,4 @@
--- Many reads after one check: a cell told from what is held, which on an accepted file is its meaning. Assumes nothing.
+-- Many reads after one check: a cell told from what is held, which on a sound page is its meaning. Assumes nothing.
 use Prim.Native.Nat.{ℕ, _+_, _*_, _≤_, _<_}
 use mathlib.Core.Path.{_≡_, refl, sym, ap, _∙_}
 use mathlib.Core.List.{List, [], _∷_}
@@ -14,7 +14,6 @@ use Rattle.wire.proofs.TestLaws.{yes, no}
 use Rattle.wire.proofs.PutLaws.{put-each}
 use Rattle.answer.specs.declared.Refusal.{Refusal}
 use Rattle.answer.specs.declared.Refusal.the-variants.{Directory}
-use Rattle.answer.specs.declared.Verdict.the-variants.{Accepted}
 use Rattle.answer.specs.declared.Value.{Value}
 use Rattle.answer.specs.declared.Cell.{Cell}
 use Rattle.answer.specs.declared.Cell.the-variants as cell
@@ -22,28 +21,29 @@ use Rattle.answer.specs.declared.Held.{Held}
 use Rattle.answer.specs.declared.Held.the-variants as held
 use Rattle.answer.specs.Values.{valueOf, valueBits}
 use Rattle.answer.specs.Answers.{cellKind, cellBits, heldKind}
-use Rattle.header.specs.Fields.{tileRows, tileColumns}
+use Rattle.header.specs.Fields.{tileRows, tileColumns, elementCount}
 use Rattle.header.specs.Element.{cellSize, element}
 use Rattle.record.specs.declared.Found.{Found}
 use Rattle.record.specs.declared.Found.the-variants.{At, Nothing}
-use Rattle.geometry.specs.Tiles.{cellTile, cellInside}
+use Rattle.geometry.specs.Tiles.{tileCount, cellTile, cellInside}
 use Rattle.geometry.specs.Sizes.{cellOffset}
 use Rattle.geometry.proofs.GridLaws.{inside-less}
 use Rattle.geometry.proofs.SizeLaws.{size-range}
 use Rattle.bodies.specs.TileRecord.{elementContentAt}
 use Rattle.unpack.specs.Unpack.{cellsIn, isWhole}
 use Rattle.unpack.proofs.AnswerLaws.{whole-cell}
-use Rattle.page_check.specs.Stages.{check}
+use Rattle.page_check.specs.Accepted.{Sound}
+use Rattle.page_check.proofs.AcceptedLaws.{accepted-sound}
 use Rattle.cells.specs.Asked.{inGrid}
 use Rattle.cells.specs.TileCells.{fillOf, packed, unpackable, unpackedIn, unpackedAt, offsetIn, placeIn, storedAt, packedCell, cellIn, cellOf, heldRoom, roomOf, unpackedBits}
 use Rattle.cells.specs.Routes.{meant, cellBy, tileBy}
 use Rattle.cells.specs.Meaning.{meaning}
 use Rattle.cells.specs.inner.Lookups.{guarded}
-use Rattle.cells.specs.Many.{heldByDirectory, storedFrom, toldBy, heldCell, bitsInside, Tells, HoldsAccepted}
+use Rattle.cells.specs.Many.{heldByDirectory, storedFrom, toldBy, heldCell, bitsInside, Tells, Holds, HoldsAccepted}
 use Rattle.cells.proofs.CellLaws.{tiles-in, sides-mean}
-use Rattle.cells.proofs.ReadLaws.{check-lawful, accepted-finds, looked-means, tile-looked-means}
+use Rattle.cells.proofs.ReadLaws.{sound-lawful, sound-finds, looked-means, tile-looked-means}
 use Rattle.cells.proofs.HeldLaws.{in-at, room-stored, room-packed, room-alone, room-unpacked, room-malformed}
-use Rattle.cells.proofs.DemandLaws.{demand-3, not-whole-cell, content-long}
+use Rattle.cells.proofs.DemandLaws.{stored-inside, not-whole-cell, content-long}
 
 -- a cell told from what is held, as the functions below answer
 
@@ -108,9 +108,9 @@ tells-cell s ci row column e m held.Absent q h n = record { kind = sym (ap cellK
 tells-cell s ci row column e m held.Alone q h n = absurd (n refl)
 tells-cell s ci row column e m (held.Refused r) q h n = record { kind = sym (ap cellKind q); bits = sym (ap cellBits q) }
 
--- on an accepted file it is the meaning
+-- on a sound page it is the meaning
 
-module _ (s : List ℕ) (a : check s ≡ Accepted) (ci row column e : ℕ) (m : List ℕ) (g : inGrid s row column e ≡ true) where
+module _ (s : List ℕ) (o : Sound s) (ci row column e : ℕ) (m : List ℕ) (g : inGrid s row column e ≡ true) where
   abbrev i : ℕ
   i = cellInside s row column
 
@@ -120,7 +120,7 @@ module _ (s : List ℕ) (a : check s ≡ Accepted) (ci row column e : ℕ) (m : 
 
   few : i < tileRows s * tileColumns s
   unfolding cellInside
-  few = let d = sides-mean s (check-lawful s a) in inside-less (tileRows s) (tileColumns s) row column (omega (arith, d .tile-rows .0)) (omega (arith, d .tile-columns .0))
+  few = let d = sides-mean s (sound-lawful s o) in inside-less (tileRows s) (tileColumns s) row column (omega (arith, d .tile-rows .0)) (omega (arith, d .tile-columns .0))
 
   abbrev Told : ℕ → Held → Type 0
   Told x y = (toldBy s ci (put m 0 (unpackedBits s e y)) row column e y ≡ cellIn s ci x row column e) × Starts s y
@@ -135,13 +135,13 @@ module _ (s : List ℕ) (a : check s ≡ Accepted) (ci row column e : ℕ) (m : 
       go : (p : Bool) → packed s x e ≡ p → (u : Bool) → unpackable s ci x e ≡ u → (w : Bool) → isWhole (unpackedIn s x e) ≡ w → Told x (heldRoom s ci x e (length m))
       go false ep u eu w ew =
           let q : meaning s ci row column e ≡ storedAt s e (at + offsetIn s row column e) = means (At x) j ∙ rw ep in
-          let l = demand-3 s a ci .inside row column e _ _ q in
+          let l = stored-inside s o ci row column e _ _ q in
           let h : at < length s = omega (arith, l, size-range (element s e .kind) .0) in
           rw (room-stored s ci x e (length m) ep, ep, ← yes ((at + 1 ≤? length s) ∷ []) (omega arith, tt)) (refl, h)
       go true ep false eu w ew = rw (room-packed s ci x e (length m) ep eu, ep, eu) (refl, tt)
       go true ep true eu w ew =
           by-cases (decLe (tileRows s * tileColumns s) (length m)) (λ h. fits w ew h)
-          (λ h. rw (room-alone s ci x e (length m) ep eu (omega arith)) (looked-means s _ (check-lawful s a) (accepted-finds s a) ci row column e ∙ means (At x) j ∙ rw ep, tt))
+          (λ h. rw (room-alone s ci x e (length m) ep eu (omega arith)) (looked-means s _ (sound-lawful s o) (sound-finds s o) ci row column e ∙ means (At x) j ∙ rw ep, tt))
         where
           fits : (w : Bool) → isWhole (unpackedIn s x e) ≡ w → tileRows s * tileColumns s ≤ length m → Told x (heldRoom s ci x e (length m))
           fits false ew h = rw (room-malformed s ci x e (length m) ep eu h ew, ep, eu, not-whole-cell (unpackedIn s x e) i ew) (refl, tt)
@@ -159,11 +159,13 @@ module _ (s : List ℕ) (a : check s ≡ Accepted) (ci row column e : ℕ) (m : 
   by-found Nothing j = (sym (means Nothing j), tt)
   by-found (At x) j = let t = by-record x j in (t .0 ∙ sym (means (At x) j), t .1)
 
-pub holds-accepted : HoldsAccepted
+pub sound-holds :
+    (s : List ℕ) → Sound s → (ci tile e : ℕ) (m : List ℕ) → tile < tileCount s → e < elementCount s →
+    Holds s ci tile e (heldByDirectory s ci tile e (length m)) (put m 0 (unpackedBits s e (heldByDirectory s ci tile e (length m))))
 unfolding heldByDirectory heldCell guarded tileBy
-holds-accepted s a ci tile e m t n =
+sound-holds s o ci tile e m t n =
     record {
-      each = λ row column g k. rw (g, check-lawful s a) (found row column g k .0);
+      each = λ row column g k. rw (g, sound-lawful s o) (found row column g k .0);
       tells = λ h row column g k. let y = found row column g k in tells-cell s ci row column e _ _ (y .0) (y .1) h;
     }
   where
@@ -172,9 +174,12 @@ holds-accepted s a ci tile e m t n =
 
     b : x ≡ roomOf s ci e (length m) (meant s tile)
     b =
-        tile-looked-means s _ (check-lawful s a) (accepted-finds s a) held.Refused (roomOf s ci e (length m)) tile e ∙ rw (← tiles-in s tile e _ _ refl refl t n)
+        tile-looked-means s _ (sound-lawful s o) (sound-finds s o) held.Refused (roomOf s ci e (length m)) tile e ∙ rw (← tiles-in s tile e _ _ refl refl t n)
 
     found :
         (row column : ℕ) → inGrid s row column e ≡ true → cellTile s row column ≡ tile →
         (toldBy s ci (put m 0 (unpackedBits s e x)) row column e x ≡ meaning s ci row column e) × Starts s x
-    found row column g k = rw (b, ← k) (by-found s a ci row column e m g (meant s (cellTile s row column)) refl)
+    found row column g k = rw (b, ← k) (by-found s o ci row column e m g (meant s (cellTile s row column)) refl)
+
+pub holds-accepted : HoldsAccepted
+holds-accepted s a = sound-holds s (accepted-sound s a)

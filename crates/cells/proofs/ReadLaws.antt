@@ -36,15 +36,17 @@ use Rattle.check_header.specs.Passed.{Headed}
 use Rattle.bodies.specs.TileDirectory.{referenceFrom, tileDirectoryAt}
 use Rattle.bodies.specs.TileRecord.{tileIndex}
 use Rattle.page_check.specs.Stages.{checkToBodies, check}
-use Rattle.page_check.proofs.AcceptedLaws.{accepted-obeys, headed-if}
+use Rattle.page_check.specs.Accepted.{Sound}
+use Rattle.page_check.proofs.AcceptedLaws.{accepted-sound, headed-if}
 use Rattle.page_check.proofs.StageLaws.{bodies-then}
-use Rattle.page_check.proofs.GivenLaws.{obeys-one}
+use Rattle.page_check.proofs.GivenLaws.{sound-one}
 use Rattle.cells.specs.declared.Route.{Route}
 use Rattle.cells.specs.declared.Route.the-variants as route
 use Rattle.cells.specs.Asked.{inGrid, inTiles}
 use Rattle.cells.specs.Routes.{carries, meant, referredTo, walkedTo, cellBy, tileBy, contentBy, foundBy}
 use Rattle.cells.specs.Meaning.{meaning, contentMeaning, heldMeaning}
 use Rattle.cells.specs.Reads.{readByDirectory, readByWalk, readByRecords, readMeaning, recordsMeaning, readContent, readHeld}
+use Rattle.cells.specs.Demand3.{SoundCells}
 use Rattle.cells.specs.inner.Lookups.{sidesLawful, inReach, reachedBy, cellReached, guarded, lookedUp, lookedTile, lookedUpContent, lookedUpHeld}
 use Rattle.cells.specs.TileCells.{contentOf, heldOf}
 use Rattle.cells.proofs.CellLaws.{sides-mean, grid-means, tiles-mean}
@@ -181,16 +183,22 @@ pub bodies-lawful : (s : List ℕ) → checkToBodies s ≡ Accepted → sidesLaw
 unfolding checkToBodies
 bodies-lawful s e = lawful-of s (headed-if s (behind-passed _ _ e .0) .0)
 
+pub sound-lawful : (s : List ℕ) → Sound s → sidesLawful s ≡ true
+sound-lawful s o = lawful-of s (o .headed)
+
 pub check-lawful : (s : List ℕ) → check s ≡ Accepted → sidesLawful s ≡ true
-check-lawful s e = lawful-of s (accepted-obeys s e .headed)
+check-lawful s e = sound-lawful s (accepted-sound s e)
 
 pub passed-bodies : (s : List ℕ) → check s ≡ Accepted → checkToBodies s ≡ Accepted
 passed-bodies s a = behind-passed _ _ (sym (bodies-then s) ∙ a) .0
 
--- so by the directory of an accepted file, and by the walk
+-- so by the directory of a sound page, and by the walk
+
+pub sound-finds : (s : List ℕ) → Sound s → (i : ℕ) → i < tileCount s → referredTo s (tileDirectoryAt s) i ≡ meant s i
+sound-finds s o i h = directory-finds s (sound-one s (records s) o) i h
 
 pub accepted-finds : (s : List ℕ) → check s ≡ Accepted → (i : ℕ) → i < tileCount s → referredTo s (tileDirectoryAt s) i ≡ meant s i
-accepted-finds s a i h = directory-finds s (obeys-one s (records s) (accepted-obeys s a)) i h
+accepted-finds s a = sound-finds s (accepted-sound s a)
 
 pub walked-finds : (s : List ℕ) (i : ℕ) → i < tileCount s → walkedTo s (headerEnd s) i ≡ meant s i
 walked-finds s i h = walk-finds s i
@@ -224,6 +232,13 @@ pub held-answer :
     x ≡ heldMeaning s ci tile e
 unfolding heldMeaning
 held-answer s ci at tile e x p q a = tile-answer held.Refused (heldOf s ci e) s at tile e x p q a
+
+pub sound-cells : SoundCells
+sound-cells s o ci =
+    record {
+      through-directory = way-means s _ (sound-lawful s o) (sound-finds s o) ci;
+      along-records = way-means s _ (sound-lawful s o) (walked-finds s) ci;
+    }
 
 -- each read is the check's refusal or the meaning, on any bytes
 

@@ -10,7 +10,11 @@ use Rattle.answer.specs.declared.Verdict.the-variants.{Accepted}
 use Rattle.answer.specs.declared.Cell.the-variants.{Stored}
 use Rattle.answer.specs.declared.Content.the-variants.{Present}
 use Rattle.header.specs.Element.{cellSize, element}
+use Rattle.record.specs.Chain.{headerEnd}
+use Rattle.bodies.specs.TileDirectory.{tileDirectoryAt}
 use Rattle.page_check.specs.Stages.{check}
+use Rattle.page_check.specs.Accepted.{Sound}
+use Rattle.cells.specs.Routes.{referredTo, walkedTo, cellBy}
 use Rattle.cells.specs.Meaning.{meaning, contentMeaning}
 use Rattle.cells.specs.Reads.{readByDirectory, readByWalk, readByRecords}
 
@@ -33,6 +37,15 @@ pub record OneAnswer (s : List ℕ) (ci : ℕ) : Type 0 where
 
 abbrev pub Demand3 : Type 0
 Demand3 = (s : List ℕ) → check s ≡ Accepted → (ci : ℕ) → OneAnswer s ci
+
+-- Req 03: what of it asks for no check. On every page that is sound, open for writing or closed, both ways to a tile's record give the
+-- cell's meaning
+pub record OneMeaning (s : List ℕ) (ci : ℕ) : Type 0 where
+  pub through-directory : (row column e : ℕ) → cellBy s ci (referredTo s (tileDirectoryAt s)) row column e ≡ meaning s ci row column e
+  pub along-records : (row column e : ℕ) → cellBy s ci (walkedTo s (headerEnd s)) row column e ≡ meaning s ci row column e
+
+abbrev pub SoundCells : Type 0
+SoundCells = (s : List ℕ) → Sound s → (ci : ℕ) → OneMeaning s ci
 
 -- beside it, of an element's content: where it is present, its bytes lie in the file
 abbrev pub ContentInside : Type 0

@@ -25,7 +25,7 @@ fn file_space_right(s: &[u8]) -> bool
 }
 
 // The metadata directory is right.
-fn metadata_directory_right(s: &[u8]) -> bool
+pub fn metadata_directory_right(s: &[u8]) -> bool
     ensures { λ r. ⌜ r ≡ metadataDirectoryRight (now (s .entry)) ⌝ }
 {
     let reference = fields::metadata_reference(s);

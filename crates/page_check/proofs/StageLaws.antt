@@ -55,7 +55,7 @@ directories-not s b p e = rw (← p, e)
 
 -- what comes behind stages 8 and 5
 
-records-then : (s : List ℕ) (v : Verdict) → checkRecords s v ≡ unlessRefused Refused (checkRecords s Accepted) v
+pub records-then : (s : List ℕ) (v : Verdict) → checkRecords s v ≡ unlessRefused Refused (checkRecords s Accepted) v
 unfolding checkRecords unlessRefused unless
 records-then s v = go (chainFault s) (checksumFault s) (bodyFault s)
   where

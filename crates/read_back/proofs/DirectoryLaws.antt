@@ -21,7 +21,8 @@ use Rattle.check_directory.specs.Correspondence.{TileRecord}
 use Rattle.check_directory.proofs.MemberLaws.{one-of-type}
 use Rattle.check_directory.proofs.OnlyLaws.{grid-reference}
 use Rattle.check_directory.proofs.CorrespondLaws.{if-listed, if-only}
-use Rattle.check_lists.specs.Stage.{directoriesRight}
+use Rattle.check_lists.specs.Metadata.{metadataDirectoryRight}
+use Rattle.check_lists.specs.FileSpace.{fileSpaceRight}
 use Rattle.check_lists.proofs.EmptyLaws.{metadata-empty, space-empty}
 use Rattle.written_records.specs.Pieces.{recordLength}
 use Rattle.written_records.proofs.PieceLaws.{least-holds}
@@ -157,22 +158,19 @@ module _ {f : List ℕ} {t : ℕ} {ix c : List ℕ} (l : Laying f t ix c) where
             content = sym (given-reference (g .number) (g .among)) ∙ ap (tileReference s) (g .index);
           }
 
-  tile-directory-right : tileDirectoryRight s ≡ true
+  -- stage 9, directory by directory
+
+  pub tiles-laid : tileDirectoryRight s ≡ true
   unfolding tileDirectoryRight
-  tile-directory-right =
+  tiles-laid =
       let o = one-of-type s 5 (tileDirectoryReference s) (directoryStart f ix) (directories-of l) (fields-laid l .tiles) in
       sym (yes _ (o .0, (o .1, (form-right, (rectangle-right, (directory-padded, (tiles-listed, (tiles-only, tt))))))))
 
-  -- stage 9
-  pub directories-laid : directoriesRight s ≡ true
-  unfolding directoriesRight
-  directories-laid =
-      let none : (d : ℕ) → (d ≡ 2 → ⊥) → (d ≡ 5 → ⊥) → recordsOf s d ≡ [] = none-of l in
-      sym
-      (yes _ (
-        tile-directory-right,
-        (
-          metadata-empty s (fields-laid l .metadata) (none 4 (λ e. omega arith) (λ e. omega arith)) (none 1 (λ e. omega arith) (λ e. omega arith)),
-          (space-empty s (fields-laid l .space) (none 3 (λ e. omega arith) (λ e. omega arith)) (none 0 (λ e. omega arith) (λ e. omega arith)), tt),
-        ),
-      ))
+  none : (d : ℕ) → (d ≡ 2 → ⊥) → (d ≡ 5 → ⊥) → recordsOf s d ≡ []
+  none = none-of l
+
+  pub metadata-laid : metadataDirectoryRight s ≡ true
+  metadata-laid = metadata-empty s (fields-laid l .metadata) (none 4 (λ e. omega arith) (λ e. omega arith)) (none 1 (λ e. omega arith) (λ e. omega arith))
+
+  pub space-laid : fileSpaceRight s ≡ true
+  space-laid = space-empty s (fields-laid l .space) (none 3 (λ e. omega arith) (λ e. omega arith)) (none 0 (λ e. omega arith) (λ e. omega arith))

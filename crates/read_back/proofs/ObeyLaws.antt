@@ -28,7 +28,7 @@ use Rattle.read_back.proofs.FrontLaws.{front-kept, front-headed}
 use Rattle.read_back.proofs.ChecksumLaws.{record-checksum, header-checksum}
 use Rattle.read_back.proofs.TileLaws.{tile-short, tile-body}
 use Rattle.read_back.proofs.RecordLaws.{tile-here, directory-placed, directory-short, directory-typed, chain-laid, start-of}
-use Rattle.read_back.proofs.DirectoryLaws.{directories-laid}
+use Rattle.read_back.proofs.DirectoryLaws.{tiles-laid, metadata-laid, space-laid}
 
 module _ {f : List ℕ} {t : ℕ} {ix c : List ℕ} (l : Laying f t ix c) where
   tile-checksum : (k : ℕ) → k < length ix → checksumRight (laidFile f t ix c) (length f + k * plainTileLength f) ≡ true
@@ -54,19 +54,23 @@ module _ {f : List ℕ} {t : ℕ} {ix c : List ℕ} (l : Laying f t ix c) where
       let s = laidFile f t ix c in
       let h = front-headed l in
       record {
-        headed = h .0;
+        sound = record {
+          headed = h .0;
+          chain = rw (front-kept l .ends) (chain-laid l);
+          header-checksum = header-checksum l;
+          checksums =
+              λ m.
+              ⊎-elim (λ p. ap (checksumRight s) (p .start) ∙ tile-checksum (p .number) (p .among))
+              (λ e. ap (checksumRight s) e ∙ directory-checksum) (start-of l m);
+          bodies =
+              λ m.
+              ⊎-elim (λ p. ap (bodyRight s) (p .start) ∙ tile-body (tile-here l (p .number) (p .among)))
+              (λ e. ap (bodyRight s) e ∙ directory-body) (start-of l m);
+          tile-directory = tiles-laid l;
+          metadata-directory = metadata-laid l;
+        };
         not-opened = h .1;
-        chain = rw (front-kept l .ends) (chain-laid l);
-        header-checksum = header-checksum l;
-        checksums =
-            λ m.
-            ⊎-elim (λ p. ap (checksumRight s) (p .start) ∙ tile-checksum (p .number) (p .among))
-            (λ e. ap (checksumRight s) e ∙ directory-checksum) (start-of l m);
-        bodies =
-            λ m.
-            ⊎-elim (λ p. ap (bodyRight s) (p .start) ∙ tile-body (tile-here l (p .number) (p .among)))
-            (λ e. ap (bodyRight s) e ∙ directory-body) (start-of l m);
-        directories = directories-laid l;
+        file-space = space-laid l;
       }
 
   pub laid-accepted : check (laidFile f t ix c) ≡ Accepted

@@ -22,8 +22,8 @@ use Rattle.header.specs.Fields.{elementCount}
 use Rattle.header.specs.Element.{element, elementName, entriesRead}
 use Rattle.check_header.specs.HeaderRecord.{namesDiffer, elementRight, elementsRight, headerRight}
 use Rattle.page_check.specs.Stages.{check}
-use Rattle.page_check.proofs.AcceptedLaws.{accepted-obeys}
-use Rattle.page_check.proofs.GivenLaws.{obeys-range}
+use Rattle.page_check.proofs.AcceptedLaws.{accepted-sound}
+use Rattle.page_check.proofs.GivenLaws.{sound-range}
 use Rattle.store.specs.Lookup.{hasName, elementNamed, lookupOf, readElementNamed, FoundByName}
 
 module _ (s name : List ℕ) where
@@ -63,8 +63,8 @@ module _ (s : List ℕ) (a : check s ≡ Accepted) where
   pub right : (e : ℕ) → e < elementCount s → elementRight s e ≡ true
   unfolding headerRight elementsRight
   right e h =
-      let o = accepted-obeys s a in
-      let r = obeys-range s (records s) o in
+      let o = accepted-sound s a in
+      let r = sound-range s (records s) o in
       let k = means _ (means _ (o .headed .header) .1 .1 .1 .0) in
       below-each (entriesRead s) _ (k .1 .1 .0) e (omega (arith, r .all))
 

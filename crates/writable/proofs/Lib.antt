@@ -1,0 +1,4 @@
+pub mod TestLaws
+pub mod JoinLaws
+pub mod OpenLaws
+pub mod PartLaws
