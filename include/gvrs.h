@@ -1,12 +1,12 @@
 /* Gridfour Virtual Raster Store files, version 1.4: the check of a file, whole or in two halves, what a page is, reads of its cells,
-   compressed ones too, whether its scores are certain, M32 codes, its elements by their names, the laying down of a new one, and the
-   listing of a file.
+   compressed ones too, whether its scores are certain, M32 codes, its elements by their names, the laying down of a new one, the
+   correcting of one where it lies, and the listing of a file.
 
    Link with libgvrs_c.a, which `rt staticlib gvrs_c` writes to target/staticlib/. A file is the bytes of the whole file, n of
    them, but for gvrs_check_start. `out` takes the numbers that a function names, in their order; a shorter one takes those that
-   fit, and the answer is the same. A lay-down also writes the buffer that it is given for the file, a listing the buffer for its
-   text, an unpacking that for the cells, gvrs_cells those for kinds and bits, M32 those for bytes and numbers; gvrs_cells and
-   gvrs_deed the memory lent to them. Nothing else is written.
+   fit, and the answer is the same. A lay-down also writes the buffer that it is given for the file, a correction the one that the page
+   lies in, a listing the buffer for its text, an unpacking that for the cells, gvrs_cells those for kinds and bits, M32 those for
+   bytes and numbers; gvrs_cells and gvrs_deed the memory lent to them. Nothing else is written.
 
    The caller sees to it that each pointer is that of as many elements as are named, and that none is null, also where it names
    none; that what is written (`out`, the buffers and the memory) overlaps nothing else that is passed; that numbers of 32 bits are
@@ -23,21 +23,22 @@ extern "C" {
 
 /* What a function answers: a refusal's number, or what it found. */
 enum {
-    GVRS_ACCEPTED = 0,     /* the file is accepted, the page is laid down, the page, the element or the rectangle is there */
+    GVRS_ACCEPTED = 0,     /* the file is accepted, the page is laid down or corrected, the page, the element or the rectangle is there */
     GVRS_NOT_GVRS = 1,     /* fewer than 16 bytes, or the first twelve differ */
     GVRS_VERSION = 2,      /* not version 1.4 */
     GVRS_HEADER = 3,       /* header record at fault: also a name or a text, as gvrs_is_identifier and gvrs_is_utf8 say */
-    GVRS_CEILING = 4,      /* a house ceiling is passed */
+    GVRS_CEILING = 4,      /* a house ceiling is passed, or a correction would pass that of the file */
     GVRS_OPENED = 5,       /* time opened for writing is not zero */
     GVRS_CHAIN = 6,        /* chain at fault */
     GVRS_CHECKSUM = 7,     /* checksum at fault */
     GVRS_BODY = 8,         /* body of a tile or metadata record at fault: also its name or description */
     GVRS_DIRECTORY = 9,    /* directory at fault */
-    GVRS_OUTSIDE = 10,     /* row, column, element, tile or rectangle asked for not in the grid */
+    GVRS_OUTSIDE = 10,     /* row, column, element, tile or rectangle asked for, or tile to correct, not in the grid */
     GVRS_COMPRESSED = 11,  /* content asked for is compressed; of a cell: and not of the compressor index named, or of a Float */
-    GVRS_INPUT = 12,       /* input wrong: of a lay-down, more first bytes than the stated length, or no scores to judge */
-    GVRS_ROOM = 13,        /* lay-down output, or a buffer for the cells of a rectangle, too short */
+    GVRS_INPUT = 12,       /* input wrong: of a lay-down or a correction, more first bytes than the stated length, or no scores to judge */
+    GVRS_ROOM = 13,        /* lay-down output, a page's buffer for a correction, or one for the cells of a rectangle, too short */
     GVRS_MALFORMED = 14,   /* compressed content malformed, or a Short in it out of range */
+    GVRS_NOT_OPEN = 15,    /* no page that is open for writing */
     GVRS_INCOMPLETE = 16,  /* a byte that a stage needs is not given */
     GVRS_STORED = 32,      /* the cell is stored, the content is present, the name is found */
     GVRS_FILL = 33,        /* the cell is fill, the tile is absent, no element has the name */
@@ -71,6 +72,7 @@ const char *gvrs_refusal(uint32_t number) {
     case 12: return "input wrong";
     case 13: return "a buffer is too short";
     case 14: return "the compressed content asked for is malformed";
+    case 15: return "no page that is open for writing";
     case 16: return "a byte that a stage needs is not given";
     default: return "no refusal";
     }
@@ -176,6 +178,41 @@ uint32_t gvrs_content(const uint8_t *file, uint64_t n, uint64_t tile, uint64_t e
    named in indexes is stored in it with the bytes given, every other grid cell is fill. Refused, the whole buffer is as it was. */
 uint32_t gvrs_lay_down(const uint8_t *front, uint64_t front_n, uint64_t time, const uint32_t *indexes, uint64_t indexes_n,
                        const uint8_t *cells, uint64_t cells_n, uint8_t *file, uint64_t file_n, uint64_t *out, uint64_t out_n);
+
+/* A page is corrected where it lies: opened, its tiles stored or removed one by one, closed. file is a buffer of file_n bytes, of which
+   the first n are the page; each call is given the length that the last one answered.
+
+   0 done, and out[0] is the page's new length, at least n; else the refusal's number, and out[0] is its place, 0 but for a refusal of
+   the check. Done, the buffer holds the page, and the bytes behind it are as they were. Refused, the whole buffer is as it was.
+   Refused, in this order: 12 where n is above file_n; an opening as by gvrs_check, the other three by 15 where the page is not open for
+   writing; then as each of them says. A page is open for writing where its opened time is set and it is else as gvrs_check wants it,
+   but without a file-space directory, with a tile directory that lists every tile of the grid, and with no two free records next to
+   each other. gvrs_check answers 5 of it.
+
+   What goes to the page's end is 13 where the buffer has no room for it, and 4 where only the ceiling of 16,777,216 bytes stands in the
+   way. Free records next to each other become one. What is freed, joined, or left over of a free record that is taken holds zeros
+   behind its length, but for its checksum.
+
+   Over any calls that begin with an opening the tiles are those of a map from index to bytes. Metadata, and tiles that no call names,
+   stay as they are, compressed ones too. A page that is closed is accepted by gvrs_check. */
+
+/* Opens a page: time is its opened time, 12 where that is 0. The file-space directory is freed. A tile directory that does not list every
+   tile of the grid is replaced by one that does, at the page's end: 13 or 4. */
+uint32_t gvrs_open_page(uint8_t *file, uint64_t file_n, uint64_t n, uint64_t time, uint64_t *out, uint64_t out_n);
+
+/* Stores a whole tile, uncompressed: cells are its bytes, all elements in order, no lengths, no padding. 10 where the grid has no such
+   tile; 12 where cells_n is not the bytes of a tile; 13 or 4. A tile that is stored uncompressed is overwritten, cells and checksum
+   alone, and is never 13 or 4; one with a compressed element is freed first. A new record takes the start of the lowest free record of
+   its length or of at least 16 bytes more, else the page's end. */
+uint32_t gvrs_store_tile(uint8_t *file, uint64_t file_n, uint64_t n, uint64_t tile, const uint8_t *cells, uint64_t cells_n,
+                         uint64_t *out, uint64_t out_n);
+
+/* Removes a tile; its cells are fill then. 10 where the grid has no such tile. Where it is absent, nothing changes: done. */
+uint32_t gvrs_remove_tile(uint8_t *file, uint64_t file_n, uint64_t n, uint64_t tile, uint64_t *out, uint64_t out_n);
+
+/* Closes a page: time is its new time modified, 12 where that is 0, and the opened time is 0 again. Where a record is free, a file-space
+   directory goes to the page's end: 13 or 4. */
+uint32_t gvrs_close_page(uint8_t *file, uint64_t file_n, uint64_t n, uint64_t time, uint64_t *out, uint64_t out_n);
 
 /* The listing of a file, as text: its length. `text` takes it where it fits, and what stands behind it stays; else `text` is as it
    was. A file over 65,536 bytes lists as `too long`. */

@@ -1,10 +1,12 @@
 //! Times the library's check, checksum, reads, lay-down and unpacking against the second
-//! implementation's, in one run, the cells of rectangles, and the check of hostile files. Fails where
-//! the check, unpacking or the cells of a rectangle take longer than their bounds. With the word
-//! `hostile` it measures the hostile files alone.
+//! implementation's, in one run, the cells of rectangles, a tile stored in an open page, and the check
+//! of hostile files. Fails where the check, unpacking, the cells of a rectangle or the storing of a
+//! tile take longer than their bounds. With the word `hostile` it measures the hostile files alone,
+//! with `corrections` the storing of tiles alone.
 
 mod cells;
 mod checksum;
+mod corrections;
 mod hostile;
 mod lay_downs;
 mod look_up;
@@ -28,6 +30,9 @@ fn main() -> ExitCode {
     if env::args().any(|argument| argument == "hostile") {
         return exit_code(measure_checks(|_| ()));
     }
+    if env::args().any(|argument| argument == "corrections") {
+        return exit_code(corrections::measure());
+    }
     let checks = measure_checks(units::measure);
     checksum::measure();
     reads::measure();
@@ -36,7 +41,8 @@ fn main() -> ExitCode {
     let pages = packed::pages();
     let unpacking = unpack::measure(&pages);
     let cells = cells::measure(&pages);
-    exit_code(checks && unpacking && cells)
+    let corrections = corrections::measure();
+    exit_code(checks && unpacking && cells && corrections)
 }
 
 /// The check of some files, and of hostile ones.

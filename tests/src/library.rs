@@ -2,6 +2,7 @@
 
 use crate::second::cells::Spot;
 use crate::second::check::Answer;
+use crate::second::correct::Call;
 use crate::second::rectangles::Rectangle;
 use crate::second::start::Start;
 
@@ -111,6 +112,40 @@ extern "C" {
         out: *mut u64,
         out_n: u64,
     ) -> u32;
+    fn gvrs_open_page(
+        file: *mut u8,
+        file_n: u64,
+        n: u64,
+        time: u64,
+        out: *mut u64,
+        out_n: u64,
+    ) -> u32;
+    fn gvrs_store_tile(
+        file: *mut u8,
+        file_n: u64,
+        n: u64,
+        tile: u64,
+        cells: *const u8,
+        cells_n: u64,
+        out: *mut u64,
+        out_n: u64,
+    ) -> u32;
+    fn gvrs_remove_tile(
+        file: *mut u8,
+        file_n: u64,
+        n: u64,
+        tile: u64,
+        out: *mut u64,
+        out_n: u64,
+    ) -> u32;
+    fn gvrs_close_page(
+        file: *mut u8,
+        file_n: u64,
+        n: u64,
+        time: u64,
+        out: *mut u64,
+        out_n: u64,
+    ) -> u32;
     fn gvrs_list(file: *const u8, n: u64, text: *mut u8, text_n: u64) -> u64;
     fn gvrs_is_identifier(name: *const u8, n: u64) -> u32;
     fn gvrs_is_utf8(text: *const u8, n: u64) -> u32;
@@ -127,6 +162,48 @@ extern "C" {
         n: u64,
         name: *const u8,
         name_n: u64,
+        out: *mut u64,
+        out_n: u64,
+    ) -> u32;
+}
+
+#[cfg(feature = "stopped")]
+extern "C" {
+    fn gvrs_open_page_stopped(
+        file: *mut u8,
+        file_n: u64,
+        n: u64,
+        time: u64,
+        stores: u64,
+        out: *mut u64,
+        out_n: u64,
+    ) -> u32;
+    fn gvrs_store_tile_stopped(
+        file: *mut u8,
+        file_n: u64,
+        n: u64,
+        tile: u64,
+        cells: *const u8,
+        cells_n: u64,
+        stores: u64,
+        out: *mut u64,
+        out_n: u64,
+    ) -> u32;
+    fn gvrs_remove_tile_stopped(
+        file: *mut u8,
+        file_n: u64,
+        n: u64,
+        tile: u64,
+        stores: u64,
+        out: *mut u64,
+        out_n: u64,
+    ) -> u32;
+    fn gvrs_close_page_stopped(
+        file: *mut u8,
+        file_n: u64,
+        n: u64,
+        time: u64,
+        stores: u64,
         out: *mut u64,
         out_n: u64,
     ) -> u32;
@@ -362,6 +439,56 @@ pub fn lay_down_into(
             out.as_mut_ptr(),
             out.len() as u64,
         )
+    }
+}
+
+/// The number of one call of a correction, on a buffer whose first `n` bytes are the page. The new
+/// length or the place goes into `out`, of any length.
+pub fn correct_into(file: &mut [u8], n: u64, call: &Call, out: &mut [u64]) -> u32 {
+    let (bytes, file_n) = (file.as_mut_ptr(), file.len() as u64);
+    let (out, out_n) = (out.as_mut_ptr(), out.len() as u64);
+    // All slices are alive for the whole call and do not overlap.
+    unsafe {
+        match call {
+            Call::Open { time } => gvrs_open_page(bytes, file_n, n, *time, out, out_n),
+            Call::Store { tile, cells } => {
+                let (cells, cells_n) = (cells.as_ptr(), cells.len() as u64);
+                gvrs_store_tile(bytes, file_n, n, *tile, cells, cells_n, out, out_n)
+            }
+            Call::Remove { tile } => gvrs_remove_tile(bytes, file_n, n, *tile, out, out_n),
+            Call::Close { time } => gvrs_close_page(bytes, file_n, n, *time, out, out_n),
+        }
+    }
+}
+
+/// The same, stopped after so many byte stores. Their number goes into `out` too.
+#[cfg(feature = "stopped")]
+pub fn correct_stopped_into(
+    file: &mut [u8],
+    n: u64,
+    call: &Call,
+    stores: u64,
+    out: &mut [u64],
+) -> u32 {
+    let (bytes, file_n) = (file.as_mut_ptr(), file.len() as u64);
+    let (out, out_n) = (out.as_mut_ptr(), out.len() as u64);
+    // All slices are alive for the whole call and do not overlap.
+    unsafe {
+        match call {
+            Call::Open { time } => {
+                gvrs_open_page_stopped(bytes, file_n, n, *time, stores, out, out_n)
+            }
+            Call::Store { tile, cells } => {
+                let (cells, cells_n) = (cells.as_ptr(), cells.len() as u64);
+                gvrs_store_tile_stopped(bytes, file_n, n, *tile, cells, cells_n, stores, out, out_n)
+            }
+            Call::Remove { tile } => {
+                gvrs_remove_tile_stopped(bytes, file_n, n, *tile, stores, out, out_n)
+            }
+            Call::Close { time } => {
+                gvrs_close_page_stopped(bytes, file_n, n, *time, stores, out, out_n)
+            }
+        }
     }
 }
 

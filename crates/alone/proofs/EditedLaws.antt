@@ -1,6 +1,6 @@
 -- An edit of a page behind the same front, whole. Assumes nothing.
 use Prim.Native.Nat.{ℕ, _+_, _≤_}
-use mathlib.Core.Path.{_≡_, refl, sym, ap, _∙_}
+use mathlib.Core.Path.{_≡_, refl, sym, ap, ap₂, _∙_}
 use mathlib.Core.List.{List, [], _∷_, _++_, map}
 use mathlib.Core.Bool.{Bool, true, false, _&&_}
 use native.Mathlib.Omega.{arith}
@@ -23,12 +23,12 @@ use Rattle.check_records.specs.Faults.{rightOf, chainFault, checksumFault, body
 use Rattle.check_records.proofs.RecordLaws.{whole-chain}
 use Rattle.check_lists.specs.Metadata.{metadataDirectoryRight}
 use Rattle.pieces.specs.Pieces.{freeRecord, isFree, nothingToJoin, freeing}
-use Rattle.pieces.specs.Edits.{placeFor, placed}
-use Rattle.pieces.specs.Standing.{AllOf, standing, without, Inserted}
+use Rattle.pieces.specs.Edits.{placed}
+use Rattle.pieces.specs.Standing.{AllOf, standing, without}
 use Rattle.pieces.proofs.FreeingLaws.{standing-other, standing-tail, freeing-well, freeing-none, freeing-standing, freeing-all}
 use Rattle.pieces.proofs.PlacedLaws.{placed-well, placed-all, placed-others, placed-new, placed-none}
 use Rattle.alone.specs.Alone.{SameRecord, Front, alone, AllAlone}
-use Rattle.alone.specs.Edited.{Piece, Touches, edited, Edit, EditKeeps}
+use Rattle.alone.specs.Edited.{Piece, Touches, placedEach, edited, New, Edit, InsertedEach, touched, EditKeeps}
 use Rattle.alone.proofs.HeaderLaws.{header-sym, header-trans, front-long, front-header, front-end}
 use Rattle.alone.proofs.ChecksumLaws.{checksum-same}
 use Rattle.alone.proofs.PieceLaws.{none-here, here-right, wrong-none, checksums, bodies}
@@ -51,35 +51,50 @@ all-pieces (r ∷ rs) w a = (record { ok = w .0 .0; stated = w .0 .1; bytes = a 
 
 -- done to all
 
-module _ (f : List ℕ) (g : List ℕ → List ℕ) (h : Touches f g) where
-  mapped-pieces : (rs : List (List ℕ)) → AllOf Piece rs → AllOf Piece (map g rs)
+module _ (f : List ℕ) (P : List ℕ → Type 0) (kind : ℕ) (g : List ℕ → List ℕ) (h : Touches f P kind g) where
+  pub mapped-pieces : (rs : List (List ℕ)) → AllOf P rs → AllOf Piece (map g rs)
   mapped-pieces [] a = _
   mapped-pieces (r ∷ rs) a = (h .piece r (a .0), mapped-pieces rs (a .1))
 
-  mapped-alone : (rule : Rule) (rs : List (List ℕ)) → AllOf Piece rs → AllAlone f rule rs → AllAlone f rule (map g rs)
+  pub mapped-alone : (rule : Rule) (rs : List (List ℕ)) → AllOf P rs → AllAlone f rule rs → AllAlone f rule (map g rs)
   mapped-alone rule [] w a = _
   mapped-alone rule (r ∷ rs) w a = (h .rules r (w .0) rule (a .0), mapped-alone rule rs (w .1) (a .1))
 
-  mapped-standing : (kind : ℕ) → (kind ≡ 5 → ⊥) → (at : ℕ) (rs : List (List ℕ)) → AllOf Piece rs → standing kind at (map g rs) ≡ standing kind at rs
-  mapped-standing kind z at [] w = refl
-  mapped-standing kind z at (r ∷ rs) w = go (eqb (typeAt r 0) 5) refl (mapped-standing kind z (at + length r) rs (w .1))
+  -- of other types stand the same
+  pub mapped-standing : (other : ℕ) → (other ≡ kind → ⊥) → (at : ℕ) (rs : List (List ℕ)) → AllOf P rs → standing other at (map g rs) ≡ standing other at rs
+  mapped-standing other z at [] w = refl
+  mapped-standing other z at (r ∷ rs) w = go (eqb (typeAt r 0) kind) refl (mapped-standing other z (at + length r) rs (w .1))
     where
       go :
-          (b : Bool) → eqb (typeAt r 0) 5 ≡ b → standing kind (at + length r) (map g rs) ≡ standing kind (at + length r) rs →
-          standing kind at (g r ∷ map g rs) ≡ standing kind at (r ∷ rs)
+          (b : Bool) → eqb (typeAt r 0) kind ≡ b → standing other (at + length r) (map g rs) ≡ standing other (at + length r) rs →
+          standing other at (g r ∷ map g rs) ≡ standing other at (r ∷ rs)
       go true e i =
-          let five : typeAt r 0 ≡ 5 = eqb-true _ _ e in
-          standing-other kind at (g r) (map g rs) (λ j. z (sym j ∙ h .type r (w .0) ∙ five))
-          ∙ ap (λ (l : ℕ). standing kind (at + l) (map g rs)) (h .long r (w .0))
+          let own : typeAt r 0 ≡ kind = eqb-true _ _ e in
+          standing-other other at (g r) (map g rs) (λ j. z (sym j ∙ h .type r (w .0) ∙ own))
+          ∙ ap (λ (l : ℕ). standing other (at + l) (map g rs)) (h .long r (w .0))
           ∙ i
-          ∙ sym (standing-other kind at r rs (λ j. z (sym j ∙ five)))
-      go false e i = ap (λ (q : List ℕ). standing kind at (q ∷ map g rs)) (h .others r (eqb-false _ _ e)) ∙ standing-tail kind at r (map g rs) rs i
+          ∙ sym (standing-other other at r rs (λ j. z (sym j ∙ own)))
+      go false e i = ap (λ (q : List ℕ). standing other at (q ∷ map g rs)) (h .others r (eqb-false _ _ e)) ∙ standing-tail other at r (map g rs) rs i
 
-  free-same : (r : List ℕ) → Piece r → isFree (g r) ≡ isFree r
+  -- those that it changes stand where they stood
+  pub mapped-own : (at : ℕ) (rs : List (List ℕ)) → AllOf P rs → standing kind at (map g rs) ≡ map (touched g) (standing kind at rs)
+  unfolding standing
+  mapped-own at [] w = refl
+  mapped-own at (r ∷ rs) w =
+      rw (h .type r (w .0), h .long r (w .0)) (go (eqb (typeAt r 0) kind) (mapped-own (at + length r) rs (w .1)))
+    where
+      go :
+          (b : Bool) → standing kind (at + length r) (map g rs) ≡ map (touched g) (standing kind (at + length r) rs) →
+          pick b ((at, g r) ∷ standing kind (at + length r) (map g rs)) (standing kind (at + length r) (map g rs))
+          ≡ map (touched g) (pick b ((at, r) ∷ standing kind (at + length r) rs) (standing kind (at + length r) rs))
+      go true i = ap (λ (l : List (ℕ × List ℕ)). (at, g r) ∷ l) i
+      go false i = i
+
+  free-same : (r : List ℕ) → P r → isFree (g r) ≡ isFree r
   unfolding isFree
   free-same r o = rw (h .type r o)
 
-  mapped-none : (rs : List (List ℕ)) → AllOf Piece rs → nothingToJoin (map g rs) ≡ nothingToJoin rs
+  pub mapped-none : (rs : List (List ℕ)) → AllOf P rs → nothingToJoin (map g rs) ≡ nothingToJoin rs
   unfolding nothingToJoin
   mapped-none [] w = refl
   mapped-none (r ∷ []) w = refl
@@ -87,8 +102,13 @@ module _ (f : List ℕ) (g : List ℕ → List ℕ) (h : Touches f g) where
       rw (free-same r (w .0), free-same q (w .1 .0))
       (ap (λ (b : Bool). pick (isFree r && isFree q) false b) (mapped-none (q ∷ qs) (w .1)))
 
+  pub mapped-length : (rs : List (List ℕ)) → AllOf P rs → length (joined (map g rs)) ≡ length (joined rs)
+  mapped-length [] w = refl
+  mapped-length (r ∷ rs) w =
+      length-append (g r) (joined (map g rs)) ∙ ap₂ (λ (a b : ℕ). a + b) (h .long r (w .0)) (mapped-length rs (w .1)) ∙ sym (length-append r (joined rs))
+
 -- none of them goes
-without-none :
+pub without-none :
     (p : List ℕ → Bool) (kind at : ℕ) (rs : List (List ℕ)) → ((r : List ℕ) → p r ≡ true → typeAt r 0 ≡ kind → ⊥) →
     without p (standing kind at rs) ≡ standing kind at rs
 unfolding without standing
@@ -131,101 +151,162 @@ module _ (f : List ℕ) (w : Front f) (a b : List ℕ) where
   pub header-sum-same : checksumRight (f ++ a) 16 ≡ checksumRight (f ++ b) 16
   header-sum-same = checksum-same header-record (header-trans (header-sym (front-header w a)) (front-header w b) .flag)
 
+-- stages 7 and 8 and the metadata rules, from pieces to others behind the same front
+module _ (f : List ℕ) (w : Front f) (rs qs : List (List ℕ)) (v : WellFormed rs) (u : WellFormed qs) where
+  body-alone : bodyFault (f ++ joined rs) ≡ Nothing → AllAlone f Body rs
+  unfolding bodyFault
+  body-alone b = wrong-none f w rs v Body b
+
+  pub body-to : (AllAlone f Body rs → AllAlone f Body qs) → bodyFault (f ++ joined rs) ≡ Nothing → bodyFault (f ++ joined qs) ≡ Nothing
+  body-to k b = bodies f w qs u (k (body-alone b))
+
+  pub checksum-to :
+      (AllAlone f Checksum rs → AllAlone f Checksum qs) → checksumFault (f ++ joined rs) ≡ Nothing → checksumFault (f ++ joined qs) ≡ Nothing
+  unfolding checksumFault rightOf
+  checksum-to k c =
+      let h : checksumRight (f ++ joined rs) 16 ≡ true = here-right (f ++ joined rs) Checksum 16 (records (f ++ joined rs)) c in
+      let a = wrong-none f w rs v Checksum (sym (none-here (f ++ joined rs) Checksum 16 (records (f ++ joined rs)) h) ∙ c) in
+      checksums f w qs u (sym (header-sum-same f w (joined rs) (joined qs)) ∙ h) (k a)
+
+  pub metadata-to :
+      standing 1 (length f) rs ≡ standing 1 (length f) qs → standing 4 (length f) rs ≡ standing 4 (length f) qs → bodyFault (f ++ joined rs) ≡ Nothing →
+      metadataDirectoryRight (f ++ joined rs) ≡ metadataDirectoryRight (f ++ joined qs)
+  metadata-to a c b =
+      standing-keeps f rs f qs
+      (record { first = w; second = w; ends = refl; reference = refl; formed = v; formed-too = u; right = body-alone b; records = a; directories = c })
+
+-- new records, one after the other
+
+new-used : (f v : List ℕ) → New f v → isFree v ≡ false
+unfolding isFree
+new-used f v n = rw (n .type)
+
+module _ (f : List ℕ) (flag : ℕ) where
+  each-pieces : (vs : List (List ℕ)) → AllOf (New f) vs → (rs : List (List ℕ)) → AllOf Piece rs → AllOf Piece (placedEach flag vs rs)
+  unfolding placedEach
+  each-pieces [] n rs a = a
+  each-pieces (v ∷ vs) n rs a =
+      let w = well-formed rs a in
+      let o = n .0 .piece in
+      each-pieces vs (n .1) (placed flag v rs)
+      (all-pieces (placed flag v rs) (placed-well flag v (o .ok) (o .stated) rs w)
+      (placed-all flag v (o .ok) (o .stated) Bytes (λ m h k. free-bytes flag m) (o .bytes) rs w (all-bytes rs a)))
+
+  each-alone :
+      (rule : Rule) → ((n : ℕ) → 16 ≤ n → n ≤ largestInteger → alone f rule (freeRecord flag n) ≡ true) → ((v : List ℕ) → New f v → alone f rule v ≡ true) →
+      (vs : List (List ℕ)) → AllOf (New f) vs → (rs : List (List ℕ)) → AllOf Piece rs → AllAlone f rule rs → AllAlone f rule (placedEach flag vs rs)
+  unfolding placedEach
+  each-alone rule keep right [] n rs w a = a
+  each-alone rule keep right (v ∷ vs) n rs w a =
+      let o = n .0 .piece in
+      each-alone rule keep right vs (n .1) (placed flag v rs) (each-pieces (v ∷ []) (n .0, tt) rs w)
+      (placed-all flag v (o .ok) (o .stated) (λ r. alone f rule r ≡ true) keep (right v (n .0)) rs (well-formed rs w) a)
+
+  each-others :
+      (kind : ℕ) → (kind ≡ 0 → ⊥) → (kind ≡ 2 → ⊥) → (at : ℕ) (vs : List (List ℕ)) → AllOf (New f) vs → (rs : List (List ℕ)) → AllOf Piece rs →
+      standing kind at (placedEach flag vs rs) ≡ standing kind at rs
+  unfolding placedEach
+  each-others kind a b at [] n rs w = refl
+  each-others kind a b at (v ∷ vs) n rs w =
+      let o = n .0 .piece in
+      each-others kind a b at vs (n .1) (placed flag v rs) (each-pieces (v ∷ []) (n .0, tt) rs w)
+      ∙ placed-others flag v (o .ok) (o .stated) kind a (λ i. b (sym i ∙ n .0 .type)) at rs (well-formed rs w)
+
+  each-new :
+      (at : ℕ) (vs : List (List ℕ)) → AllOf (New f) vs → (rs : List (List ℕ)) → AllOf Piece rs →
+      InsertedEach flag at vs rs (standing 2 at rs) (standing 2 at (placedEach flag vs rs))
+  unfolding placedEach
+  each-new at [] n rs w = refl
+  each-new at (v ∷ vs) n rs w =
+      let o = n .0 .piece in
+      (placed-new flag v (o .ok) (o .stated) 2 (λ i. omega arith) (n .0 .type) at rs (well-formed rs w), each-new at vs (n .1) (placed flag v rs) (each-pieces (v ∷ []) (n .0, tt) rs w))
+
+  each-none : (vs : List (List ℕ)) → AllOf (New f) vs → (rs : List (List ℕ)) → nothingToJoin rs ≡ true → nothingToJoin (placedEach flag vs rs) ≡ true
+  unfolding placedEach
+  each-none [] n rs e = e
+  each-none (v ∷ vs) n rs e = each-none vs (n .1) (placed flag v rs) (placed-none flag v (new-used f v (n .0)) rs e)
+
 -- all of it
 
-module _ (f : List ℕ) (rs : List (List ℕ)) (flag : ℕ) (p : List ℕ → Bool) (v : List ℕ) (g : List ℕ → List ℕ) (e : Edit f rs flag p v g) where
+module _ (f : List ℕ) (rs : List (List ℕ)) (flag : ℕ) (p : List ℕ → Bool) (vs : List (List ℕ)) (g : List ℕ → List ℕ) (e : Edit f rs flag p vs g) where
   formed : WellFormed rs
   formed = well-formed rs (e .pieces)
 
-  freed-well : WellFormed (freeing flag p rs)
-  freed-well = freeing-well flag p rs formed (e .room)
+  freed-pieces : AllOf Piece (freeing flag p rs)
+  freed-pieces =
+      all-pieces (freeing flag p rs) (freeing-well flag p rs formed (e .room))
+      (freeing-all flag p rs formed Bytes (λ n h k. free-bytes flag n) (e .room) (all-bytes rs (e .pieces)))
 
-  placed-pieces : AllOf Piece (placed flag v (freeing flag p rs))
-  placed-pieces =
-      all-pieces (placed flag v (freeing flag p rs)) (placed-well flag v (e .new .ok) (e .new .stated) (freeing flag p rs) freed-well)
-      (placed-all flag v (e .new .ok) (e .new .stated) Bytes (λ n h k. free-bytes flag n) (e .new .bytes) (freeing flag p rs) freed-well
-      (freeing-all flag p rs formed Bytes (λ n h k. free-bytes flag n) (e .room) (all-bytes rs (e .pieces))))
+  placed-pieces : AllOf Piece (placedEach flag vs (freeing flag p rs))
+  placed-pieces = each-pieces f flag vs (e .new) (freeing flag p rs) freed-pieces
 
-  pieces : AllOf Piece (edited flag p v g rs)
+  pieces : AllOf Piece (edited flag p vs g rs)
   unfolding edited
-  pieces = mapped-pieces f g (e .touches) (placed flag v (freeing flag p rs)) placed-pieces
+  pieces = mapped-pieces f Piece 5 g (e .touches) (placedEach flag vs (freeing flag p rs)) placed-pieces
 
-  well : WellFormed (edited flag p v g rs)
-  well = well-formed (edited flag p v g rs) pieces
+  well : WellFormed (edited flag p vs g rs)
+  well = well-formed (edited flag p vs g rs) pieces
 
   alone-to :
-      (rule : Rule) → ((n : ℕ) → 16 ≤ n → n ≤ largestInteger → alone f rule (freeRecord flag n) ≡ true) → alone f rule v ≡ true → AllAlone f rule rs →
-      AllAlone f rule (edited flag p v g rs)
+      (rule : Rule) → ((n : ℕ) → 16 ≤ n → n ≤ largestInteger → alone f rule (freeRecord flag n) ≡ true) → ((v : List ℕ) → New f v → alone f rule v ≡ true) →
+      AllAlone f rule rs → AllAlone f rule (edited flag p vs g rs)
   unfolding edited
-  alone-to rule keep n a =
-      mapped-alone f g (e .touches) rule (placed flag v (freeing flag p rs)) placed-pieces
-      (placed-all flag v (e .new .ok) (e .new .stated) (λ r. alone f rule r ≡ true) keep n (freeing flag p rs) freed-well
+  alone-to rule keep right a =
+      mapped-alone f Piece 5 g (e .touches) rule (placedEach flag vs (freeing flag p rs)) placed-pieces
+      (each-alone f flag rule keep right vs (e .new) (freeing flag p rs) freed-pieces
       (freeing-all flag p rs formed (λ r. alone f rule r ≡ true) keep (e .room) a))
 
-  stays : (kind : ℕ) → (kind ≡ 0 → ⊥) → (kind ≡ 2 → ⊥) → (kind ≡ 5 → ⊥) → standing kind (length f) rs ≡ standing kind (length f) (edited flag p v g rs)
+  -- of a type that is neither free nor a tile's
+  placed-kept : (kind : ℕ) → (kind ≡ 0 → ⊥) → (kind ≡ 2 → ⊥) → standing kind (length f) (placedEach flag vs (freeing flag p rs)) ≡ standing kind (length f) rs
+  placed-kept kind a b =
+      each-others f flag kind a b (length f) vs (e .new) (freeing flag p rs) freed-pieces
+      ∙ freeing-standing flag p rs formed kind a (length f)
+      ∙ without-none p kind (length f) rs (λ r i j. b (sym j ∙ e .freed r i))
+
+  stays : (kind : ℕ) → (kind ≡ 0 → ⊥) → (kind ≡ 2 → ⊥) → (kind ≡ 5 → ⊥) → standing kind (length f) rs ≡ standing kind (length f) (edited flag p vs g rs)
   unfolding edited
   stays kind a b c =
-      sym
-      (mapped-standing f g (e .touches) kind c (length f) (placed flag v (freeing flag p rs)) placed-pieces
-      ∙ placed-others flag v (e .new .ok) (e .new .stated) kind a (λ i. b (sym i ∙ e .new-type)) (length f) (freeing flag p rs) freed-well
-      ∙ freeing-standing flag p rs formed kind a (length f)
-      ∙ without-none p kind (length f) rs (λ r i j. b (sym j ∙ e .freed r i)))
+      sym (mapped-standing f Piece 5 g (e .touches) kind c (length f) (placedEach flag vs (freeing flag p rs)) placed-pieces ∙ placed-kept kind a b)
 
-  tiles : Inserted (without p (standing 2 (length f) rs)) (placeFor (length f) (length v) (freeing flag p rs), v) (standing 2 (length f) (edited flag p v g rs))
+  directories : standing 5 (length f) (edited flag p vs g rs) ≡ map (touched g) (standing 5 (length f) rs)
+  unfolding edited
+  directories =
+      mapped-own f Piece 5 g (e .touches) (length f) (placedEach flag vs (freeing flag p rs)) placed-pieces
+      ∙ ap (map (touched g)) (placed-kept 5 (λ i. omega arith) (λ i. omega arith))
+
+  tiles : InsertedEach flag (length f) vs (freeing flag p rs) (without p (standing 2 (length f) rs)) (standing 2 (length f) (edited flag p vs g rs))
   unfolding edited
   tiles =
-      rw (mapped-standing f g (e .touches) 2 (λ i. omega arith) (length f) (placed flag v (freeing flag p rs)) placed-pieces, ← freeing-standing flag p rs formed 2 (λ i. omega arith) (length f))
-      (placed-new flag v (e .new .ok) (e .new .stated) 2 (λ i. omega arith) (e .new-type) (length f) (freeing flag p rs) freed-well)
+      rw (mapped-standing f Piece 5 g (e .touches) 2 (λ i. omega arith) (length f) (placedEach flag vs (freeing flag p rs)) placed-pieces, ← freeing-standing flag p rs formed 2 (λ i. omega arith) (length f))
+      (each-new f flag (length f) vs (e .new) (freeing flag p rs) freed-pieces)
 
-  new-used : isFree v ≡ false
-  unfolding isFree
-  new-used = rw (e .new-type)
-
-  none : nothingToJoin (edited flag p v g rs) ≡ true
+  none : nothingToJoin (edited flag p vs g rs) ≡ true
   unfolding edited
   none =
-      mapped-none f g (e .touches) (placed flag v (freeing flag p rs)) placed-pieces
-      ∙ placed-none flag v new-used (freeing flag p rs) (freeing-none flag p rs formed)
+      mapped-none f Piece 5 g (e .touches) (placedEach flag vs (freeing flag p rs)) placed-pieces
+      ∙ each-none f flag vs (e .new) (freeing flag p rs) (freeing-none flag p rs formed)
 
-  body-alone : bodyFault (f ++ joined rs) ≡ Nothing → AllAlone f Body rs
-  unfolding bodyFault
-  body-alone b = wrong-none f (e .front) rs formed Body b
-
-  body-to : bodyFault (f ++ joined rs) ≡ Nothing → bodyFault (f ++ joined (edited flag p v g rs)) ≡ Nothing
-  body-to b =
-      bodies f (e .front) (edited flag p v g rs) well (alone-to Body (free-body f (e .front) flag (e .flagged)) (e .new-body) (body-alone b))
-
-  checksum-to : checksumFault (f ++ joined rs) ≡ Nothing → checksumFault (f ++ joined (edited flag p v g rs)) ≡ Nothing
-  unfolding checksumFault rightOf
-  checksum-to c =
-      let h : checksumRight (f ++ joined rs) 16 ≡ true = here-right (f ++ joined rs) Checksum 16 (records (f ++ joined rs)) c in
-      let a = wrong-none f (e .front) rs formed Checksum (sym (none-here (f ++ joined rs) Checksum 16 (records (f ++ joined rs)) h) ∙ c) in
-      checksums f (e .front) (edited flag p v g rs) well (sym (header-sum-same f (e .front) (joined rs) (joined (edited flag p v g rs))) ∙ h)
-      (alone-to Checksum (free-checksum f (e .front) flag (e .flagged)) (e .new-checksum) a)
-
-  metadata-to : bodyFault (f ++ joined rs) ≡ Nothing → metadataDirectoryRight (f ++ joined rs) ≡ metadataDirectoryRight (f ++ joined (edited flag p v g rs))
-  metadata-to b =
-      standing-keeps f rs f (edited flag p v g rs)
-      (record {
-        first = e .front;
-        second = e .front;
-        ends = refl;
-        reference = refl;
-        formed = formed;
-        formed-too = well;
-        right = body-alone b;
-        records = stays 1 (λ i. omega arith) (λ i. omega arith) (λ i. omega arith);
-        directories = stays 4 (λ i. omega arith) (λ i. omega arith) (λ i. omega arith);
-      })
+  long : length (joined (edited flag p vs g rs)) ≡ length (joined (placedEach flag vs (freeing flag p rs)))
+  unfolding edited
+  long = mapped-length f Piece 5 g (e .touches) (placedEach flag vs (freeing flag p rs)) placed-pieces
 
 pub edit-keeps : EditKeeps
-edit-keeps f rs flag p v g e =
+edit-keeps f rs flag p vs g e =
+    let v = formed f rs flag p vs g e in
+    let w = well f rs flag p vs g e in
+    let s = stays f rs flag p vs g e in
     record {
-      pieces = pieces f rs flag p v g e;
-      chain = chain-none f (e .front) (edited flag p v g rs) (well f rs flag p v g e);
-      checksums = checksum-to f rs flag p v g e;
-      bodies = body-to f rs flag p v g e;
-      metadata = metadata-to f rs flag p v g e;
-      tiles = tiles f rs flag p v g e;
-      none = none f rs flag p v g e;
+      pieces = pieces f rs flag p vs g e;
+      chain = chain-none f (e .front) (edited flag p vs g rs) (well f rs flag p vs g e);
+      checksums =
+          checksum-to f (e .front) rs (edited flag p vs g rs) v w (alone-to f rs flag p vs g e Checksum (free-checksum f (e .front) flag (e .flagged)) (λ x n. n .checksum));
+      bodies = body-to f (e .front) rs (edited flag p vs g rs) v w (alone-to f rs flag p vs g e Body (free-body f (e .front) flag (e .flagged)) (λ x n. n .body));
+      metadata =
+          metadata-to f (e .front) rs (edited flag p vs g rs) v w (s 1 (λ i. omega arith) (λ i. omega arith) (λ i. omega arith))
+          (s 4 (λ i. omega arith) (λ i. omega arith) (λ i. omega arith));
+      tiles = tiles f rs flag p vs g e;
+      directories = directories f rs flag p vs g e;
+      others = stays f rs flag p vs g e;
+      none = none f rs flag p vs g e;
+      long = long f rs flag p vs g e;
     }

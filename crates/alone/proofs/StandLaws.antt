@@ -20,7 +20,7 @@ use Rattle.check_records.specs.declared.Rule.{Rule}
 use Rattle.check_records.specs.declared.Rule.the-variants.{Body}
 use Rattle.check_records.specs.MetadataBody.{metadataRight}
 use Rattle.check_records.specs.Faults.{bodyRight, rightOf}
-use Rattle.pieces.specs.Standing.{standing, placeOf}
+use Rattle.pieces.specs.Standing.{AllOf, standing, placeOf}
 use Rattle.alone.specs.Alone.{SameRecord, Front, alone, AllAlone}
 use Rattle.alone.specs.MetadataKept.{SameMetadataRecords}
 use Rattle.alone.specs.Standing.{MetadataStands, StandingKeeps}
@@ -84,26 +84,32 @@ unfolding recordsOf
 records-are f w rs v kind =
     ap (select (λ x. eqb (typeAt (f ++ joined rs) x) kind)) (starts-are f w rs v) ∙ places-are (f ++ joined rs) f rs refl v kind
 
-member-place : {C : Type 0} (l : List (ℕ × List ℕ)) {x : ℕ} → List·Memᴰ x (map placeOf l) → ((r : List ℕ) → List·Memᴰ (x, r) l → C) → C
+pub member-place : {C : Type 0} (l : List (ℕ × List ℕ)) {x : ℕ} → List·Memᴰ x (map placeOf l) → ((r : List ℕ) → List·Memᴰ (x, r) l → C) → C
 member-place [] m f = absurd (List·Memᴰ·not-nil m)
 member-place ((y, r) ∷ l) {x} m f =
     ⊎-elim (λ e. f r (List·Memᴰ·head (ap (λ (z : ℕ). (z, r)) e))) (λ n. member-place l n (λ q i. f q (List·Memᴰ·tail i))) (List·Memᴰ·cases-cons m)
 
-member-alone : (f : List ℕ) (rule : Rule) (rs : List (List ℕ)) → AllAlone f rule rs → {r : List ℕ} → List·Memᴰ r rs → alone f rule r ≡ true
-member-alone f rule [] a m = absurd (List·Memᴰ·not-nil m)
-member-alone f rule (q ∷ qs) a m = ⊎-elim (λ e. ap (alone f rule) e ∙ a .0) (λ n. member-alone f rule qs (a .1) n) (List·Memᴰ·cases-cons m)
+pub all-member : (P : List ℕ → Type 0) (rs : List (List ℕ)) → AllOf P rs → {r : List ℕ} → List·Memᴰ r rs → P r
+all-member P [] a m = absurd (List·Memᴰ·not-nil m)
+all-member P (q ∷ qs) a m = ⊎-elim (λ e. rw e (a .0)) (λ n. all-member P qs (a .1) n) (List·Memᴰ·cases-cons m)
+
+-- where the same pieces of a type stand at the same places, the records of that type are the same
+module _
+    {f g : List ℕ} (w : Front f) (u : Front g) (rs qs : List (List ℕ)) (v : WellFormed rs) (x : WellFormed qs) (kind : ℕ)
+    (e : standing kind (length f) rs ≡ standing kind (length g) qs)
+  where
+    pub same-at : (y : ℕ) → List·Memᴰ y (recordsOf (f ++ joined rs) kind) → SameRecord (f ++ joined rs) y (g ++ joined qs) y
+    same-at y m =
+        member-place (standing kind (length f) rs) (rw (records-are f w rs v kind) at m)
+        (λ r i.
+        let a = stands (f ++ joined rs) f rs refl v kind i in
+        let b = stands (g ++ joined qs) g qs refl x kind (rw e at i) in
+        placed-same (a .placed) (b .placed) (a .ok) (a .stated))
+
+    pub places-same : recordsOf (f ++ joined rs) kind ≡ recordsOf (g ++ joined qs) kind
+    places-same = records-are f w rs v kind ∙ ap (map placeOf) e ∙ sym (records-are g u qs x kind)
 
 module _ (f : List ℕ) (rs : List (List ℕ)) (g : List ℕ) (qs : List (List ℕ)) (h : MetadataStands f rs g qs) where
-  same-at :
-      (kind : ℕ) → standing kind (length f) rs ≡ standing kind (length g) qs → (x : ℕ) → List·Memᴰ x (recordsOf (f ++ joined rs) kind) →
-      SameRecord (f ++ joined rs) x (g ++ joined qs) x
-  same-at kind e x m =
-      member-place (standing kind (length f) rs) (rw (records-are f (h .first) rs (h .formed) kind) at m)
-      (λ r i.
-      let a = stands (f ++ joined rs) f rs refl (h .formed) kind i in
-      let b = stands (g ++ joined qs) g qs refl (h .formed-too) kind (rw e at i) in
-      placed-same (a .placed) (b .placed) (a .ok) (a .stated))
-
   right-at : (x : ℕ) → List·Memᴰ x (recordsOf (f ++ joined rs) 1) → metadataRight (f ++ joined rs) x ≡ true
   unfolding rightOf bodyRight
   right-at x m =
@@ -113,14 +119,11 @@ module _ (f : List ℕ) (rs : List (List ℕ)) (g : List ℕ) (qs : List (List �
       let k : typeAt (f ++ joined rs) x ≡ 1 = placed-byte (a .placed) 4 (four r (a .ok) (a .stated)) ∙ a .type in
       let b : rightOf (f ++ joined rs) Body x ≡ true =
       alone-is f (h .first) (header-sym (front-header (h .first) (joined rs))) (a .placed) (a .ok) (a .stated) Body
-      ∙ member-alone f Body rs (h .right) (a .among) in
+      ∙ all-member (λ q. alone f Body q ≡ true) rs (h .right) (a .among) in
       rw k at b)
     where
       four : (r : List ℕ) → recordOk r 0 ≡ true → lengthAt r 0 ≡ length r → 4 < length r
       four r o l = let i = ok-means r 0 o in omega (arith, i .long)
-
-  places-same : (kind : ℕ) → standing kind (length f) rs ≡ standing kind (length g) qs → recordsOf (f ++ joined rs) kind ≡ recordsOf (g ++ joined qs) kind
-  places-same kind e = records-are f (h .first) rs (h .formed) kind ∙ ap (map placeOf) e ∙ sym (records-are g (h .second) qs (h .formed-too) kind)
 
   reference-of : {f : List ℕ} → Front f → (b : List ℕ) → metadataReference (f ++ b) ≡ metadataReference f
   reference-of {f} w b = number-before 8 f b 64 (omega (arith, front-long w b))
@@ -129,11 +132,11 @@ module _ (f : List ℕ) (rs : List (List ℕ)) (g : List ℕ) (qs : List (List �
   kept =
       record {
         reference = reference-of (h .first) (joined rs) ∙ h .reference ∙ sym (reference-of (h .second) (joined qs));
-        records = places-same 1 (h .records);
-        directories = places-same 4 (h .directories);
-        record-same = same-at 1 (h .records);
+        records = places-same (h .first) (h .second) rs qs (h .formed) (h .formed-too) 1 (h .records);
+        directories = places-same (h .first) (h .second) rs qs (h .formed) (h .formed-too) 4 (h .directories);
+        record-same = same-at (h .first) (h .second) rs qs (h .formed) (h .formed-too) 1 (h .records);
         record-right = right-at;
-        directory-same = same-at 4 (h .directories);
+        directory-same = same-at (h .first) (h .second) rs qs (h .formed) (h .formed-too) 4 (h .directories);
       }
 
 pub standing-keeps : StandingKeeps

@@ -24,20 +24,20 @@ use Rattle.check_records.specs.Faults.{rightOf}
 use Rattle.check_records.proofs.RecordLaws.{checksum-placed}
 use Rattle.written_records.specs.Pieces.{checksumFor, sealed}
 use Rattle.written_records.proofs.SealLaws.{sealed-placed}
-use Rattle.pieces.specs.Edits.{resealed, referring, withReference}
+use Rattle.pieces.specs.Edits.{resealed, referring, referenceBytes, withReference}
 use Rattle.alone.specs.Alone.{Front, alone}
 use Rattle.alone.specs.Edited.{Piece, Touches}
 use Rattle.alone.proofs.HeaderLaws.{front-header}
 use Rattle.alone.proofs.FreeLaws.{body-unasked}
 
 -- q has the length and the first eight bytes of r
-record Alike (q r : List ℕ) : Type 0 where
+pub record Alike (q r : List ℕ) : Type 0 where
   pub long : length q ≡ length r
   pub stated : lengthAt q 0 ≡ lengthAt r 0
   pub type : typeAt q 0 ≡ typeAt r 0
   pub bytes : Bytes q
 
-piece-alike : (q r : List ℕ) → Alike q r → Piece r → Piece q
+pub piece-alike : (q r : List ℕ) → Alike q r → Piece r → Piece q
 piece-alike q r a p =
     let o = ok-means r 0 (p .ok) in
     let n = a .stated in
@@ -48,7 +48,7 @@ piece-alike q r a p =
       bytes = a .bytes;
     }
 
-put-alike : (r : List ℕ) (at : ℕ) (w : List ℕ) → 8 ≤ at → Bytes w → Piece r → Alike (put r at w) r
+pub put-alike : (r : List ℕ) (at : ℕ) (w : List ℕ) → 8 ≤ at → Bytes w → Piece r → Alike (put r at w) r
 put-alike r at w h b p =
     record {
       long = length-put r at w;
@@ -58,10 +58,10 @@ put-alike r at w h b p =
     }
 
 module _ (flag : ℕ) (r : List ℕ) (p : Piece r) where
-  least : 16 ≤ length r
+  pub least : 16 ≤ length r
   least = let o = ok-means r 0 (p .ok) in omega (arith, o .long, p .stated)
 
-  sealed-alike : Alike (resealed flag r) r
+  pub sealed-alike : Alike (resealed flag r) r
   unfolding resealed sealed
   sealed-alike =
       let m = least in
@@ -121,7 +121,7 @@ module _ (f : List ℕ) (front : Front f) (flag : ℕ) (u : flag ≡ checksumEna
   unfolding referring
   others r n = rw (ne-eqb (typeAt r 0) 5 n)
 
-  pub referring-touches : Touches f (referring flag at w)
+  pub referring-touches : Touches f Piece 5 (referring flag at w)
   referring-touches =
       record {
         others = others;
@@ -133,8 +133,8 @@ module _ (f : List ℕ) (front : Front f) (flag : ℕ) (u : flag ≡ checksumEna
 
 -- so does a reference
 pub reference-touches :
-    (f : List ℕ) → Front f → (s : List ℕ) → checksumEnabled s ≡ checksumEnabled f → (i content : ℕ) → Touches f (withReference s i content)
-unfolding withReference
+    (f : List ℕ) → Front f → (s : List ℕ) → checksumEnabled s ≡ checksumEnabled f → (i content : ℕ) → Touches f Piece 5 (withReference s i content)
+unfolding withReference referenceBytes
 reference-touches f w s u i content =
     referring-touches f w (checksumEnabled s) u (32 + referenceSize s * i)
     (bytesOf (referenceSize s) (pick (eqb (referenceSize s) 8) content (content / 8))) (omega arith) (bytes-of (referenceSize s) _)

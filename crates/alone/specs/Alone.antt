@@ -1,4 +1,4 @@
--- Req 03, the law `alone`: the rules of a record depend on its bytes and on a few fields of the header. It is said of two files in
+-- Req 03: the rules of a record depend on its bytes and on a few fields of the header. It is said of two files in
 -- which the same record stands.
 use Prim.Native.Nat.{ℕ, _+_, _≤_, _<_}
 use mathlib.Core.Path.{_≡_}

@@ -1,6 +1,8 @@
 -- The kind, value, place and length of each answer. The kind of a refusal is its number; stored or present is 32,
 -- fill or absent 33, unpacked 34 (Req 01). So a name found is 32, one that no element has 33.
 use Prim.Native.Nat.{ℕ}
+use mathlib.Core.List.{List, _++_}
+use lib.ListN.{drop}
 use Rattle.answer.specs.declared.Cell.{Cell}
 use Rattle.answer.specs.declared.Cell.the-variants as cell
 use Rattle.answer.specs.declared.Content.{Content}
@@ -99,7 +101,12 @@ heldVerdict held.Absent = verdict.Accepted
 heldVerdict held.Alone = verdict.Accepted
 heldVerdict (held.Refused r) = verdict.Refused r
 
--- 0 where a page was laid down, else the refusal's number
+-- what a buffer holds behind such a call: done, the page, and bytes behind it stay; refused, it is as it was
+abbrev pub written : Laid → List ℕ → List ℕ → List ℕ
+written (laid.Length n) page out = page ++ drop n out
+written (laid.Refused r) page out = out
+
+-- 0 where a page was laid down or corrected, else the refusal's number
 abbrev pub laidNumber : Laid → ℕ
 laidNumber (laid.Length n) = 0
 laidNumber (laid.Refused r) = refusalNumber r

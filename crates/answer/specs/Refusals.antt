@@ -1,9 +1,10 @@
 -- Document 01, 'Thirteen refusals': the number and the place of each. Document 02 adds 14, at the tile
--- record, where compressed content is malformed (Req 01), and 16, place 0, where a stage needs a byte that is not given (Req 12).
+-- record, where compressed content is malformed (Req 01), 15, place 0, where a page is not open for writing (Req 03), and 16, place
+-- 0, where a stage needs a byte that is not given (Req 12).
 use Prim.Native.Nat.{ℕ}
 use mathlib.Core.Bool.{Bool, true, false}
 use Rattle.answer.specs.declared.Refusal.{Refusal}
-use Rattle.answer.specs.declared.Refusal.the-variants.{Identification, Version, Header, Ceiling, Opened, Chain, Checksum, Body, Directory, OutsideGrid, Compressed, Input, Room, Malformed, Incomplete}
+use Rattle.answer.specs.declared.Refusal.the-variants.{Identification, Version, Header, Ceiling, Opened, Chain, Checksum, Body, Directory, OutsideGrid, Compressed, Input, Room, Malformed, NotOpen, Incomplete}
 use Rattle.answer.specs.declared.Verdict.{Verdict}
 use Rattle.answer.specs.declared.Verdict.the-variants.{Accepted, Refused}
 
@@ -22,6 +23,7 @@ refusalNumber (Compressed at) = 11
 refusalNumber Input = 12
 refusalNumber Room = 13
 refusalNumber (Malformed at) = 14
+refusalNumber NotOpen = 15
 refusalNumber Incomplete = 16
 
 abbrev pub refusalPlace : Refusal → ℕ
@@ -39,6 +41,7 @@ refusalPlace (Compressed at) = at
 refusalPlace Input = 0
 refusalPlace Room = 0
 refusalPlace (Malformed at) = at
+refusalPlace NotOpen = 0
 refusalPlace Incomplete = 0
 
 -- a check's answer as a number, 0 where it accepts, and its place

@@ -10,7 +10,7 @@ ghost use Rattle.answer.specs.Values.{valueOf, valueType, valueBits};
 ghost use Rattle.answer.specs.Answers.{cellKind, cellType, cellBits, cellPlace, cellVerdict, contentKind, contentPlace, contentLength, heldKind, heldPlace, lookupKind, lookupNumber, laidNumber};
 
 // Document 01's thirteen refusals, in their order, with a place where it gives one that varies; then document 02's:
-// compressed content is malformed, and a byte that a stage needs is not given.
+// compressed content is malformed, a page is not open for writing, and a byte that a stage needs is not given.
 pub enum Refusal {
     Identification,
     Version,
@@ -26,6 +26,7 @@ pub enum Refusal {
     Input,
     Room,
     Malformed(usize),
+    NotOpen,
     Incomplete,
 }
 
@@ -76,7 +77,7 @@ pub enum Held {
     Refused(Refusal),
 }
 
-// What a lay-down answers.
+// What a lay-down answers, and each call that corrects a page: the page's length, or the refusal.
 pub enum Laid {
     Length(usize),
     Refused(Refusal),
@@ -101,6 +102,7 @@ pub fn refusal_number(r: Refusal) -> u32
         Refusal::Input => 12,
         Refusal::Room => 13,
         Refusal::Malformed(_) => 14,
+        Refusal::NotOpen => 15,
         Refusal::Incomplete => 16,
     }
 }
@@ -124,6 +126,7 @@ pub fn refusal_place(r: Refusal) -> usize
         Refusal::OutsideGrid => 0,
         Refusal::Input => 0,
         Refusal::Room => 0,
+        Refusal::NotOpen => 0,
         Refusal::Incomplete => 0,
     }
 }

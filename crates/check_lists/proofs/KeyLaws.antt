@@ -34,7 +34,7 @@ use Rattle.check_lists.proofs.OrderLaws.{key-self, key-through, same-pa
 
 -- a search among a list
 
-find-at : (p : ℕ → Bool) (l : List ℕ) (y : ℕ) → find p l ≡ At y → List·Memᴰ y l × (p y ≡ true)
+pub find-at : (p : ℕ → Bool) (l : List ℕ) (y : ℕ) → find p l ≡ At y → List·Memᴰ y l × (p y ≡ true)
 unfolding find
 find-at p [] y e = found-not (sym e) refl
 find-at p (x ∷ xs) y e = go (p x) refl e (find-at p xs y)

@@ -144,11 +144,15 @@ pub held-told :
     q ≡ set p 1 b → n ≡ heldKind x → (n ≡ heldKind y) × ((q ≡ reported (heldNumbers s y) o) × (m ≡ put d 0 (heldBits s e y)))
 held-told s e o p q d m x y n a b u v f g h i l = (l ∙ ap heldKind u, (i ∙ rw g (two-reported o a b ∙ rw (f, h, u)), v ∙ rw u))
 
--- a lay-down's number and length, or place
-pub laid-told :
-    (o p : List ℕ) (x y : Laid) (n a : ℕ) → x ≡ y → a ≡ laidReport x → p ≡ set o 0 a → n ≡ laidNumber x →
-    (n ≡ laidNumber y) × (p ≡ reported (laidReport y ∷ []) o)
-laid-told o p x y n a = one-told laidNumber laidReport o p x y n a
+-- one number of an answer in `out`
+pub one-put : (o p : List ℕ) (a v : ℕ) → a ≡ v → p ≡ set o 0 a → p ≡ reported (v ∷ []) o
+one-put o p a v e h = h ∙ one-reported o a ∙ rw e
+
+-- the number and length, or place, of a lay-down or a correction, handed on, and what the buffer holds
+pub laid-handed :
+    (o p f g : List ℕ) (x y : Laid) (n : ℕ) → x ≡ y → f ≡ g → n ≡ laidNumber x → p ≡ reported (laidReport x ∷ []) o →
+    (n ≡ laidNumber y) × ((p ≡ reported (laidReport y ∷ []) o) × (f ≡ g))
+laid-handed o p f g x y n e h i j = (rw (← e) i, (rw (← e) j, h))
 
 -- names compared
 pub compare-told :

@@ -1,4 +1,5 @@
 // The C interface: what a C program calls, declared in include/gvrs.h. A slice is a pointer and a count of elements.
+mod correction;
 mod deed;
 mod description;
 mod rectangle;
@@ -234,7 +235,7 @@ pub extern "C" fn gvrs_content(file: &[u8], tile: u64, element: u64, out: &mut [
     answer::content_kind(content)
 }
 
-// The file's length where a lay-down is done, and the place of its refusal.
+// The page's length where a lay-down or a correction is done, and the place of its refusal.
 fn laid_report(x: Laid) -> usize
     ensures { λ r. ⌜ r ≡ laidReport x ⌝ }
 {
@@ -244,8 +245,16 @@ fn laid_report(x: Laid) -> usize
     }
 }
 
-// 0 where the page is laid down, else the refusal's number; out[0] takes the file's length, or the refusal's place. The buffer holds
-// the file and behind it what stood there, or is as it was.
+// 0 where a page is laid down or corrected, else the refusal's number; out[0] takes the page's length, or the refusal's place.
+pub(crate) fn tell_laid(x: Laid, out: &mut [u64]) -> u32
+    ensures number { λ r. ⌜ r ≡ laidNumber x ⌝ }
+    ensures length { λ _. ⌜ now (out .exit) ≡ reported (laidReport x ∷ []) (now (out .entry)) ⌝ }
+{
+    report(out, 0, laid_report(x) as u64);
+    answer::laid_number(x)
+}
+
+// Lays down a page. The buffer holds the file and behind it what stood there, or is as it was.
 #[no_mangle]
 pub extern "C" fn gvrs_lay_down(
     front: &[u8],
@@ -260,8 +269,7 @@ pub extern "C" fn gvrs_lay_down(
     ensures buffer { λ _. ⌜ now (file .exit) ≡ laidOut (now (front .entry)) time (now (indexes .entry)) (now (cells .entry)) (now (file .entry)) ⌝ }
 {
     let laid = lay_down::lay_down(front, time, indexes, cells, file);
-    report(out, 0, laid_report(laid) as u64);
-    answer::laid_number(laid)
+    tell_laid(laid, out)
 }
 
 // The listing's length. The text takes it where it fits, and what stands behind it stays; else the text is as it was.

@@ -5,7 +5,7 @@ use mathlib.Core.List.{List, [], _∷_, _++_, append-assoc, append-nil}
 use mathlib.Core.Bool.{true}
 use native.Mathlib.Omega.{arith}
 use lib.ListN.{length, take, drop}
-use Rattle.wire.specs.Bytes.{largestInteger, bytesOf}
+use Rattle.wire.specs.Bytes.{largestInteger}
 use Rattle.header.specs.Fields.{checksumEnabled, elementCount}
 use Rattle.header.specs.Element.{entriesRead}
 use Rattle.record.specs.Record.{lengthAt, contentAt, recordOk}
@@ -14,30 +14,20 @@ use Rattle.record.proofs.ChainLaws.{joined-whole}
 use Rattle.geometry.specs.Tiles.{tileCount}
 use Rattle.geometry.specs.Sizes.{tileBytes, plainTileLength}
 use Rattle.written_records.specs.Pieces.{recordLength, recordOf}
-use Rattle.written_records.specs.Tile.{sections, tileRecord}
 use Rattle.written_records.proofs.PieceLaws.{record-well}
-use Rattle.written_records.proofs.TileLaws.{tile-length}
+use Rattle.written_records.proofs.TileLaws.{tile-well}
 use Rattle.lay_down.specs.Page.{tileRecords, directoryBody, directoryRecord, directoryStart, laidFront, laidFile}
 use Rattle.lay_down.proofs.PageLaws.{cells-split, directory-length, front-length}
 
 -- each tile record is one by itself, and no byte more; so they make a whole chain with what comes behind them
 module _ (f : List ℕ) (all : entriesRead f ≡ elementCount f) (fits : plainTileLength f ≤ largestInteger) where
-  tile-well :
-      (i : ℕ) (c : List ℕ) → length c ≡ tileBytes f →
-      (recordOk (tileRecord f i c) 0 ≡ true) × (lengthAt (tileRecord f i c) 0 ≡ length (tileRecord f i c))
-  unfolding tileRecord
-  tile-well i c h =
-      let body = bytesOf 4 i ++ sections f (elementCount f) c in
-      let a : length (recordOf (checksumEnabled f) 2 body) ≡ plainTileLength f = tile-length f all i c h in
-      record-well (checksumEnabled f) 2 body (omega arith) (omega arith)
-
   tiles-well :
       (ix c : List ℕ) (rest : List (List ℕ)) → length c ≡ length ix * tileBytes f → WellFormed rest → WellFormed (tileRecords f ix c ++ rest)
   unfolding tileRecords
   tiles-well [] c rest h w = w
   tiles-well (i ∷ is) c rest h w =
       let p = cells-split (tileBytes f) (length is) c h in
-      (tile-well i (take (tileBytes f) c) (p .0), tiles-well is (drop (tileBytes f) c) rest (p .1) w)
+      (tile-well f all fits i (take (tileBytes f) c) (p .0), tiles-well is (drop (tileBytes f) c) rest (p .1) w)
 
 directory-well :
     (f ix : List ℕ) → recordLength (24 + 4 * tileCount f) ≤ largestInteger →

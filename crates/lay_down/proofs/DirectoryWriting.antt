@@ -9,7 +9,7 @@ use Rattle.wire.proofs.PutLaws.{first, then}
 use Rattle.header.specs.Fields.{checksumEnabled}
 use Rattle.geometry.specs.Tiles.{tilesAcross, tilesDown, tileCount}
 use Rattle.written_records.specs.Pieces.{recordHead, recordLength, recordOf, closedAt}
-use Rattle.written_records.specs.Directory.{directoryForm}
+use Rattle.written_records.specs.Directory.{directoryForm, directoryOf}
 use Rattle.written_records.proofs.PieceLaws.{head-length}
 use Rattle.written_records.proofs.PieceWriting.{closed-put}
 use Rattle.written_records.proofs.DirectoryLaws.{form-length}
@@ -21,7 +21,7 @@ pub directory-put :
     (d a b s l : List ℕ) (at n m end flag down across : ℕ) (f ix : List ℕ) → a ≡ put d at (recordHead n 5) →
     b ≡ put a (at + 8) (directoryForm down across) → down ≡ tilesDown f → across ≡ tilesAcross f → s ≡ put b (at + 32) (references f ix (tileCount f)) → end ≡ at + 32 + 4 * m → m ≡ tileCount f → l ≡ closedAt flag s at end n →
     flag ≡ checksumEnabled f → n ≡ recordLength (24 + 4 * tileCount f) → at + n ≤ length d → l ≡ put d at (directoryRecord f ix)
-unfolding directoryRecord directoryBody
+unfolding directoryRecord directoryBody directoryOf references
 directory-put d a b s l at n m end flag down across f ix p q i j r e g v w x k =
     let y = directoryForm (tilesDown f) (tilesAcross f) in
     let z = references f ix (tileCount f) in

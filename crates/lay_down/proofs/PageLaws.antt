@@ -1,25 +1,23 @@
 -- The lengths of what is laid down, and that a directory's body is bytes. Assumes nothing.
-use Prim.Native.Nat.{ℕ, zero, suc, _+_, _*_, _-_, _≤_}
-use mathlib.Core.Path.{_≡_, refl, ap, _∙_}
+use Prim.Native.Nat.{ℕ, suc, _+_, _*_, _-_, _≤_}
+use mathlib.Core.Path.{_≡_, ap, _∙_}
 use mathlib.Core.List.{List, [], _∷_, _++_}
 use native.Mathlib.Omega.{arith}
 use lib.ListN.{length, take, drop, length-append, length-drop}
 use lib.Seq.{length-take-le}
 use Rattle.wire.specs.Bytes.{Bytes}
-use Rattle.wire.proofs.ByteLaws.{bytes-none, bytes-append, bytes-of}
 use Rattle.header.specs.Fields.{checksumEnabled, elementCount}
 use Rattle.header.specs.Element.{entriesRead}
 use Rattle.record.specs.Record.{contentAt}
 use Rattle.record.specs.Chain.{joined}
 use Rattle.wire.proofs.PutLaws.{length-put}
-use Rattle.geometry.specs.Tiles.{tilesAcross, tilesDown, tileCount}
+use Rattle.geometry.specs.Tiles.{tileCount}
 use Rattle.geometry.specs.Sizes.{tileBytes, plainTileLength}
 use Rattle.written_records.specs.Pieces.{recordLength, sealed}
 use Rattle.written_records.specs.Tile.{tileRecord}
-use Rattle.written_records.specs.Directory.{directoryForm}
 use Rattle.written_records.proofs.PieceLaws.{record-holds, record-length}
 use Rattle.written_records.proofs.TileLaws.{tile-length}
-use Rattle.written_records.proofs.DirectoryLaws.{four-more, form-length, form-bytes}
+use Rattle.written_records.proofs.DirectoryLaws.{references-of-length, directory-of-length, directory-of-bytes}
 use Rattle.lay_down.specs.Page.{tileRecords, references, directoryBody, directoryRecord, compactFrom, directoryStart, fileLength, fieldsSet, laidFront, laidFile}
 
 -- the cell bytes of the first tile, and those of the others
@@ -45,23 +43,15 @@ tiles-length f (i ∷ is) c all h =
 
 pub references-length : (f ix : List ℕ) (n : ℕ) → length (references f ix n) ≡ 4 * n
 unfolding references
-references-length f ix zero = refl
-references-length f ix (suc n) = four-more (references f ix n) (compactFrom f (length f) ix n) ∙ omega (arith, references-length f ix n)
+references-length f ix n = references-of-length (compactFrom f (length f) ix) n
 
 pub body-length : (f ix : List ℕ) → length (directoryBody f ix) ≡ 24 + 4 * tileCount f
 unfolding directoryBody
-body-length f ix =
-    let d = directoryForm (tilesDown f) (tilesAcross f) in
-    length-append d (references f ix (tileCount f)) ∙ omega (arith, form-length (tilesDown f) (tilesAcross f), references-length f ix (tileCount f))
-
-references-bytes : (f ix : List ℕ) (n : ℕ) → Bytes (references f ix n)
-unfolding references
-references-bytes f ix zero = bytes-none
-references-bytes f ix (suc n) = bytes-append (references-bytes f ix n) (bytes-of 4 _)
+body-length f ix = directory-of-length f (compactFrom f (length f) ix)
 
 pub directory-bytes : (f ix : List ℕ) → Bytes (directoryBody f ix)
 unfolding directoryBody
-directory-bytes f ix = bytes-append (form-bytes (tilesDown f) (tilesAcross f)) (references-bytes f ix (tileCount f))
+directory-bytes f ix = directory-of-bytes f (compactFrom f (length f) ix)
 
 pub directory-length : (f ix : List ℕ) → length (directoryRecord f ix) ≡ recordLength (24 + 4 * tileCount f)
 unfolding directoryRecord

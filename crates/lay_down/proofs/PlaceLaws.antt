@@ -2,27 +2,22 @@
 use Prim.Native.Nat.{ℕ, zero, suc, _+_, _*_, _<_}
 use mathlib.Core.Path.{_≡_, sym, _∙_}
 use mathlib.Core.List.{List, [], _∷_, _++_, List·Memᴰ, List·Memᴰ·head, List·Memᴰ·tail, List·Memᴰ·not-nil, List·Memᴰ·cases-cons}
-use mathlib.Core.Logic.{⊎-elim, by-cases}
-use native.Mathlib.Decide.{decLe}
+use mathlib.Core.Logic.{⊎-elim}
 use native.Mathlib.Omega.{arith}
 use lib.ListN.{length, getD, take, drop}
 use lib.Seq.{drop-drop}
-use Rattle.wire.specs.Bytes.{bytesOf, part, zeros}
+use Rattle.wire.specs.Bytes.{part}
 use Rattle.wire.proofs.ByteLaws.{part-in}
 use Rattle.wire.proofs.ItemLaws.{item-within}
-use Rattle.wire.proofs.PlaceLaws.{Placed, placed-self, placed-last, placed-before, placed-inner, placed-at, placed-first, placed-next}
-use Rattle.header.specs.Fields.{checksumEnabled, elementCount}
+use Rattle.wire.proofs.PlaceLaws.{Placed, placed-self, placed-last, placed-before, placed-inner, placed-at}
+use Rattle.header.specs.Fields.{elementCount}
 use Rattle.header.specs.Element.{entriesRead}
 use Rattle.record.specs.Chain.{joined, startsOf}
-use Rattle.geometry.specs.Tiles.{tilesAcross, tilesDown, tileCount}
 use Rattle.geometry.specs.Sizes.{tileBytes, plainTileLength}
 use Rattle.written_records.specs.Tile.{tileRecord}
-use Rattle.written_records.specs.Directory.{directoryForm}
-use Rattle.written_records.proofs.PieceLaws.{record-body}
-use Rattle.written_records.proofs.DirectoryLaws.{four-more, reserved-length, form-length}
 use Rattle.written_records.proofs.TileLaws.{tile-length}
-use Rattle.lay_down.specs.Page.{tileRecords, compactFrom, references, directoryBody, directoryRecord}
-use Rattle.lay_down.proofs.PageLaws.{cells-split, references-length}
+use Rattle.lay_down.specs.Page.{tileRecords}
+use Rattle.lay_down.proofs.PageLaws.{cells-split}
 
 -- the cell bytes of a later tile, among those behind the first
 cells-behind : (t n k : ℕ) (c : List ℕ) → length c ≡ suc n * t → k < n → part (drop t c) (k * t) t ≡ part c (suc k * t) t
@@ -98,60 +93,3 @@ module _ (f : List ℕ) (all : entriesRead f ≡ elementCount f) where
       let a = tile-length f all i (take n c) (p .0) in
       let e : at + length (tileRecord f i (take n c)) + k * plainTileLength f ≡ at + suc k * plainTileLength f = omega arith in
       List·Memᴰ·tail (rw e at (tile-start is (drop n c) (p .1) (at + length (tileRecord f i (take n c))) k (omega arith)))
-
--- the directory's references
-references-placed :
-    (f ix : List ℕ) (n j : ℕ) → j < n → Placed (references f ix n) (4 * j) (bytesOf 4 (compactFrom f (length f) ix j))
-unfolding references
-references-placed f ix zero j h = absurd (omega arith)
-references-placed f ix (suc n) j h =
-    let v = bytesOf 4 (compactFrom f (length f) ix n) in
-    by-cases (decLe (j + 1) n) (λ i. placed-before (references-placed f ix n j (omega arith)) v)
-    (λ i. let e : j ≡ n = omega arith in rw e (placed-last (references f ix n) v (references-length f ix n)))
-
--- the directory's fields, by their offset, where its record stands in s from x on
-pub record DirectoryPlaced (f ix s : List ℕ) (x : ℕ) : Type 0 where
-  pub form : Placed s (x + 8) (0 ∷ 0 ∷ [])
-  pub row : Placed s (x + 16) (bytesOf 4 0)
-  pub column : Placed s (x + 20) (bytesOf 4 0)
-  pub rows : Placed s (x + 24) (bytesOf 4 (tilesDown f))
-  pub columns : Placed s (x + 28) (bytesOf 4 (tilesAcross f))
-  pub reference : (j : ℕ) → j < tileCount f → Placed s (x + (32 + 4 * j)) (bytesOf 4 (compactFrom f (length f) ix j))
-
-module _ (f ix : List ℕ) {s : List ℕ} {x : ℕ} (p : Placed s x (directoryRecord f ix)) where
-  body-placed : Placed s (x + 8) (directoryForm (tilesDown f) (tilesAcross f) ++ references f ix (tileCount f))
-  unfolding directoryRecord directoryBody
-  body-placed = placed-inner p (record-body (checksumEnabled f) 5 (directoryBody f ix))
-
-  form-placed : Placed s (x + 8) (directoryForm (tilesDown f) (tilesAcross f))
-  form-placed = placed-first (directoryForm (tilesDown f) (tilesAcross f)) (references f ix (tileCount f)) body-placed
-
-  reference-placed : (j : ℕ) → j < tileCount f → Placed s (x + (32 + 4 * j)) (bytesOf 4 (compactFrom f (length f) ix j))
-  reference-placed j h =
-      let d = directoryForm (tilesDown f) (tilesAcross f) in
-      placed-at
-      (placed-inner (placed-next d (references f ix (tileCount f)) (form-length (tilesDown f) (tilesAcross f)) body-placed)
-      (references-placed f ix (tileCount f) j h))
-      (omega arith)
-
-  pub fields-placed : DirectoryPlaced f ix s x
-  unfolding directoryForm
-  fields-placed =
-      let w : List ℕ = (0 ∷ 0 ∷ []) ++ zeros 6 in
-      let z = bytesOf 4 0 in
-      let d = bytesOf 4 (tilesDown f) in
-      let a = bytesOf 4 (tilesAcross f) in
-      let n1 : length (w ++ z) ≡ 12 = four-more w 0 ∙ omega (arith, reserved-length) in
-      let n2 : length (w ++ z ++ z) ≡ 16 = four-more (w ++ z) 0 ∙ omega arith in
-      let n3 : length (w ++ z ++ z ++ d) ≡ 20 = four-more (w ++ z ++ z) (tilesDown f) ∙ omega arith in
-      let q1 = placed-first (w ++ z ++ z ++ d) a form-placed in
-      let q2 = placed-first (w ++ z ++ z) d q1 in
-      let q3 = placed-first (w ++ z) z q2 in
-      record {
-        form = placed-first (0 ∷ 0 ∷ []) (zeros 6) (placed-first w z q3);
-        row = placed-at (placed-next w z reserved-length q3) (omega arith);
-        column = placed-at (placed-next (w ++ z) z n1 q2) (omega arith);
-        rows = placed-at (placed-next (w ++ z ++ z) d n2 q1) (omega arith);
-        columns = placed-at (placed-next (w ++ z ++ z ++ d) a n3 form-placed) (omega arith);
-        reference = reference-placed;
-      }

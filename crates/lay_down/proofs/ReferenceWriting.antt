@@ -13,6 +13,7 @@ use Rattle.wire.proofs.ByteLaws.{bytes-length, zeros-length, zeros-joined}
 use Rattle.wire.proofs.ItemLaws.{item-within}
 use Rattle.wire.proofs.PlaceLaws.{put-before, put-last, put-inside, put-over}
 use Rattle.geometry.specs.Sizes.{plainTileLength}
+use Rattle.written_records.specs.Directory.{referencesOf}
 use Rattle.lay_down.specs.Page.{compactFrom, references, directoryStart, fileLength}
 use Rattle.lay_down.proofs.PageLaws.{references-length}
 use Rattle.lay_down.proofs.IndexLaws.{compact-next}
@@ -27,7 +28,7 @@ start-small f ix k start e h i = omega (arith, item-within (length ix) k (plainT
 -- no reference, and one put anew where no other differs
 
 references-none : (f : List ℕ) (n : ℕ) → zeros (4 * n) ≡ references f [] n
-unfolding references compactFrom zeros bytesOf
+unfolding references referencesOf compactFrom zeros bytesOf
 references-none f zero = refl
 references-none f (suc n) =
     let e : 4 * suc n ≡ 4 * n + 4 = omega arith in
@@ -35,14 +36,14 @@ references-none f (suc n) =
 
 module _ (f a b : List ℕ) where
   references-same : (n : ℕ) → ((j : ℕ) → j < n → compactFrom f (length f) a j ≡ compactFrom f (length f) b j) → references f a n ≡ references f b n
-  unfolding references
+  unfolding references referencesOf
   references-same zero e = refl
   references-same (suc n) e = ap₂ (λ (l : List ℕ) (v : ℕ). l ++ bytesOf 4 v) (references-same n (λ j k. e j (omega arith))) (e n (omega arith))
 
   references-put :
       (i n : ℕ) → i < n → ((j : ℕ) → (j ≡ i → ⊥) → compactFrom f (length f) a j ≡ compactFrom f (length f) b j) →
       put (references f a n) (4 * i) (bytesOf 4 (compactFrom f (length f) b i)) ≡ references f b n
-  unfolding references
+  unfolding references referencesOf
   references-put i zero k e = absurd (omega arith)
   references-put i (suc n) k e =
       let g = compactFrom f (length f) a in

@@ -14,7 +14,7 @@ use Rattle.header.specs.Fields.{elementCount}
 use Rattle.header.specs.Element.{entriesRead}
 use Rattle.geometry.specs.Sizes.{storedSize, elementBytes, tileBytes}
 use Rattle.written_records.specs.Pieces.{section}
-use Rattle.written_records.specs.Tile.{sections}
+use Rattle.written_records.specs.Tile.{sections, sectionsOf}
 use Rattle.written_records.proofs.TileLaws.{storedBefore, sections-length, element-within}
 use Rattle.written_records.proofs.PieceLaws.{section-length}
 use Rattle.lay_down.proofs.FrontLaws.{Front}
@@ -27,7 +27,7 @@ pub record Standing (d : List ℕ) (at : ℕ) (f c l : List ℕ) (p from e : ℕ
   pub is : l ≡ put d at (sections f e c)
 
 pub standing-none : (d : List ℕ) (at : ℕ) (f c : List ℕ) → Standing d at f c d at 0 0
-unfolding sections
+unfolding sections sectionsOf
 standing-none d at f c =
     record {
       place = omega (arith, sum-none (λ k. storedSize (elementBytes f k)));
@@ -56,7 +56,7 @@ module _
     pub standing-more :
         (r : ℕ) (y m : List ℕ) → m ≡ put l p (section y) → y ≡ part c from u → r ≡ storedSize u → length c ≡ tileBytes f →
         Standing d at f c m (p + r) (from + u) (e + 1)
-    unfolding sections
+    unfolding sections sectionsOf
     standing-more r y m v q z t =
         let b = part c (sumBelow e (elementBytes f)) (elementBytes f e) in
         let g = element-within f (front .all) e element-among in

@@ -14,7 +14,7 @@ use Rattle.header.specs.Fields.{checksumEnabled, elementCount}
 use Rattle.record.specs.Chain.{joined}
 use Rattle.geometry.specs.Sizes.{tileBytes, plainTileLength}
 use Rattle.written_records.specs.Pieces.{recordHead, recordOf, closedAt}
-use Rattle.written_records.specs.Tile.{sections, tileRecord}
+use Rattle.written_records.specs.Tile.{sections, plainRecord, tileRecord}
 use Rattle.written_records.proofs.PieceLaws.{head-length, record-length}
 use Rattle.written_records.proofs.TileLaws.{storedBefore, sections-length, tile-sum, plain-holds, tile-body-length, tile-length}
 use Rattle.written_records.proofs.PieceWriting.{closed-put}
@@ -27,7 +27,7 @@ pub tile-put :
     s ≡ put b (at + 12) (sections f (elementCount f) c) → end ≡ at + 12 + storedBefore f (elementCount f) →
     l ≡ closedAt flag s at end n → flag ≡ checksumEnabled f → n ≡ plainTileLength f → Front f → length c ≡ tileBytes f → at + n ≤ length d →
     l ≡ put d at (tileRecord f i c)
-unfolding tileRecord
+unfolding tileRecord plainRecord sections
 tile-put d a b s l at n end flag i f c p q r e v w x front h k =
     let y = sections f (elementCount f) c in
     let body = bytesOf 4 i ++ y in

@@ -1,8 +1,8 @@
 -- Document 01, 'Laying down a page': what a lay-down answers, and what the buffer holds afterwards.
 use Prim.Native.Nat.{ℕ, _+_, _*_}
-use mathlib.Core.List.{List, [], _∷_, _++_}
+use mathlib.Core.List.{List, [], _∷_}
 use mathlib.Core.Bool.{Bool, true}
-use lib.ListN.{length, drop}
+use lib.ListN.{length}
 use Rattle.wire.specs.Tests.{_≤?_, _≡?_, _≢?_, is, passes}
 use Rattle.answer.specs.declared.Refusal.the-variants.{Ceiling, Input, Room}
 use Rattle.answer.specs.declared.Verdict.{Verdict}
@@ -10,6 +10,7 @@ use Rattle.answer.specs.declared.Verdict.the-variants as verdict
 use Rattle.answer.specs.declared.Laid.{Laid}
 use Rattle.answer.specs.declared.Laid.the-variants.{Length, Refused}
 use Rattle.answer.specs.Refusals.{gate, unlessRefused}
+use Rattle.answer.specs.Answers.{written}
 use Rattle.geometry.specs.Tiles.{tileCount}
 use Rattle.geometry.specs.Sizes.{tileBytes}
 use Rattle.check_header.specs.Stages.{checkFront}
@@ -46,9 +47,5 @@ unfoldable pub laid : List ℕ → ℕ → List ℕ → List ℕ → ℕ → Lai
 laid f t ix c room = unlessRefused Refused (layDownVerdict f t ix c room) (Length (fileLength f ix))
 
 -- done, the buffer is the file, and bytes behind it stay; refused, it is as it was
-abbrev pub written : Laid → List ℕ → List ℕ → List ℕ
-written (Length n) file out = file ++ drop n out
-written (Refused r) file out = out
-
 unfoldable pub laidOut : List ℕ → ℕ → List ℕ → List ℕ → List ℕ → List ℕ
 laidOut f t ix c out = written (laid f t ix c (length out)) (laidFile f t ix c) out

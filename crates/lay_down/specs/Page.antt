@@ -1,6 +1,6 @@
 -- Document 01, 'Laying down a page': the file that is written, byte for byte. f is the front, t the time modified, ix the tile
 -- indexes, c the cell bytes of those tiles one after another, all elements in order, no lengths, no padding.
-use Prim.Native.Nat.{ℕ, zero, suc, _+_, _*_, _/_, _-_, _≤_, _<_}
+use Prim.Native.Nat.{ℕ, _+_, _*_, _/_, _-_, _≤_, _<_}
 use mathlib.Core.Path.{_≡_}
 use mathlib.Core.Logic.{_⊎_}
 use mathlib.Core.List.{List, [], _∷_, _++_}
@@ -12,11 +12,11 @@ use Rattle.header.specs.Fields.{checksumEnabled, timeModified, timeOpened, file
 use Rattle.record.specs.Record.{contentAt}
 use Rattle.record.specs.Chain.{joined}
 use Rattle.record.specs.Types.{tileDirectoryType}
-use Rattle.geometry.specs.Tiles.{tilesAcross, tilesDown, tileCount}
+use Rattle.geometry.specs.Tiles.{tileCount}
 use Rattle.geometry.specs.Sizes.{tileBytes, plainTileLength}
 use Rattle.written_records.specs.Pieces.{recordLength, recordOf, sealed}
 use Rattle.written_records.specs.Tile.{tileRecord}
-use Rattle.written_records.specs.Directory.{directoryForm}
+use Rattle.written_records.specs.Directory.{referencesOf, directoryOf}
 
 -- one tile record for each index in order
 unfoldable pub tileRecords : List ℕ → List ℕ → List ℕ → List (List ℕ)
@@ -31,12 +31,11 @@ compactFrom f at (i ∷ is) j = pick (eqb i j) (contentAt at / 8) (compactFrom f
 
 -- the references of the first n tiles of the grid
 unfoldable pub references : List ℕ → List ℕ → ℕ → List ℕ
-references f ix zero = []
-references f ix (suc n) = references f ix n ++ bytesOf 4 (compactFrom f (length f) ix n)
+references f ix n = referencesOf (compactFrom f (length f) ix) n
 
 -- G Table 21: the rectangle of all tiles, then the references, row by row
 unfoldable pub directoryBody : List ℕ → List ℕ → List ℕ
-directoryBody f ix = directoryForm (tilesDown f) (tilesAcross f) ++ references f ix (tileCount f)
+directoryBody f ix = directoryOf f (compactFrom f (length f) ix)
 
 unfoldable pub directoryRecord : List ℕ → List ℕ → List ℕ
 directoryRecord f ix = recordOf (checksumEnabled f) tileDirectoryType (directoryBody f ix)

@@ -20,6 +20,7 @@ use geometry::sizes;
 use geometry::tiles;
 use header::entries;
 use header::fields;
+use tile_sizes;
 use wire::writing;
 use written_records::directory;
 use written_records::pieces;
@@ -92,12 +93,7 @@ fn element_sizes(front: &[u8], sizes: &mut [u32])
     requires { ⌜ (checkFront (now front) ≡ Accepted) × (length (now sizes) ≡ mostElements) ⌝ }
     ensures { λ _. ⌜ SizesOf (now (front .entry)) (now (sizes .exit)) ⌝ }
 {
-    let n = entries::entries_read(front);
-    let mut e = 0;
-    while e < n {
-        sizes[e] = sizes::element_bytes(front, e) as u32;
-        e += 1;
-    }
+    tile_sizes::element_sizes(front, sizes);
 }
 
 // The length of a tile record whose elements are all uncompressed.
@@ -105,15 +101,7 @@ fn tile_length(front: &[u8]) -> usize
     requires { ⌜ checkFront (now front) ≡ Accepted ⌝ }
     ensures { λ r. ⌜ r ≡ plainTileLength (now (front .entry)) ⌝ }
 {
-    let n = entries::entries_read(front);
-    let mut sum: u64 = 0;
-    let mut e = 0;
-    while e < n {
-        let u = sizes::element_bytes(front, e);
-        sum += sizes::stored_size(u as u32);
-        e += 1;
-    }
-    sizes::least_length((12 + sum) as u32) as usize
+    tile_sizes::plain_tile_length(front)
 }
 
 // The length of the tile directory.

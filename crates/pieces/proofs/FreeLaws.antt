@@ -88,7 +88,7 @@ join-well flag (r ∷ rs) w h =
     attach-well flag r (joinFree flag rs) (w .0, join-well flag rs (w .1) (omega arith)) (omega arith)
 
 -- and nothing is left to join
-free-is : (flag : ℕ) (n : ℕ) → 16 ≤ n → isFree (freeRecord flag n) ≡ true
+pub free-is : (flag : ℕ) (n : ℕ) → 16 ≤ n → isFree (freeRecord flag n) ≡ true
 unfolding isFree
 free-is flag n h = rw (free-type flag n h)
 

@@ -14,7 +14,7 @@ use Rattle.record.specs.Chain.{joined, WellFormed}
 use Rattle.record.proofs.ChainLaws.{ok-means}
 use Rattle.pieces.specs.Pieces.{freeRecord, isFree, attach, joinFree, nothingToJoin, cleared, freeing}
 use Rattle.pieces.specs.Standing.{AllOf, standing, without}
-use Rattle.pieces.proofs.FreeLaws.{free-length, free-stated, free-type, free-ok, join-length, join-well, join-none}
+use Rattle.pieces.proofs.FreeLaws.{free-length, free-stated, free-type, free-ok, free-is, join-length, join-well, join-none}
 
 -- the length of a piece
 pub record Long (r : List ℕ) : Type 0 where
@@ -56,6 +56,39 @@ and-both true b e = (refl, e)
 and-both false b e = let z : _≡_ {A = ℕ} 0 1 = cc in absurd (omega arith)
 
 -- joining
+
+module _ (flag : ℕ) (r q : List ℕ) (qs : List (List ℕ)) where
+  pub attach-both : isFree r ≡ true → isFree q ≡ true → attach flag r (q ∷ qs) ≡ freeRecord flag (length r + length q) ∷ qs
+  unfolding attach
+  attach-both i j = rw (i, j)
+
+  pub attach-used : isFree q ≡ false → attach flag r (q ∷ qs) ≡ r ∷ q ∷ qs
+  unfolding attach
+  attach-used j = go (isFree r) refl
+    where
+      go : (c : Bool) → isFree r ≡ c → attach flag r (q ∷ qs) ≡ r ∷ q ∷ qs
+      go true i = rw (i, j)
+      go false i = rw i
+
+-- two free records in a row, attached one behind the other, are attached as one
+pub attach-twice :
+    (flag : ℕ) (a b : List ℕ) (qs : List (List ℕ)) → isFree a ≡ true → isFree b ≡ true → 16 ≤ length b →
+    attach flag a (attach flag b qs) ≡ attach flag (freeRecord flag (length a + length b)) qs
+unfolding attach
+attach-twice flag a b [] i j h = rw (i, j)
+attach-twice flag a b (q ∷ qs) i j h = go (isFree q) refl
+  where
+    go : (c : Bool) → isFree q ≡ c → attach flag a (attach flag b (q ∷ qs)) ≡ attach flag (freeRecord flag (length a + length b)) (q ∷ qs)
+    go true k =
+        let x = freeRecord flag (length b + length q) in
+        let y = freeRecord flag (length a + length b) in
+        let e : length a + length x ≡ length y + length q = omega (arith, free-length flag (length b + length q) (omega arith), free-length flag (length a + length b) (omega arith)) in
+        ap (attach flag a) (attach-both flag b q qs j k) ∙ attach-both flag a x qs i (free-is flag (length b + length q) (omega arith))
+        ∙ ap (λ (n : ℕ). freeRecord flag n ∷ qs) e
+        ∙ sym (attach-both flag y q qs (free-is flag (length a + length b) (omega arith)) k)
+    go false k =
+        ap (attach flag a) (attach-used flag b q qs k) ∙ attach-both flag a b (q ∷ qs) i j
+        ∙ sym (attach-used flag (freeRecord flag (length a + length b)) q qs k)
 
 module _ (flag : ℕ) (kind : ℕ) (z : kind ≡ 0 → ⊥) where
   attach-standing : (at : ℕ) (r : List ℕ) (qs : List (List ℕ)) → 16 ≤ length r → standing kind at (attach flag r qs) ≡ standing kind at (r ∷ qs)

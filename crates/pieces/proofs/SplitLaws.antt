@@ -6,13 +6,14 @@ use mathlib.Core.Bool.{true}
 use native.Mathlib.Omega.{arith}
 use lib.ListN.{length, take, drop, take-append-drop}
 use lib.Seq.{drop-drop, drop-length}
+use lib.Dec.{eqb}
 use Rattle.wire.specs.Bytes.{part, u32At}
 use Rattle.wire.proofs.ByteLaws.{part-in, part-length}
 use Rattle.wire.proofs.PlaceLaws.{Placed, part-placed, placed-number, placed-byte}
 use Rattle.record.specs.Record.{lengthAt, typeAt, recordOk}
 use Rattle.record.specs.Chain.{headerEnd, records, Whole, joined, WellFormed}
 use Rattle.record.proofs.ChainLaws.{IsRecord, ok-means, means-ok}
-use Rattle.pieces.specs.Pieces.{pieceAt, piecesOf, pieces, SplitOf}
+use Rattle.pieces.specs.Pieces.{pieceAt, piecesOf, pieces, isFree, SplitOf}
 
 -- one record, by itself
 module _ (s : List ℕ) (x : ℕ) (o : recordOk s x ≡ true) where
@@ -37,6 +38,10 @@ module _ (s : List ℕ) (x : ℕ) (o : recordOk s x ≡ true) where
   piece-type =
       let l = is .long in let m = piece-long in
       sym (placed-byte piece-placed 4 (omega arith))
+
+  pub piece-free : isFree (pieceAt s x) ≡ eqb (typeAt s x) 0
+  unfolding isFree
+  piece-free = rw piece-type
 
   pub piece-ok : recordOk (pieceAt s x) 0 ≡ true
   piece-ok =

@@ -26,6 +26,11 @@ unfoldable pub placeFor : ℕ → ℕ → List (List ℕ) → ℕ
 placeFor at n [] = at
 placeFor at n (r ∷ rs) = pick (takes n r) at (placeFor (at + length r) n rs)
 
+-- how long the record is that takes them; at the end, as long as they are
+unfoldable pub roomFor : ℕ → List (List ℕ) → ℕ
+roomFor n [] = n
+roomFor n (r ∷ rs) = pick (takes n r) (length r) (roomFor n rs)
+
 -- the records with v there
 unfoldable pub placed : ℕ → List ℕ → List (List ℕ) → List (List ℕ)
 placed flag v [] = v ∷ []
@@ -39,9 +44,11 @@ resealed flag r = sealed flag r 0 (length r)
 unfoldable pub referring : ℕ → ℕ → List ℕ → List ℕ → List ℕ
 referring flag at w r = pick (eqb (typeAt r 0) tileDirectoryType) (resealed flag (put r at w)) r
 
--- G Table 21, Req 03, reading 6: reference number i of the directory of page s set to a content's position, or to 0: a standard one as
--- it is, a compact one divided by 8
+-- G Table 21: a reference of w bytes to a content's position, or 0: one of eight bytes as it is, a compact one of four divided by 8
+unfoldable pub referenceBytes : ℕ → ℕ → List ℕ
+referenceBytes w content = bytesOf w (pick (eqb w 8) content (content / 8))
+
+-- Req 03, reading 6: reference number i of the directory of page s set to it
 unfoldable pub withReference : List ℕ → ℕ → ℕ → List ℕ → List ℕ
 withReference s i content =
-    referring (checksumEnabled s) (32 + referenceSize s * i)
-    (bytesOf (referenceSize s) (pick (eqb (referenceSize s) 8) content (content / 8)))
+    referring (checksumEnabled s) (32 + referenceSize s * i) (referenceBytes (referenceSize s) content)

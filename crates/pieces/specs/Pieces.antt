@@ -24,20 +24,20 @@ piecesOf s xs = map (pieceAt s) xs
 unfoldable pub pieces : List ℕ → List (List ℕ)
 pieces s = piecesOf s (records s)
 
--- Req 03, the law `split-of`: where the records run up to the last byte, the page is its front and these, each a record by itself
+-- where the records run up to the last byte, the page is its front and these, each a record by itself
 abbrev pub SplitOf : Type 0
 SplitOf =
     (s : List ℕ) → Whole s (headerEnd s) (records s) → (s ≡ take (headerEnd s) s ++ joined (pieces s)) × WellFormed (pieces s)
 
--- Req 03, reading 8: a freed record of n bytes is of type 0, its reserved bytes and content are zero, its checksum is that of its
--- first eight bytes
+-- "Freed, joined or left-over reserved bytes and content are zeroed" (Req 03, reading 8): such a record of n bytes is of type 0, and its
+-- checksum is that of its first eight bytes (G Table 13)
 unfoldable pub freeRecord : ℕ → ℕ → List ℕ
 freeRecord flag n = recordHead n freeType ++ zeros (n - 12) ++ bytesOf 4 (checksumFor flag (recordHead n freeType))
 
 unfoldable pub isFree : List ℕ → Bool
 isFree r = eqb (typeAt r 0) freeType
 
--- Req 03, readings 8 and 9: adjoining free records are made one, whatever they held; one that stands alone is as it was
+-- "Adjoining free records are always joined" (Req 03, readings 8 and 9): made one, whatever they held; one that stands alone is as it was
 unfoldable pub attach : ℕ → List ℕ → List (List ℕ) → List (List ℕ)
 attach flag r [] = r ∷ []
 attach flag r (q ∷ qs) = pick (isFree r && isFree q) (freeRecord flag (length r + length q) ∷ qs) (r ∷ q ∷ qs)

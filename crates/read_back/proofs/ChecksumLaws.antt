@@ -1,11 +1,11 @@
--- The checksums of what is put together are right, wherever it stands in a file: stage 7. Assumes nothing.
-use Prim.Native.Nat.{ℕ, _-_, _≤_, _<_}
+-- The checksum of the header of a file that is laid down is right: stage 7. Assumes nothing.
+use Prim.Native.Nat.{ℕ, _-_, _≤_}
 use mathlib.Core.Path.{_≡_, sym, _∙_}
 use mathlib.Core.List.{List, _++_}
 use mathlib.Core.Bool.{true}
 use native.Mathlib.Omega.{arith}
 use lib.ListN.{length}
-use Rattle.wire.specs.Bytes.{Bytes, part, bytesOf, largestInteger}
+use Rattle.wire.specs.Bytes.{part, bytesOf}
 use Rattle.wire.proofs.TestLaws.{means}
 use Rattle.wire.proofs.ByteLaws.{number-same, byte-same, part-length, bytes-part}
 use Rattle.wire.proofs.PlaceLaws.{Placed, placed-before}
@@ -15,9 +15,7 @@ use Rattle.record.specs.Record.{lengthAt, typeAt, contentAt}
 use Rattle.check_header.specs.HeaderRecord.{frameRight, headerRight}
 use Rattle.check_records.specs.Checksum.{checksumRight}
 use Rattle.check_records.proofs.RecordLaws.{checksum-placed}
-use Rattle.written_records.specs.Pieces.{checksumFor, recordLength, unclosed, recordOf}
-use Rattle.written_records.proofs.PieceLaws.{record-holds, unclosed-length, record-length, placed-kind, placed-stated}
-use Rattle.written_records.proofs.SealLaws.{unclosed-bytes}
+use Rattle.written_records.specs.Pieces.{checksumFor}
 use Rattle.lay_down.specs.Page.{directoryStart, fieldsSet, laidFile}
 use Rattle.lay_down.proofs.PageLaws.{fields-length}
 use Rattle.lay_down.proofs.ChainLaws.{laid-joined}
@@ -25,17 +23,6 @@ use Rattle.lay_down.proofs.FieldLaws.{fields-bytes, front-sealed}
 use Rattle.read_back.proofs.Setting.{Laying}
 use Rattle.read_back.proofs.FrontLaws.{front-judged, front-kept}
 
--- of a record put together from its body
-pub record-checksum :
-    {s : List ℕ} {x : ℕ} (flag kind : ℕ) (body : List ℕ) → Placed s x (recordOf flag kind body) → checksumEnabled s ≡ flag → Bytes body →
-    (kind ≡ 0 → ⊥) → kind < 256 → length (recordOf flag kind body) ≤ largestInteger → checksumRight s x ≡ true
-unfolding recordOf checksumFor
-record-checksum {s} {x} flag kind body p f w z k h =
-    let n : lengthAt s x ≡ recordLength (length body) = placed-stated flag kind body p h ∙ record-length flag kind body in
-    checksum-placed (unclosed kind body) _ p (rw f) (unclosed-bytes kind k w)
-    (omega (arith, unclosed-length kind body, record-holds (length body))) (λ e. z (sym (placed-kind flag kind body p) ∙ e))
-
--- and of the header of a file that is laid down
 module _ {f : List ℕ} {t : ℕ} {ix c : List ℕ} (l : Laying f t ix c) where
   header-typed : typeAt f 16 ≡ 6
   unfolding headerRight frameRight

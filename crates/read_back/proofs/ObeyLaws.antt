@@ -18,21 +18,23 @@ use Rattle.check_records.proofs.RecordLaws.{body-other}
 use Rattle.page_check.specs.Stages.{check}
 use Rattle.page_check.specs.Accepted.{ObeysBy}
 use Rattle.page_check.proofs.AcceptedLaws.{obeys-accepted}
-use Rattle.written_records.specs.Tile.{tileRecord}
+use Rattle.written_records.specs.Tile.{sections, plainRecord, tileRecord}
 use Rattle.written_records.proofs.SealLaws.{sections-bytes}
 use Rattle.lay_down.specs.Page.{directoryBody, directoryRecord, directoryStart, laidFile}
 use Rattle.lay_down.proofs.ChainLaws.{laidRecords}
 use Rattle.lay_down.proofs.PageLaws.{directory-bytes}
 use Rattle.read_back.proofs.Setting.{Laying}
 use Rattle.read_back.proofs.FrontLaws.{front-kept, front-headed}
-use Rattle.read_back.proofs.ChecksumLaws.{record-checksum, header-checksum}
-use Rattle.read_back.proofs.TileLaws.{tile-short, tile-body}
+use Rattle.written_rules.proofs.RecordLaws.{record-checksum}
+use Rattle.written_rules.proofs.PlainLaws.{tile-short, tile-body}
+use Rattle.read_back.proofs.ChecksumLaws.{header-checksum}
+use Rattle.read_back.proofs.TileLaws.{kept-header}
 use Rattle.read_back.proofs.RecordLaws.{tile-here, directory-placed, directory-short, directory-typed, chain-laid, start-of}
 use Rattle.read_back.proofs.DirectoryLaws.{tiles-laid, metadata-laid, space-laid}
 
 module _ {f : List ℕ} {t : ℕ} {ix c : List ℕ} (l : Laying f t ix c) where
   tile-checksum : (k : ℕ) → k < length ix → checksumRight (laidFile f t ix c) (length f + k * plainTileLength f) ≡ true
-  unfolding tileRecord
+  unfolding tileRecord plainRecord sections
   tile-checksum k h =
       let p = tile-here l k h in
       record-checksum (checksumEnabled f) 2 _ (p .here) (front-kept l .flag)
@@ -64,7 +66,7 @@ module _ {f : List ℕ} {t : ℕ} {ix c : List ℕ} (l : Laying f t ix c) where
               (λ e. ap (checksumRight s) e ∙ directory-checksum) (start-of l m);
           bodies =
               λ m.
-              ⊎-elim (λ p. ap (bodyRight s) (p .start) ∙ tile-body (tile-here l (p .number) (p .among)))
+              ⊎-elim (λ p. ap (bodyRight s) (p .start) ∙ tile-body (tile-here l (p .number) (p .among)) (kept-header (front-kept l)))
               (λ e. ap (bodyRight s) e ∙ directory-body) (start-of l m);
           tile-directory = tiles-laid l;
           metadata-directory = metadata-laid l;

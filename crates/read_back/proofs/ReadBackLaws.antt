@@ -38,9 +38,10 @@ use Rattle.lay_down.specs.Page.{laidFile}
 use Rattle.lay_down.specs.Answer.{laidOut}
 use Rattle.record.specs.declared.Found.the-variants.{At, Nothing}
 use Rattle.read_back.specs.ReadBack.{contentGiven, contentLaid, cellGiven, cellLaid, ListedAs, ReadBack}
+use Rattle.written_rules.proofs.PlainLaws.{tile-section, tile-holds, tile-bytes}
 use Rattle.read_back.proofs.Setting.{Laying, laying-of, front-range, tiles-kept, tile-kept, size-kept, grid-kept, asked-kept, offset-kept, fill-kept}
 use Rattle.read_back.proofs.FrontLaws.{length-laid, byte-kept, front-kept, fields-laid}
-use Rattle.read_back.proofs.TileLaws.{tile-section, tile-holds, tile-whole, tile-bytes}
+use Rattle.read_back.proofs.TileLaws.{tile-whole}
 use Rattle.read_back.proofs.RecordLaws.{index-below, cells-inside, tile-here}
 use Rattle.read_back.proofs.DirectoryLaws.{given-reference, reference-found}
 use Rattle.read_back.proofs.ObeyLaws.{laid-obeys, laid-accepted}
@@ -108,7 +109,7 @@ module _ {f : List ℕ} {t : ℕ} {ix c : List ℕ} (l : Laying f t ix c) where
     content-read =
         let i : inTiles s (getD ix k 0) e ≡ true =
         sym (yes _ (omega (arith, index-below l k h, tiles-kept (front-kept l)), (omega (arith, front-kept l .count), tt))) in
-        rw (i, listed-found k h, tile-whole (tile-here l k h) e g, content-place, size-kept (front-kept l) e g)
+        rw (i, listed-found k h, tile-whole (front-kept l) (tile-here l k h) e g, content-place, size-kept (front-kept l) e g)
 
   -- a tile that is not listed
   absent-read :
@@ -151,7 +152,7 @@ module _ {f : List ℕ} {t : ℕ} {ix c : List ℕ} (l : Laying f t ix c) where
       stored-read ci =
           let g = asked .1 .1 in
           let r : meant s (cellTile s row column) ≡ At (start k) = ap (meant s) (tile-kept (front-kept l) row column ∙ sym (q .tile)) ∙ listed-found k (q .among) in
-          rw (grid-kept (front-kept l) row column e, i, r, tile-whole (tile-here l k (q .among)) e g, place, front-kept l .elements e g, cell-bytes)
+          rw (grid-kept (front-kept l) row column e, i, r, tile-whole (front-kept l) (tile-here l k (q .among)) e g, place, front-kept l .elements e g, cell-bytes)
 
 pub read-back : ReadBack
 unfolding laidOut meaning cellBy contentMeaning tileBy

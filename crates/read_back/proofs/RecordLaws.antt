@@ -30,9 +30,9 @@ use Rattle.lay_down.proofs.PlaceLaws.{TileStart, tiles-placed, start-tile, tile
 use Rattle.lay_down.proofs.ChainLaws.{laidRecords, laid-whole}
 use Rattle.lay_down.proofs.FrontLaws.{plain-small}
 use Rattle.lay_down.proofs.AscendLaws.{ascending-each}
+use Rattle.written_rules.proofs.PlainLaws.{TileHere, tile-typed}
 use Rattle.read_back.proofs.Setting.{Laying, front-range}
 use Rattle.read_back.proofs.FrontLaws.{front-kept}
-use Rattle.read_back.proofs.TileLaws.{TileHere, tile-typed}
 
 module _ {f : List ℕ} {t : ℕ} {ix c : List ℕ} (l : Laying f t ix c) where
   pub index-below : (k : ℕ) → k < length ix → getD ix k 0 < tileCount f
@@ -59,7 +59,7 @@ module _ {f : List ℕ} {t : ℕ} {ix c : List ℕ} (l : Laying f t ix c) where
       (k : ℕ) → k < length ix →
       TileHere f (laidFile f t ix c) (part c (k * tileBytes f) (tileBytes f)) (getD ix k 0) (length f + k * plainTileLength f)
   tile-here k h =
-      record { kept = front-kept l; range = front-range l; front = l .front; below = index-below k h; long = part-length c _ _ (cells-inside k h); here = tile-placed k h }
+      record { range = front-range l; below = index-below k h; long = part-length c _ _ (cells-inside k h); here = tile-placed k h }
 
   -- the directory is the last of them
 

@@ -18,7 +18,6 @@ use Rattle.geometry.specs.Tiles.{tilesAcross, tilesDown, tileCount, cellTile, c
 use Rattle.geometry.specs.Sizes.{tileBytes, elementBytes}
 use Rattle.check_header.specs.HeaderRecord.{lengthRight}
 use Rattle.check_header.proofs.Judged.{header-lawful}
-use Rattle.check_header.proofs.PassedLaws.{range-of}
 use Rattle.check_header.specs.Passed.{InRange, Headed}
 use Rattle.cells.specs.Asked.{inGrid, inTiles}
 use Rattle.cells.specs.TileCells.{fillOf, offsetIn}

@@ -101,7 +101,7 @@ length-run [] d = refl
 length-run (w ∷ ws) d = length-run ws (put d (w .at) (w .bytes)) ∙ length-put d (w .at) (w .bytes)
 
 -- what no write reaches into stays, wherever they stop
-first-length : (k : ℕ) (v : List ℕ) → length (firstBytes k v) ≤ length v
+pub first-length : (k : ℕ) (v : List ℕ) → length (firstBytes k v) ≤ length v
 unfolding firstBytes
 first-length k v = let e = length-take {A = ℕ} k v in omega arith
 

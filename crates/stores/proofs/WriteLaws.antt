@@ -51,14 +51,16 @@ pub zeros-whole : (k n : ℕ) → n ≤ k → zeros n ≡ firstBytes k (zeros n)
 unfolding firstBytes
 zeros-whole k n h = sym (take-more k (zeros n) (omega (arith, zeros-length n)))
 
--- a number written apart, then stored
+-- bytes written apart, then stored
+
+pub apart-all : (v z : List ℕ) {l : List ℕ} → length z ≡ length v → l ≡ put z 0 v → l ≡ v
+apart-all v z e f =
+    let p = put z 0 v in
+    let g : length p ≡ length v = omega (arith, length-put z 0 v) in
+    f ∙ sym (part-whole p) ∙ ap (part p 0) g ∙ put-part z 0 v (omega arith)
 
 pub apart-is : (w v : ℕ) (z : List ℕ) {l : List ℕ} → length z ≡ w → l ≡ put z 0 (bytesOf w v) → l ≡ bytesOf w v
-apart-is w v z e f =
-    let b = bytes-length w v in
-    let p = put z 0 (bytesOf w v) in
-    let g : length p ≡ length (bytesOf w v) = omega (arith, length-put z 0 (bytesOf w v)) in
-    f ∙ sym (part-whole p) ∙ ap (part p 0) g ∙ put-part z 0 (bytesOf w v) (omega arith)
+apart-is w v z e f = apart-all (bytesOf w v) z (omega (arith, bytes-length w v)) f
 
 pub same-left : (k at r : ℕ) {u v : List ℕ} → u ≡ v → r ≡ k - storeCount (oneWrite at u) → r ≡ k - storeCount (oneWrite at v)
 same-left k at r e h = rw e at h

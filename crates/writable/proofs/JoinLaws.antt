@@ -17,7 +17,7 @@ use Rattle.record.proofs.ChainLaws.{stepped, less, starts-none, starts-record}
 use Rattle.record.proofs.SeekLaws.{over}
 use Rattle.record.proofs.Step.{the-type}
 use Rattle.pieces.specs.Pieces.{pieceAt, piecesOf, pieces, isFree, nothingToJoin}
-use Rattle.pieces.proofs.SplitLaws.{piece-type}
+use Rattle.pieces.proofs.SplitLaws.{piece-free}
 
 -- no two of the records adjoin, nor the first of them and the one before, which is free where `free` says so
 abbrev behind : Bool → List (List ℕ) → Bool
@@ -53,17 +53,13 @@ both-is a b = go (eqb a 0) refl (eqb b 0) refl
 
 -- the record at a position, and those behind it
 
-free-is : (s : List ℕ) (at : ℕ) → recordOk s at ≡ true → isFree (pieceAt s at) ≡ eqb (typeAt s at) 0
-unfolding isFree
-free-is s at o = rw (piece-type s at o)
-
 here :
     (s : List ℕ) (at : ℕ) → recordOk s at ≡ true → (free : Bool) →
     behind free (piecesOf s (starts s at))
     ≡ pick (free && eqb (typeAt s at) 0) false (behind (eqb (typeAt s at) 0) (piecesOf s (starts s (at + lengthAt s at))))
 unfolding piecesOf
 here s at o free =
-    rw (starts-record s at o, behind-next (pieceAt s at) (piecesOf s (starts s (at + lengthAt s at))), free-is s at o)
+    rw (starts-record s at o, behind-next (pieceAt s at) (piecesOf s (starts s (at + lengthAt s at))), piece-free s at o)
 
 module _
     {s : List ℕ} {at last k st n : ℕ} {nx : Cursor} {x : Step} {r : Bool} (i : Joining s at last) (u : x ≡ Record k st n nx) (v : x ≡ stepAt s at)

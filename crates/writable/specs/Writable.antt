@@ -29,7 +29,7 @@ isOpened v = passes ((verdictNumber v ≡? 5) ∷ [])
 unfoldable pub recordsRight : List ℕ → Bool
 recordsRight s = passes ((verdictNumber (checkRecords s Accepted) ≡? 0) ∷ [])
 
--- reading 6: the tile directory is full, it lists every tile of the grid. Where it is right its rectangle then starts at 0
+-- Req 03, reading 6: the tile directory is full, it lists every tile of the grid. Where it is right its rectangle then starts at 0
 unfoldable pub directoryFull : List ℕ → Bool
 directoryFull s =
     passes ((listedRows s (tileDirectoryAt s) ≡? tilesDown s) ∷ (listedColumns s (tileDirectoryAt s) ≡? tilesAcross s) ∷ [])

@@ -1,5 +1,5 @@
--- The form of a tile directory as it is written, and one reference. Assumes nothing.
-use Prim.Native.Nat.{ℕ, _+_, _*_, _/_, _%_, _≤_}
+-- A tile directory as it is written: its form, its references, and one of them. Assumes nothing.
+use Prim.Native.Nat.{ℕ, zero, suc, _+_, _*_, _/_, _%_, _≤_}
 use mathlib.Core.Path.{_≡_, refl, sym, ap, _∙_}
 use mathlib.Core.List.{List, [], _∷_, _++_}
 use native.Mathlib.Omega.{arith}
@@ -8,7 +8,8 @@ use Rattle.wire.specs.Bytes.{Bytes, bytesOf, put, zeros}
 use Rattle.wire.proofs.ByteLaws.{bytes-length, bytes-none, bytes-cons, bytes-append, bytes-of, zeros-length, zeros-bytes}
 use Rattle.wire.proofs.PutLaws.{first, then, bytes-mod}
 use Rattle.record.specs.Record.{contentAt}
-use Rattle.written_records.specs.Directory.{directoryForm}
+use Rattle.geometry.specs.Tiles.{tilesAcross, tilesDown, tileCount}
+use Rattle.written_records.specs.Directory.{directoryForm, referencesOf, directoryOf}
 
 pub four-more : (l : List ℕ) (v : ℕ) → length (l ++ bytesOf 4 v) ≡ length l + 4
 four-more l v = length-append l (bytesOf 4 v) ∙ omega (arith, bytes-length 4 v)
@@ -31,6 +32,28 @@ form-bytes down across =
     let a = bytes-append (bytes-cons 0 (omega arith) (bytes-cons 0 (omega arith) bytes-none)) (zeros-bytes 6) in
     let b = bytes-append (bytes-append a (bytes-of 4 0)) (bytes-of 4 0) in
     bytes-append (bytes-append b (bytes-of 4 down)) (bytes-of 4 across)
+
+-- the references of so many tiles, and the whole body
+
+pub references-of-length : (g : ℕ → ℕ) (n : ℕ) → length (referencesOf g n) ≡ 4 * n
+unfolding referencesOf
+references-of-length g zero = refl
+references-of-length g (suc n) = four-more (referencesOf g n) (g n) ∙ omega (arith, references-of-length g n)
+
+references-of-bytes : (g : ℕ → ℕ) (n : ℕ) → Bytes (referencesOf g n)
+unfolding referencesOf
+references-of-bytes g zero = bytes-none
+references-of-bytes g (suc n) = bytes-append (references-of-bytes g n) (bytes-of 4 _)
+
+pub directory-of-length : (f : List ℕ) (g : ℕ → ℕ) → length (directoryOf f g) ≡ 24 + 4 * tileCount f
+unfolding directoryOf
+directory-of-length f g =
+    let d = directoryForm (tilesDown f) (tilesAcross f) in
+    length-append d (referencesOf g (tileCount f)) ∙ omega (arith, form-length (tilesDown f) (tilesAcross f), references-of-length g (tileCount f))
+
+pub directory-of-bytes : (f : List ℕ) (g : ℕ → ℕ) → Bytes (directoryOf f g)
+unfolding directoryOf
+directory-of-bytes f g = bytes-append (form-bytes (tilesDown f) (tilesAcross f)) (references-of-bytes g (tileCount f))
 
 -- what stands before the references
 

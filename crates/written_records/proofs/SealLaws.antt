@@ -16,7 +16,7 @@ use Rattle.wire.proofs.PlaceLaws.{Placed}
 use Rattle.crc32c.specs.Crc.{crcOf}
 use Rattle.crc32c.proofs.Range.{crc-small}
 use Rattle.written_records.specs.Pieces.{checksumFor, recordHead, unclosed, section, sealed}
-use Rattle.written_records.specs.Tile.{sections}
+use Rattle.written_records.specs.Tile.{sections, sectionsOf}
 
 -- what is put together is bytes
 
@@ -33,7 +33,7 @@ unfolding section
 section-bytes w = bytes-append (bytes-append (bytes-of 4 _) w) (zeros-bytes _)
 
 pub sections-bytes : (f : List ℕ) (n : ℕ) {c : List ℕ} → Bytes c → Bytes (sections f n c)
-unfolding sections
+unfolding sections sectionsOf
 sections-bytes f zero w = bytes-none
 sections-bytes f (suc n) w = bytes-append (sections-bytes f n w) (section-bytes (bytes-part _ _ w))
 

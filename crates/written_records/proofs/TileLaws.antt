@@ -2,21 +2,23 @@
 use Prim.Native.Nat.{ℕ, zero, suc, _+_, _≤_, _<_}
 use mathlib.Core.Path.{_≡_, refl, sym, ap, _∙_}
 use mathlib.Core.List.{List, _++_}
+use mathlib.Core.Bool.{true}
 use mathlib.Core.Logic.{by-cases}
 use native.Mathlib.Decide.{decLe}
 use native.Mathlib.Omega.{arith}
 use lib.ListN.{length, length-append}
 use Rattle.wire.specs.Tests.{sumBelow}
-use Rattle.wire.specs.Bytes.{bytesOf, part}
+use Rattle.wire.specs.Bytes.{bytesOf, part, largestInteger}
 use Rattle.wire.proofs.TestLaws.{sum-each}
 use Rattle.wire.proofs.ByteLaws.{bytes-length, part-length}
 use Rattle.wire.proofs.PlaceLaws.{Placed, placed-first, placed-next}
+use Rattle.record.specs.Record.{lengthAt, recordOk}
 use Rattle.header.specs.Fields.{checksumEnabled, elementCount}
 use Rattle.header.specs.Element.{entriesRead}
 use Rattle.geometry.specs.Sizes.{storedSize, leastLength, tileLength, elementBytes, tileBytes, plainTileLength}
-use Rattle.written_records.specs.Pieces.{recordLength, section}
-use Rattle.written_records.specs.Tile.{sections, tileRecord}
-use Rattle.written_records.proofs.PieceLaws.{least-holds, record-length, section-length}
+use Rattle.written_records.specs.Pieces.{recordLength, recordOf, section}
+use Rattle.written_records.specs.Tile.{sections, sectionsOf, plainRecord, tileRecord}
+use Rattle.written_records.proofs.PieceLaws.{least-holds, record-length, record-well, section-length}
 
 -- the stored sizes of the elements before e
 abbrev pub storedBefore : List ℕ → ℕ → ℕ
@@ -26,7 +28,7 @@ storedBefore f e = sumBelow e (λ d. storedSize (elementBytes f d))
 pub sections-length :
     (f : List ℕ) (n : ℕ) (c : List ℕ) → sumBelow n (elementBytes f) ≤ length c →
     length (sections f n c) ≡ storedBefore f n
-unfolding sections sumBelow
+unfolding sections sectionsOf sumBelow
 sections-length f zero c h = refl
 sections-length f (suc n) c h =
     let u = elementBytes f n in
@@ -63,18 +65,28 @@ module _ (f : List ℕ) (all : entriesRead f ≡ elementCount f) where
       length-append (bytesOf 4 i) (sections f (elementCount f) c) ∙ omega (arith, bytes-length 4 i)
 
   pub tile-length : (i : ℕ) (c : List ℕ) → length c ≡ tileBytes f → length (tileRecord f i c) ≡ plainTileLength f
-  unfolding tileRecord recordLength
+  unfolding tileRecord plainRecord sections recordLength
   tile-length i c h =
       record-length (checksumEnabled f) 2 (bytesOf 4 i ++ sections f (elementCount f) c)
       ∙ ap leastLength (omega (arith, tile-body-length i c h))
       ∙ sym plain-is
+
+  -- it is a record by itself, and no byte more
+  pub tile-well :
+      plainTileLength f ≤ largestInteger → (i : ℕ) (c : List ℕ) → length c ≡ tileBytes f →
+      (recordOk (tileRecord f i c) 0 ≡ true) × (lengthAt (tileRecord f i c) 0 ≡ length (tileRecord f i c))
+  unfolding tileRecord plainRecord sections
+  tile-well fits i c h =
+      let body = bytesOf 4 i ++ sections f (elementCount f) c in
+      let a : length (recordOf (checksumEnabled f) 2 body) ≡ plainTileLength f = tile-length i c h in
+      record-well (checksumEnabled f) 2 body (omega arith) (omega arith)
 
 -- where the sections stand from x on, the one of element e stands behind those before it
 module _ (f c : List ℕ) {s : List ℕ} {x : ℕ} where
   pub section-there :
       (n : ℕ) → sumBelow n (elementBytes f) ≤ length c → Placed s x (sections f n c) → (e : ℕ) → e < n →
       Placed s (x + storedBefore f e) (section (part c (sumBelow e (elementBytes f)) (elementBytes f e)))
-  unfolding sections sumBelow
+  unfolding sections sectionsOf sumBelow
   section-there zero l h e k = absurd (omega arith)
   section-there (suc n) l h e k =
       let a = sections f n c in

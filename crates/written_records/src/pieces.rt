@@ -76,7 +76,7 @@ pub fn close(out: &mut [u8], at: usize, end: usize, n: usize, flag: u32)
 }
 
 // How many bytes bring n to a multiple of 4.
-fn padding(n: usize) -> usize
+pub fn padding(n: usize) -> usize
     ensures is { λ r. ⌜ r ≡ roundUp 4 n - n ⌝ }
 {
     (4 - n % 4) % 4

@@ -37,23 +37,34 @@ pub fn stages_1_to_9(file: &[u8]) -> Result<Passed<'_>, Answer> {
 
 pub fn stages_1_to_8(file: &[u8]) -> Result<Passed<'_>, Answer> {
     let header = stages_1_to_5(file)?;
-    let records = chain(file, &header).map_err(|start| (6, start as u64))?;
-    let first = header_record(file, &header);
-    if let Some(start) = first_bad_checksum(first, &records, header.checksums_on) {
-        return Err((7, start as u64));
-    }
-    if let Some(start) = first_bad_body(&header, &records) {
-        return Err((8, start as u64));
-    }
+    let records = stages_6_to_8(file, &header)?;
     Ok(Passed { header, records })
 }
 
+/// The records behind the header of a file that passes stages 1 to 4.
+pub fn stages_6_to_8<'a>(file: &'a [u8], header: &Header) -> Result<Vec<Record<'a>>, Answer> {
+    let records = chain(file, header).map_err(|start| (6, start as u64))?;
+    let first = header_record(file, header);
+    if let Some(start) = first_bad_checksum(first, &records, header.checksums_on) {
+        return Err((7, start as u64));
+    }
+    if let Some(start) = first_bad_body(header, &records) {
+        return Err((8, start as u64));
+    }
+    Ok(records)
+}
+
 pub fn stages_1_to_5(file: &[u8]) -> Result<Header, Answer> {
-    let header = stages_1_to_3(file)?;
-    stage_4(file, &header)?;
+    let header = stages_1_to_4(file)?;
     if is_opened(&header) {
         return Err((5, 0));
     }
+    Ok(header)
+}
+
+pub fn stages_1_to_4(file: &[u8]) -> Result<Header, Answer> {
+    let header = stages_1_to_3(file)?;
+    stage_4(file, &header)?;
     Ok(header)
 }
 

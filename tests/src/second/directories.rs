@@ -18,7 +18,7 @@ pub fn directories_are_good(header: &Header, records: &[Record]) -> bool {
 }
 
 /// Document 01, stage 9: "No other record of types 3 to 5 exists."
-fn no_other_directory(header: &Header, records: &[Record]) -> bool {
+pub(super) fn no_other_directory(header: &Header, records: &[Record]) -> bool {
     records.iter().all(|record| match record.record_type {
         FILE_SPACE_DIRECTORY => record.content() == header.file_space_reference,
         METADATA_DIRECTORY => record.content() == header.metadata_reference,
@@ -49,7 +49,7 @@ fn of_type<'r, 'a>(
 
 /// Document 01, stage 9: "The tile directory reference is the content (start plus 8) of a record of
 /// type 5."
-fn tile_directory_is_good(header: &Header, records: &[Record]) -> bool {
+pub(super) fn tile_directory_is_good(header: &Header, records: &[Record]) -> bool {
     let Some(record) = referred(records, header.tile_directory_reference, TILE_DIRECTORY) else {
         return false;
     };
@@ -105,6 +105,14 @@ fn ends_inside(start: u64, side: u64, tiles: u64) -> bool {
     start + side <= tiles
 }
 
+/// Rows and columns of tiles that the tile directory lists. Its own rules have been judged.
+pub(super) fn sides_listed(header: &Header, records: &[Record]) -> Option<(u64, u64)> {
+    let record = referred(records, header.tile_directory_reference, TILE_DIRECTORY)?;
+    let mut reader = record.reader();
+    let _forms_reserved_and_starts = reader.take(16)?;
+    Some((reader.count()? as u64, reader.count()? as u64))
+}
+
 /// A compact reference is the position divided by eight (G section 4.2.8).
 fn compact(reference: u32) -> u64 {
     u64::from(reference) * 8
@@ -137,7 +145,7 @@ type MetadataEntry<'a> = (u64, &'a [u8], u32, u8);
 
 /// Document 01, stage 9: "The other two may be zero; else they are the content of a record of type
 /// 4 (metadata)".
-fn metadata_directory_is_good(header: &Header, records: &[Record]) -> bool {
+pub(super) fn metadata_directory_is_good(header: &Header, records: &[Record]) -> bool {
     let stored = metadata_stored(records);
     let listed = if header.metadata_reference == 0 {
         Some(Vec::new())

@@ -90,7 +90,7 @@ fn set_front(front: &mut [u8], time: u64, tile_directory: u64, checksums_on: boo
 
 /// G Tables 15 and 16. Each element is whole, so L is U; up to three bytes of padding behind it
 /// bring L to a multiple of 4.
-fn tile_record(header: &Header, index: u32, cells: &[u8]) -> Vec<u8> {
+pub(super) fn tile_record(header: &Header, index: u32, cells: &[u8]) -> Vec<u8> {
     let mut content = index.to_le_bytes().to_vec();
     let mut cells = cells;
     for element in &header.elements {
@@ -106,7 +106,7 @@ fn tile_record(header: &Header, index: u32, cells: &[u8]) -> Vec<u8> {
 
 /// G Table 21. Document 01: "listing every tile of the grid with compact four-byte references". A
 /// compact reference is the position divided by eight; zero stays for a tile that is not given.
-fn tile_directory(header: &Header, references: &[u64]) -> Vec<u8> {
+pub(super) fn tile_directory(header: &Header, references: &[u64]) -> Vec<u8> {
     let (format, standard_references) = (0, 0);
     let mut content = vec![format, standard_references, 0, 0, 0, 0, 0, 0];
     let (row0, column0) = (0, 0);
@@ -121,7 +121,7 @@ fn tile_directory(header: &Header, references: &[u64]) -> Vec<u8> {
 
 /// Length, type, three reserved bytes, content, padding, checksum (G section 3.3). Document 01:
 /// "Reserved fields of these records and padding are zero."
-fn record(record_type: u8, content: &[u8], checksums_on: bool) -> Vec<u8> {
+pub(super) fn record(record_type: u8, content: &[u8], checksums_on: bool) -> Vec<u8> {
     let length = least_record_length(8 + content.len());
     let mut record = (length as u32).to_le_bytes().to_vec();
     record.extend([record_type, 0, 0, 0]);
@@ -133,7 +133,7 @@ fn record(record_type: u8, content: &[u8], checksums_on: bool) -> Vec<u8> {
 
 /// Document 01: "Checksums as the front's flag says." Stage 7: of all earlier bytes of the record
 /// if on, zero if off.
-fn set_checksum(record: &mut [u8], on: bool) {
+pub(super) fn set_checksum(record: &mut [u8], on: bool) {
     let (earlier, last_four) = record.split_at_mut(record.len() - 4);
     let checksum = if on { crc32c(earlier) } else { 0 };
     last_four.copy_from_slice(&checksum.to_le_bytes());

@@ -13,4 +13,4 @@ deed-number-spec =
     (λ c. search needs)
     (λ c κs. search needs)
     (λ c. c .grade-number .ensures ∙ rw (c .before .before .x .given .1))
-    (λ c. search needs))
+    (λ c. c .refusal-number .ensures ∙ rw (c .before .before .x2 .given .1)))

@@ -1,5 +1,5 @@
 -- `gvrs_c::gvrs_lay_down` meets its contract. Assumes nothing.
-use Rattle.gvrs_c.proofs.ReportLaws.{laid-told}
+use Rattle.gvrs_c.proofs.ReportLaws.{laid-handed}
 use borrow.Author.Needs.{needs}
 use Rattle.gvrs_c.proofs.gvrs_lay_down.Statement.{statement}
 use Rattle.gvrs_c.proofs.gvrs_lay_down.Tie as tie
@@ -10,8 +10,6 @@ gvrs-lay-down-spec =
     (tie.spec
     (λ c κs. search needs)
     (λ c κs. search needs)
-    (λ c κs. search needs)
-    (λ c κs. search needs)
     (λ c. search needs)
     (λ c. search needs)
-    (λ c. let t = laid-told _ _ _ _ _ _ (c .before .before .before .before .before .before .before .before .lay-down .ensures .0) (c .before .before .before .before .laid-report .ensures) (c .before .before .before .report .ensures) (c .laid-number .ensures) in (t .0, (t .1, c .before .before .before .before .before .before .before .before .lay-down .ensures .1))))
+    (λ c. laid-handed _ _ _ _ _ _ _ (c .before .before .before .before .before .before .lay-down .ensures .0) (c .before .before .before .before .before .before .lay-down .ensures .1) (c .before .before .tell-laid .ensures .0) (c .before .before .tell-laid .ensures .1)))

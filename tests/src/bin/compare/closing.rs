@@ -6,8 +6,8 @@ use crate::run::Run;
 /// Comparisons that a whole run makes at least, all functions together.
 const LEAST: usize = 200_000;
 
-/// The refusals of document 01, and those of Req 01 and Req 12.
-const REFUSALS: [u32; 15] = [1, 2, 3, 4, 5, 6, 7, 8, 9, 10, 11, 12, 13, 14, 16];
+/// The refusals of document 01, and those of Req 01, Req 03 and Req 12.
+const REFUSALS: [u32; 16] = [1, 2, 3, 4, 5, 6, 7, 8, 9, 10, 11, 12, 13, 14, 15, 16];
 /// One more than the greatest of them.
 const NUMBERS: usize = 17;
 
@@ -72,9 +72,9 @@ fn met(functions: &[Function], number: u32) -> usize {
 }
 
 impl Run {
-    /// The nineteen functions. Of names, texts and M32 codes by themselves no answer is a refusal.
-    pub fn functions(&self) -> [Function; 19] {
-        [
+    /// Every function. Of names, texts and M32 codes by themselves no answer is a refusal.
+    pub fn functions(&self) -> Vec<Function> {
+        let mut functions = vec![
             Function::new("gvrs_check", self.answers()),
             Function::new("gvrs_check_start", self.starts.answers()),
             Function::new("gvrs_check_rest", (0..).zip(self.rests)),
@@ -94,6 +94,10 @@ impl Run {
             Function::new("gvrs_element", self.face.element_answers()),
             Function::new("gvrs_m32_write", [(0, self.packed.written)].into_iter()),
             Function::new("gvrs_m32_read", [(0, self.packed.read)].into_iter()),
-        ]
+        ];
+        let corrections = self.corrections.functions();
+        functions
+            .extend(corrections.map(|(name, answers)| Function::new(name, answers.into_iter())));
+        functions
     }
 }

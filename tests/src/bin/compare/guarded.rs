@@ -15,6 +15,12 @@ impl<Item: Copy + PartialEq> Guarded<Item> {
         Guarded { now: vec![mark; room + 2 * GUARDS], mark, taken: taken.to_vec() }
     }
 
+    /// Room that holds these items and has to hold those, as many.
+    pub fn holding(mark: Item, before: &[Item], after: &[Item]) -> Guarded<Item> {
+        let guards = [mark; GUARDS];
+        Guarded { now: [&guards, before, &guards].concat(), mark, taken: after.to_vec() }
+    }
+
     /// Room for an answer's numbers, of which it has to take as many as fit.
     pub fn for_numbers(mark: Item, room: usize, numbers: &[Item]) -> Guarded<Item> {
         Guarded::taking(mark, room, &numbers[..room.min(numbers.len())])

@@ -9,6 +9,7 @@ mod aims;
 mod allowed;
 mod bytes_changed;
 mod closing;
+mod corrections;
 mod damage;
 mod deeds;
 mod face;
@@ -62,7 +63,7 @@ fn main() -> ExitCode {
 
 /// Every section. Each has a generator of its own, so that one can change without the others.
 fn whole_run(seed: u64, small: bool) -> bool {
-    let sections: [fn(&mut Run, &mut Prng); 21] = [
+    let sections: [fn(&mut Run, &mut Prng); 22] = [
         sample_sums::section,
         made::section,
         allowed::section,
@@ -84,6 +85,7 @@ fn whole_run(seed: u64, small: bool) -> bool {
         face::section,
         deeds::section,
         keys::section,
+        corrections::section,
     ];
     let mut run = Run::new(small);
     for (number, section) in sections.into_iter().enumerate() {

@@ -7,6 +7,7 @@ use gvrs_tests::library;
 use gvrs_tests::second::check::{check, Answer};
 
 use crate::closing;
+use crate::corrections;
 use crate::deeds;
 use crate::face;
 use crate::lay_downs;
@@ -36,6 +37,7 @@ pub struct Run {
     pub packed: packed::tally::Tally,
     pub face: face::tally::Tally,
     pub deeds: deeds::tally::Tally,
+    pub corrections: corrections::tally::Tally,
     /// Names asked about.
     pub names: usize,
     /// Texts asked about.
@@ -77,6 +79,7 @@ impl Run {
             packed: packed::tally::Tally::new(),
             face: face::tally::Tally::new(),
             deeds: deeds::tally::Tally::new(),
+            corrections: corrections::tally::Tally::new(),
             names: 0,
             texts: 0,
             name_pairs: 0,
@@ -211,6 +214,7 @@ impl Run {
         self.packed.report();
         self.face.report();
         self.deeds.report();
+        self.corrections.report();
         closing::report(&self.functions());
         if !self.small {
             self.missed();
@@ -282,6 +286,10 @@ impl Run {
         }
         for thing in self.deeds.missed() {
             println!("FAULT: deeds: never or wrongly reached: {thing}");
+            self.faults += 1;
+        }
+        for thing in self.corrections.missed() {
+            println!("FAULT: corrections: never or wrongly reached: {thing}");
             self.faults += 1;
         }
         for number in self.look_ups_missed() {

@@ -10,6 +10,7 @@ use gvrs_tests::prng::Prng;
 use gvrs_tests::random_page::random_page;
 use gvrs_tests::second::cells::{Spot, UNPACKED};
 use gvrs_tests::second::check::check;
+use gvrs_tests::second::correct::Call;
 use gvrs_tests::second::deeds::DOUBTFUL;
 use gvrs_tests::second::lay_down::Given;
 use gvrs_tests::second::rectangles::Rectangle;
@@ -71,6 +72,23 @@ fn deed_of(file: &[u8], spot: Spot, compressor: u32, memory: &mut [u32]) -> u32 
     library::deed_into(file, Rectangle::of_one(spot), compressor, memory, &mut [0; 3])
 }
 
+/// All four calls of a correction, on a page that they can be done on, as far as its room goes.
+fn correct_and_close(file: &[u8]) {
+    let mut page = [0; 13];
+    library::page_into(file, &mut page);
+    let mut buffer = [file, &vec![0; file.len() + 2 * page[7] as usize]].concat();
+    let cells = vec![7; page[7] as usize];
+    let store = Call::Store { tile: 0, cells };
+    let calls = [Call::Open { time: 1 }, store, Call::Remove { tile: 0 }, Call::Close { time: 1 }];
+    let mut n = [file.len() as u64];
+    for call in &calls {
+        let mut out = n;
+        if library::correct_into(&mut buffer, n[0], call, &mut out) == 0 {
+            n = out;
+        }
+    }
+}
+
 /// Asks all others, and those with a compressor once more; the check's number.
 fn ask(file: &[u8], given: &Given) -> u32 {
     for route in [DIRECTORY, WALK, WALK_WITHOUT_STAGE_9] {
@@ -89,6 +107,7 @@ fn ask(file: &[u8], given: &Given) -> u32 {
     let Given { front, time, indexes, cells } = given;
     let mut buffer = vec![0; front.len() + 2 * cells.len() + 4096];
     library::lay_down_into(front, *time, indexes, cells, &mut buffer, &mut [0]);
+    correct_and_close(file);
     library::list_into(file, &mut [0; 64]);
     library::check_start(file, file.len() as u64);
     library::check_rest(file);

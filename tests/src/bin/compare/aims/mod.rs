@@ -16,14 +16,20 @@ mod tile_directory;
 use crate::damage::Aim;
 
 pub fn all() -> Vec<Aim> {
-    let mut aims = front::aims();
-    aims.extend(header::aims());
-    aims.extend(ceilings::aims());
-    aims.extend(chain::aims());
-    aims.extend(checksums::aims());
-    aims.extend(bodies::aims());
-    aims.extend(tile_directory::aims());
-    aims.extend(metadata_directory::aims());
-    aims.extend(file_space::aims());
-    aims
+    by_subject().into_iter().flat_map(|(_, aims)| aims).collect()
+}
+
+/// The same, with what they damage.
+pub fn by_subject() -> [(&'static str, Vec<Aim>); 9] {
+    [
+        ("the first bytes", front::aims()),
+        ("the header", header::aims()),
+        ("a ceiling", ceilings::aims()),
+        ("the chain", chain::aims()),
+        ("a checksum", checksums::aims()),
+        ("a body", bodies::aims()),
+        ("the tile directory", tile_directory::aims()),
+        ("the metadata directory", metadata_directory::aims()),
+        ("the file-space directory", file_space::aims()),
+    ]
 }

@@ -1,0 +1,4 @@
+pub mod FreeListLaws
+pub mod BehindLaws
+pub mod SpaceLaws
+pub mod ClosedLaws

@@ -1,0 +1,7 @@
+pub mod RecordLaws
+pub mod TileLaws
+pub mod CellLaws
+pub mod ReferenceLaws
+pub mod FieldLaws
+pub mod DirectoryLaws
+pub mod ListLaws

@@ -1,0 +1,15 @@
+-- Req 03: a page in a lent buffer, and the front of a page whose fields a call sets.
+use Prim.Native.Nat.{ℕ, _-_}
+use mathlib.Core.List.{List}
+use Rattle.wire.specs.Bytes.{part}
+use Rattle.record.specs.Chain.{headerEnd}
+use Rattle.header.specs.Fields.{checksumEnabled}
+use Rattle.written_records.specs.Pieces.{sealed}
+
+-- Req 03, reading 1: the page is the first n bytes of the buffer; none where it has not as many
+unfoldable pub pageIn : List ℕ → ℕ → List ℕ
+pageIn b n = part b 0 n
+
+-- Req 03, reading 16: the front f of page s, with the header's checksum made anew over the header record's own bytes
+unfoldable pub sealedFront : List ℕ → List ℕ → List ℕ
+sealedFront s f = sealed (checksumEnabled s) f 16 (headerEnd s - 16)

@@ -1,0 +1,364 @@
+-- Req 03: how the cells of a corrected page read, by the map. Assumes nothing.
+use Prim.Native.Nat.{ℕ, zero, suc, _+_, _≤_, _<_}
+use native.Mathlib.Omega.{arith}
+use mathlib.Core.Logic.{⊎-elim}
+use mathlib.Core.Path.{_≡_, refl, sym, _∙_, ap}
+use mathlib.Core.List.{List, [], _∷_, map}
+use mathlib.Core.Bool.{Bool, true, false}
+use lib.ListN.{length, getD}
+use lib.Dec.{eqb, leb}
+use Rattle.wire.specs.Pick.{pick}
+use Rattle.wire.specs.Bytes.{byteAt, numberAt, part}
+use Rattle.wire.specs.Lists.{below}
+use Rattle.wire.proofs.TestLaws.{means, yes, no, not-both, below-each}
+use borrow.Author.Tests.{eqb-false, leb-true, leb-false}
+use Rattle.wire.proofs.ByteLaws.{part-length, part-whole}
+use Rattle.wire.proofs.ListLaws.{below-at}
+use Rattle.record.specs.declared.Found.{Found}
+use Rattle.record.specs.declared.Found.the-variants.{At, Nothing}
+use Rattle.record.specs.Chain.{headerEnd, records}
+use Rattle.record.proofs.ChainLaws.{whole-extent}
+use Rattle.record.proofs.FindLaws.{of-type}
+use Rattle.header.specs.Fields.{elementCount}
+use Rattle.header.specs.Fields.{tileRows, tileColumns}
+use Rattle.header.specs.Element.{element, cellSize, entriesRead, shortKind}
+use Rattle.header.proofs.SameLaws.{element-same}
+use Rattle.geometry.specs.Tiles.{cellTile, cellInside}
+use Rattle.geometry.specs.Sizes.{elementBytes, packingOf, elementPacking}
+use Rattle.geometry.specs.declared.Packing.the-variants.{Uncompressed, Compressed, Fault}
+use Rattle.check_records.specs.TileBody.{notFault, sectionPacking, sectionRight, tileRight}
+use Rattle.bodies.specs.TileRecord.{sectionLength, elementContentAt}
+use Rattle.answer.specs.declared.Refusal.the-variants as refusal
+use Rattle.answer.specs.declared.Cell.the-variants as cell
+use Rattle.answer.specs.Values.{valueOf}
+use Rattle.unpack.specs.Unpack.{cellAt, unpacked}
+use Rattle.check_header.specs.Judged.{SameJudged}
+use Rattle.check_header.proofs.Judged.{judged-sym, header-fit, rows, columns, tile-rows, tile-columns, sameRest}
+use Rattle.page_check.specs.Accepted.{Sound}
+use Rattle.page_check.proofs.GivenLaws.{sound-range, sound-tile}
+use Rattle.cells.specs.Asked.{inGrid}
+use Rattle.cells.specs.Routes.{meant, cellBy}
+use Rattle.cells.specs.TileCells.{fillOf, packed, offsetIn, placeIn, storedAt, unpackable, unpackedIn, unpackedCell, packedCell, cellIn, cellOf}
+use Rattle.cells.specs.Meaning.{meaning}
+use Rattle.cells.proofs.CellLaws.{grid-means}
+use Rattle.cells.proofs.ReadLaws.{sound-cells}
+use Rattle.cells.proofs.DemandLaws.{demand-3}
+use Rattle.cells.proofs.RouteLaws.{walk-finds, meant-is}
+use Rattle.cells.proofs.ApartLaws.{content-extent, offset-within}
+use Rattle.alone.specs.Alone.{Moved, SameHeader, SameTile}
+use Rattle.alone.proofs.MovedLaws.{offset-of, offset-number, offset-byte}
+use Rattle.alone.proofs.HeaderLaws.{judged-header, count-within}
+use Rattle.alone.proofs.TileLaws.{tile-alone}
+use Rattle.page_laws.proofs.FrontLaws.{judged-trans}
+use Rattle.page_laws.proofs.PageLaws.{sound-judged}
+use Rattle.page_laws.proofs.TileMapLaws.{below-count, contents-some}
+use Rattle.page_laws.proofs.TileRecordLaws.{BothAt, tile-stays}
+use Rattle.correct.specs.Front.{pageIn}
+use Rattle.correct.specs.Storing.{tileAt}
+use Rattle.page_laws.specs.Tiles.{contentsIn, contentsOf, tilesOf, recordOfTile, Follows}
+use Rattle.corrected.specs.Sequence.{pageOf, afterAll}
+use Rattle.corrected.specs.Cells.{contentIn, canUnpack, cellFrom, ReadsAs, Cells}
+use Rattle.corrected.proofs.SequenceLaws.{page-sound, sequence}
+
+-- a list made by a function, by its places
+
+map-at : {A : Type 0} (f : ℕ → A) (xs : List ℕ) (i : ℕ) (d : A) → i < length xs → getD (map f xs) i d ≡ f (getD xs i 0)
+map-at f [] i d h = absurd (omega arith)
+map-at f (x ∷ xs) zero d h = refl
+map-at f (x ∷ xs) (suc i) d h = map-at f xs i d (omega arith)
+
+numbered-at : {A : Type 0} (f : ℕ → A) (n i : ℕ) (d : A) → i < n → getD (map f (below n)) i d ≡ f i
+numbered-at f n i d h =
+    let l = below-count n in
+    let k : getD (below n) i 0 ≡ i = sym (map-at (λ (x : ℕ). x) (below n) i 0 (omega arith)) ∙ below-at (λ x. x) n i h in
+    map-at f (below n) i d (omega arith) ∙ ap f k
+
+-- a cell's meaning by the tile's record
+
+walked-is : (s : List ℕ) (i : ℕ) → tileAt s i ≡ meant s i
+unfolding tileAt
+walked-is s i = walk-finds s i
+
+meant-by : (s : List ℕ) (ci row column e : ℕ) → inGrid s row column e ≡ true → meaning s ci row column e ≡ cellOf s ci row column e (tileAt s (cellTile s row column))
+unfolding meaning cellBy tileAt
+meant-by s ci row column e g = rw (g, walk-finds s (cellTile s row column))
+
+-- an element's content in a tile record of a sound page
+
+section-some : (s : List ℕ) (x e : ℕ) → sectionRight s x e ≡ true → 1 ≤ sectionLength s x e
+unfolding sectionRight sectionPacking elementPacking packingOf
+section-some s x e r = go (eqb (sectionLength s x e) 0) refl r
+  where
+    go :
+        (a : Bool) → eqb (sectionLength s x e) 0 ≡ a →
+        notFault (pick a Fault (pick (eqb (sectionLength s x e) (elementBytes s e)) Uncompressed (pick (leb (sectionLength s x e) (elementBytes s e)) Compressed Fault))) ≡ true →
+        1 ≤ sectionLength s x e
+    go true f p = not-both p refl
+    go false f p = let z = eqb-false (sectionLength s x e) 0 f in omega arith
+
+pub record Content (s : List ℕ) (x e : ℕ) : Type 0 where
+  pub some-bytes : 1 ≤ sectionLength s x e
+  pub inside : elementContentAt s x e + sectionLength s x e ≤ length s
+  pub is : getD (contentsIn s x) e [] ≡ part s (elementContentAt s x e) (sectionLength s x e)
+  pub long : length (getD (contentsIn s x) e []) ≡ sectionLength s x e
+
+content-of : (s : List ℕ) → Sound s → (i x e : ℕ) → tileAt s i ≡ At x → e < elementCount s → Content s x e
+unfolding tileAt contentsIn tileRight
+content-of s o i x e f h =
+    let m = meant-is s i x (sym (walk-finds s i) ∙ f) in
+    let t = sound-tile s o (m .among) in
+    let c = content-extent s x e t h in
+    let w = whole-extent s (headerEnd s) (records s) (o .chain) (of-type s 2 (m .among) .0) in
+    let k : elementContentAt s x e + sectionLength s x e ≤ length s = omega (arith, c .next, c .inside, w .inside) in
+    let g = numbered-at (λ e. part s (elementContentAt s x e) (sectionLength s x e)) (elementCount s) e [] h in
+    record { some-bytes = section-some s x e (below-each (elementCount s) (sectionRight s x) (means _ t .1 .1 .0) e h); inside = k; is = g; long = ap length g ∙ part-length s _ _ k }
+
+-- its bytes in the file and in the map are the same
+content-moved : {s : List ℕ} {x e : ℕ} → Content s x e → (c : List ℕ) → c ≡ getD (contentsIn s x) e [] → Moved s (elementContentAt s x e) c 0 (sectionLength s x e)
+content-moved {s} {x} {e} k c f =
+    let l : length c ≡ sectionLength s x e = ap length f ∙ k .long in
+    record { in-first = k .inside; in-second = omega arith; bytes = sym (k .is) ∙ sym f ∙ sym (part-whole c) ∙ ap (part c 0) l }
+
+-- how a cell of a record reads
+
+whole-is : (s : List ℕ) (x e : ℕ) → elementBytes s e ≤ sectionLength s x e → packed s x e ≡ false
+unfolding packed
+whole-is s x e h = sym (no _ (λ p. omega (arith, p .0)))
+
+packed-is : (s : List ℕ) (x e : ℕ) → sectionLength s x e < elementBytes s e → packed s x e ≡ true
+unfolding packed
+packed-is s x e h = sym (yes _ (omega arith, tt))
+
+whole-in : (s : List ℕ) (ci x row column e : ℕ) → elementBytes s e ≤ sectionLength s x e → cellIn s ci x row column e ≡ storedAt s e (placeIn s x row column e)
+unfolding cellIn
+whole-in s ci x row column e h = rw (whole-is s x e h)
+
+packed-in : (s : List ℕ) (ci x row column e : ℕ) → sectionLength s x e < elementBytes s e → cellIn s ci x row column e ≡ packedCell s ci x row column e
+unfolding cellIn
+packed-in s ci x row column e h = rw (packed-is s x e h)
+
+-- two pages whose headers say the same
+
+few-in : (s : List ℕ) → Sound s → elementCount s ≤ 16
+few-in s o = count-within s (length s) (o .headed .ceilings)
+
+grid-same : (s t : List ℕ) → SameJudged s t → Sound s → (row column e : ℕ) → inGrid s row column e ≡ inGrid t row column e
+unfolding inGrid
+grid-same s t j o row column e = rw (rows s t j, columns s t j, judged-header s t (length s) j (o .headed .header) (few-in s o) .count)
+
+module _ (s t : List ℕ) (o : Sound s) (q : Sound t) (j : SameJudged s t) (row column e : ℕ) (g : inGrid s row column e ≡ true) where
+  header : SameHeader s t
+  header = judged-header s t (length s) j (o .headed .header) (few-in s o)
+
+  asked : e < elementCount s
+  asked = grid-means s row column e g .1 .1
+
+  asked-too : e < elementCount t
+  asked-too = rw (← header .count) asked
+
+  read-too : e < entriesRead s
+  unfolding entriesRead
+  read-too = omega (arith, few-in s o, asked)
+
+  element-too : element s e ≡ element t e
+  element-too =
+      let f = header-fit s t j (length s) (o .headed .header) in
+      element-same s t (sameRest s t j) e (entriesRead s) read-too (f .last)
+
+  grid-too : inGrid t row column e ≡ true
+  grid-too = sym (grid-same s t j o row column e) ∙ g
+
+  tile-too : cellTile t row column ≡ cellTile s row column
+  unfolding cellTile
+  tile-too = rw (columns s t j, tile-rows s t j, tile-columns s t j)
+
+  number-too : cellInside s row column ≡ cellInside t row column
+  unfolding cellInside
+  number-too = rw (tile-rows s t j, tile-columns s t j)
+
+  offset-too : offsetIn s row column e ≡ offsetIn t row column e
+  unfolding offsetIn
+  offset-too = rw (number-too, element-too)
+
+  size-too : elementBytes s e ≡ elementBytes t e
+  size-too = header .sizes e asked
+
+  meant-too : (ci : ℕ) → meaning t ci row column e ≡ cellOf t ci row column e (tileAt t (cellTile s row column))
+  meant-too ci = meant-by t ci row column e grid-too ∙ ap (λ (i : ℕ). cellOf t ci row column e (tileAt t i)) tile-too
+
+  -- a cell lies in its element's content
+  offset-inside : offsetIn s row column e + cellSize (element s e .kind) ≤ elementBytes s e
+  offset-inside =
+      let r = sound-range s (records s) o in
+      offset-within s row column e (omega (arith, r .sides .tile-rows .0)) (omega (arith, r .sides .tile-columns .0))
+
+  -- a tile that is not stored
+  absent : tilesOf t (cellTile s row column) ≡ [] → tileAt t (cellTile s row column) ≡ Nothing
+  unfolding tilesOf
+  absent h = go (tileAt t (cellTile s row column)) refl h
+    where
+      go : (f : Found) → tileAt t (cellTile s row column) ≡ f → contentsOf t f ≡ [] → tileAt t (cellTile s row column) ≡ Nothing
+      go Nothing i z = i
+      go (At x) i z = absurd (contents-some t x (omega (arith, asked-too)) z)
+
+  filled : (ci : ℕ) → tileAt t (cellTile s row column) ≡ Nothing → meaning t ci row column e ≡ fillOf s e
+  unfolding fillOf
+  filled ci h = meant-too ci ∙ ap (cellOf t ci row column e) h ∙ rw (← element-too) refl
+
+  -- one that is: its record, and the element's content there
+  record Stands (c : List ℕ) : Type 0 where
+    start : ℕ
+    found : tileAt t (cellTile s row column) ≡ At start
+    content : Content t start e
+    is : c ≡ getD (contentsIn t start) e []
+
+  stands : (c : List ℕ) → c ≡ getD (tilesOf t (cellTile s row column)) e [] → (tilesOf t (cellTile s row column) ≡ [] → ⊥) → Stands c
+  unfolding tilesOf
+  stands c f h = go (tileAt t (cellTile s row column)) refl f h
+    where
+      go : (w : Found) → tileAt t (cellTile s row column) ≡ w → c ≡ getD (contentsOf t w) e [] → (contentsOf t w ≡ [] → ⊥) → Stands c
+      go Nothing i z y = absurd (y refl)
+      go (At x) i z y = record { start = x; found = i; content = content-of t q _ x e i asked-too; is = z }
+
+  module _ (c : List ℕ) (w : Stands c) where
+    abbrev x : ℕ
+    x = w .start
+
+    long-is : length c ≡ sectionLength t x e
+    long-is = ap length (w .is) ∙ w .content .long
+
+    read-in : (ci : ℕ) → meaning t ci row column e ≡ cellIn t ci x row column e
+    read-in ci = meant-too ci ∙ ap (cellOf t ci row column e) (w .found)
+
+    -- whole, the cell's bytes are in it
+    bits-in : elementBytes s e ≤ length c → numberAt (cellSize (element s e .kind)) t (elementContentAt t x e + offsetIn s row column e) ≡ numberAt (cellSize (element s e .kind)) c (offsetIn s row column e)
+    bits-in l =
+        let z = cellSize (element s e .kind) in
+        let m = content-moved (w .content) c (w .is) in
+        let n : 0 + offsetIn s row column e ≡ offsetIn s row column e = omega arith in
+        offset-number m (offset-of (elementContentAt t x e) 0 (offsetIn s row column e)) z (omega (arith, offset-inside, long-is)) ∙ ap (numberAt z c) n
+
+    stored-by :
+        (ci : ℕ) → elementBytes s e ≤ length c →
+        meaning t ci row column e
+        ≡ cell.Stored (valueOf (element s e .kind) (numberAt (cellSize (element s e .kind)) c (offsetIn s row column e))) (elementContentAt t x e + offsetIn s row column e)
+    unfolding storedAt placeIn
+    stored-by ci l =
+        read-in ci ∙ whole-in t ci x row column e (omega (arith, size-too, long-is)) ∙ rw (← element-too, ← offset-too, bits-in l) refl
+
+    -- compressed, it says what its bytes say
+    unpackable-by : (ci : ℕ) → unpackable t ci x e ≡ canUnpack (element s e .kind) ci c
+    unfolding unpackable canUnpack
+    unpackable-by ci =
+        let m = content-moved (w .content) c (w .is) in
+        let a = offset-byte m (offset-of (elementContentAt t x e) 0 0) (omega (arith, w .content .some-bytes)) in
+        let b : elementContentAt t x e + 0 ≡ elementContentAt t x e = omega arith in
+        let d : byteAt t (elementContentAt t x e) ≡ byteAt c 0 = ap (byteAt t) (sym b) ∙ a in
+        rw (d, ← element-too) refl
+
+    unpacked-by : unpackedIn t x e ≡ unpacked c (tileRows s) (tileColumns s) (eqb (element s e .kind) shortKind)
+    unfolding unpackedIn
+    unpacked-by = rw (← w .content .is, ← w .is, ← tile-rows s t j, ← tile-columns s t j, ← element-too) refl
+
+    packed-by :
+        (ci : ℕ) → length c < elementBytes s e →
+        meaning t ci row column e
+        ≡ pick (canUnpack (element s e .kind) ci c)
+        (unpackedCell (element s e .kind) x (elementContentAt t x e)
+        (cellAt (unpacked c (tileRows s) (tileColumns s) (eqb (element s e .kind) shortKind)) (cellInside s row column)))
+        (cell.Refused (refusal.Compressed x))
+    unfolding packedCell
+    packed-by ci h =
+        read-in ci ∙ packed-in t ci x row column e (omega (arith, size-too, long-is))
+        ∙ rw (unpackable-by ci, unpacked-by, ← element-too, ← number-too) refl
+
+    cell-by : (ci : ℕ) → meaning t ci row column e ≡ cellFrom s ci c x (elementContentAt t x e) row column e
+    unfolding cellFrom
+    cell-by ci = go (leb (elementBytes s e) (length c)) refl
+      where
+        go : (b : Bool) → leb (elementBytes s e) (length c) ≡ b → meaning t ci row column e ≡ cellFrom s ci c x (elementContentAt t x e) row column e
+        go true z = rw z (stored-by ci (leb-true _ _ z))
+        go false z = let y : length c < elementBytes s e = leb-false _ _ z in rw z (packed-by ci y)
+
+-- outside the grid
+
+outside-is : (t : List ℕ) (ci row column e : ℕ) → inGrid t row column e ≡ false → meaning t ci row column e ≡ cell.Refused refusal.OutsideGrid
+unfolding meaning cellBy
+outside-is t ci row column e h = rw h
+
+-- a tile whose record stays
+
+module _ (s t : List ℕ) (o : Sound s) (q : Sound t) (j : SameJudged s t) (row column e : ℕ) (g : inGrid s row column e ≡ true) where
+  self : SameJudged s s
+  self = judged-trans j (judged-sym j)
+
+  module _ (w : BothAt s t (cellTile s row column)) where
+    abbrev start : ℕ
+    start = w .start
+
+    abbrev first : List ℕ
+    first = getD (contentsIn s start) e []
+
+    content-first : Content s start e
+    content-first = content-of s o _ start e (w .first) (asked s t o q j row column e g)
+
+    content-second : Content t start e
+    content-second = content-of t q _ start e (w .second) (asked-too s t o q j row column e g)
+
+    says : SameTile s start t start
+    says =
+        let m = meant-is s _ start (sym (walked-is s (cellTile s row column)) ∙ w .first) in
+        tile-alone s start t start (w .same) (sound-tile s o (m .among))
+
+    place-same : elementContentAt t start e ≡ elementContentAt s start e
+    place-same = omega (arith, says .places e)
+
+    content-same : first ≡ getD (contentsIn t start) e []
+    content-same = content-first .is ∙ says .contents e (asked s t o q j row column e g) ∙ sym (content-second .is)
+
+    both-same : (ci : ℕ) → meaning t ci row column e ≡ meaning s ci row column e
+    both-same ci =
+        cell-by s t o q j row column e g first (record { start = start; found = w .second; content = content-second; is = content-same }) ci
+        ∙ ap (λ (a : ℕ). cellFrom s ci first start a row column e) place-same
+        ∙ sym (cell-by s s o o self row column e g first (record { start = start; found = w .first; content = content-first; is = refl }) ci)
+
+  stays-same : (ci : ℕ) → recordOfTile t (cellTile s row column) ≡ recordOfTile s (cellTile s row column) → meaning t ci row column e ≡ meaning s ci row column e
+  stays-same ci h =
+      ⊎-elim (λ a. filled s t o q j row column e g ci (a .1) ∙ sym (filled s s o o self row column e g ci (a .0))) (λ w. both-same w ci)
+      (tile-stays s t o q (cellTile s row column) h)
+
+reads-as :
+    (s t : List ℕ) → Sound s → Sound t → (named : ℕ → Bool) (tiles : ℕ → List (List ℕ)) → Follows s t named tiles → (ci row column e : ℕ) →
+    ReadsAs s t named tiles ci row column e
+unfolding contentIn
+reads-as s t o q named tiles f ci row column e =
+    let j = sound-judged o (f .header) in
+    let m = f .map-of (cellTile s row column) in
+    record {
+      outside = λ g. outside-is t ci row column e (out j g);
+      fill = λ g h. filled s t o q j row column e g ci (absent s t o q j row column e g (m ∙ h));
+      held =
+          λ g h.
+          let c = getD (tiles (cellTile s row column)) e [] in
+          let w = stands s t o q j row column e g c (ap (λ (r : List (List ℕ)). getD r e []) (sym m)) (λ z. h (sym m ∙ z)) in
+          record { start = w .start; found = w .found; reads = cell-by s t o q j row column e g c w ci };
+      kept = λ n. go j n (inGrid s row column e) refl;
+    }
+  where
+    out : SameJudged s t → inGrid s row column e ≡ false → inGrid t row column e ≡ false
+    out j g = rw (grid-same s t j o row column e) at g
+
+    go : SameJudged s t → named (cellTile s row column) ≡ false → (b : Bool) → inGrid s row column e ≡ b → meaning t ci row column e ≡ meaning s ci row column e
+    go j n true g = stays-same s t o q j row column e g ci (f .records (cellTile s row column) n)
+    go j n false g = outside-is t ci row column e (out j g) ∙ sym (outside-is s ci row column e g)
+
+pub cells : Cells
+cells b n v h calls g =
+    let k = sequence b n v h calls g in
+    let t = pageOf (afterAll calls (record { buffer = b; long = n })) in
+    let q = page-sound t (k .page) in
+    record {
+      routes = λ a ci. demand-3 t a ci;
+      ways = λ ci. sound-cells t q ci;
+      cells = λ ci row column e. reads-as (pageIn b n) t (page-sound (pageIn b n) h) q _ _ (k .follows) ci row column e;
+    }

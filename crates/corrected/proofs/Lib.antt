@@ -1,0 +1,5 @@
+pub mod PageBytes
+pub mod SequenceLaws
+pub mod RefusalLaws
+pub mod CellLaws
+pub mod SampleLaws

@@ -1,0 +1,83 @@
+-- Req 03: how the cells of a corrected page read. s is the page before the calls, t the page now, `named` are the tiles that the calls
+-- name, `tiles` is the map; e is an element, and the cell is at a row and a column.
+use Prim.Native.Nat.{ℕ, _+_}
+use mathlib.Core.Path.{_≡_}
+use mathlib.Core.Bool.{Bool, true, false}
+use mathlib.Core.List.{List, [], _∷_}
+use lib.ListN.{length, getD}
+use lib.Dec.{eqb, leb}
+use Rattle.wire.specs.Pick.{pick}
+use Rattle.wire.specs.Tests.{_≤?_, _≡?_, _≢?_, passes}
+use Rattle.wire.specs.Bytes.{Bytes, byteAt, numberAt}
+use Rattle.record.specs.declared.Found.the-variants.{At}
+use Rattle.header.specs.Fields.{tileRows, tileColumns}
+use Rattle.header.specs.Element.{element, cellSize, floatKind, shortKind}
+use Rattle.geometry.specs.Tiles.{cellTile, cellInside}
+use Rattle.geometry.specs.Sizes.{elementBytes}
+use Rattle.bodies.specs.TileRecord.{elementContentAt}
+use Rattle.answer.specs.Values.{valueOf}
+use Rattle.answer.specs.declared.Refusal.the-variants.{OutsideGrid, Compressed}
+use Rattle.answer.specs.declared.Cell.{Cell}
+use Rattle.answer.specs.declared.Cell.the-variants as cell
+use Rattle.answer.specs.declared.Verdict.the-variants.{Accepted}
+use Rattle.unpack.specs.Unpack.{cellAt, unpacked}
+use Rattle.page_check.specs.Stages.{check}
+use Rattle.cells.specs.Asked.{inGrid}
+use Rattle.cells.specs.TileCells.{fillOf, offsetIn, unpackedCell}
+use Rattle.cells.specs.Meaning.{meaning}
+use Rattle.cells.specs.Demand3.{OneAnswer, OneMeaning}
+use Rattle.correct.specs.Front.{pageIn}
+use Rattle.correct.specs.Storing.{tileAt}
+use Rattle.page_laws.specs.Tiles.{tilesOf}
+use Rattle.corrected.specs.Sequence.{Call, State, AllGiven, AcceptedOrOpen, pageOf, afterAll, mapAfterAll, namedAfterAll}
+
+-- what the map gives for element e of a tile: its bytes as they are stored
+unfoldable pub contentIn : (ℕ → List (List ℕ)) → ℕ → ℕ → List ℕ
+contentIn tiles tile e = getD (tiles tile) e []
+
+-- Req 01: a compressed content is unpacked where its first byte is the compressor index that the caller names, and the element is no
+-- Float
+unfoldable pub canUnpack : ℕ → ℕ → List ℕ → Bool
+canUnpack kind ci c = passes ((ci ≤? 255) ∷ (byteAt c 0 ≡? ci) ∷ (kind ≢? floatKind) ∷ [])
+
+-- what the bytes c of element e's content say of a cell, where they stand at `at` in a tile record that starts at x: as many as the
+-- element has uncompressed, the cell is stored, its bits and its place at its offset among them; fewer, it is unpacked from them, or is
+-- refused with 11 or 14 at x
+unfoldable pub cellFrom : List ℕ → ℕ → List ℕ → ℕ → ℕ → ℕ → ℕ → ℕ → Cell
+cellFrom s ci c x at row column e =
+    pick (leb (elementBytes s e) (length c))
+    (cell.Stored (valueOf (element s e .kind) (numberAt (cellSize (element s e .kind)) c (offsetIn s row column e))) (at + offsetIn s row column e))
+    (pick (canUnpack (element s e .kind) ci c)
+    (unpackedCell (element s e .kind) x at (cellAt (unpacked c (tileRows s) (tileColumns s) (eqb (element s e .kind) shortKind)) (cellInside s row column)))
+    (cell.Refused (Compressed x)))
+
+-- a cell of a tile that the map has: the tile's record stands in t, and the map's bytes say what the cell is
+pub record HeldAs (s t : List ℕ) (tiles : ℕ → List (List ℕ)) (ci row column e : ℕ) : Type 0 where
+  pub start : ℕ
+  pub found : tileAt t (cellTile s row column) ≡ At start
+  pub reads :
+      meaning t ci row column e ≡ cellFrom s ci (contentIn tiles (cellTile s row column) e) start (elementContentAt t start e) row column e
+
+pub record ReadsAs (s t : List ℕ) (named : ℕ → Bool) (tiles : ℕ → List (List ℕ)) (ci row column e : ℕ) : Type 0 where
+  -- outside the grid: 10
+  pub outside : inGrid s row column e ≡ false → meaning t ci row column e ≡ cell.Refused OutsideGrid
+  -- a tile that the map has not: the element's fill
+  pub fill : inGrid s row column e ≡ true → tiles (cellTile s row column) ≡ [] → meaning t ci row column e ≡ fillOf s e
+  -- a tile that it has
+  pub held : inGrid s row column e ≡ true → (tiles (cellTile s row column) ≡ [] → ⊥) → HeldAs s t tiles ci row column e
+  -- a tile that no call names: as it was, value, place and refusal
+  pub kept : named (cellTile s row column) ≡ false → meaning t ci row column e ≡ meaning s ci row column e
+
+-- after any calls every way to a tile's record gives the cell's meaning, where the page is accepted again every read does, and the
+-- meaning goes by the map
+pub record Read (s t : List ℕ) (named : ℕ → Bool) (tiles : ℕ → List (List ℕ)) : Type 0 where
+  pub routes : check t ≡ Accepted → (ci : ℕ) → OneAnswer t ci
+  pub ways : (ci : ℕ) → OneMeaning t ci
+  pub cells : (ci row column e : ℕ) → ReadsAs s t named tiles ci row column e
+
+abbrev pub Cells : Type 0
+Cells =
+    (b : List ℕ) (n : ℕ) → Bytes b → AcceptedOrOpen (pageIn b n) → (calls : List Call) → AllGiven calls →
+    let start : State = record { buffer = b; long = n } in
+    Read (pageIn b n) (pageOf (afterAll calls start)) (namedAfterAll calls start (λ j. false))
+    (mapAfterAll (pageIn b n) calls start (tilesOf (pageIn b n)))

@@ -1,0 +1,60 @@
+-- Req 03 and Req 05, samples on document 01's page of the listing: a 3 by 3 grid with 2 by 2 tiles and one Short, header to 336, tile 2
+-- at 336, tile directory at 368, 424 bytes.
+use Prim.Native.Nat.{ℕ}
+use mathlib.Core.Path.{_≡_}
+use mathlib.Core.List.{List, [], _∷_, map}
+use mathlib.Core.Bool.{Bool, true, false}
+use lib.ListN.{length, drop}
+use Rattle.wire.specs.Bytes.{u32At, part, put}
+use Rattle.header.specs.Fields.{fileSpaceReference}
+use Rattle.answer.specs.declared.Verdict.the-variants.{Accepted}
+use Rattle.page_check.specs.Stages.{check}
+use Rattle.sample_page.specs.Page.{file, cells}
+use Rattle.pieces.specs.Pieces.{freeRecord}
+use Rattle.pieces.specs.Edits.{takes}
+use Rattle.stores.specs.Stores.{storeCount, run}
+use Rattle.writable.specs.Writable.{openForWriting}
+use Rattle.correct.specs.Opening.{openedPage}
+use Rattle.correct.specs.Storing.{storedAt, storedPage}
+use Rattle.correct.specs.Removing.{removedPage}
+use Rattle.correct.specs.Closing.{closedPage}
+use Rattle.correct.specs.Writes.{openWrites, closeWrites}
+
+-- the page opened with 9
+abbrev pub opened : List ℕ
+opened = openedPage file 9
+
+-- and then tile 2 removed
+abbrev pub removed : List ℕ
+removed = removedPage opened 2
+
+-- a free record of so many bytes takes a record of 32
+abbrev pub takes32 : ℕ → Bool
+takes32 n = takes 32 (freeRecord 1 n)
+
+pub record Sampled : Type 0 where
+  -- opening changes byte 48 and the header's checksum; the page is open for writing
+  pub opened-front : part opened 0 332 ≡ part (put file 48 (9 ∷ [])) 0 332
+  pub opened-rest : drop 336 opened ≡ drop 336 file
+  pub opened-open : openForWriting opened ≡ true
+  -- tile 0 stored goes to the end; its reference is 54
+  pub stored-long : length (storedPage opened 0 cells) ≡ 456
+  pub stored-reference : u32At (storedPage opened 0 cells) 400 ≡ 54
+  pub stored-open : openForWriting (storedPage opened 0 cells) ≡ true
+  -- tile 2 removed leaves a free record of 32 bytes at 336, its reference zero
+  pub removed-head : part removed 336 8 ≡ 32 ∷ 0 ∷ 0 ∷ 0 ∷ 0 ∷ 0 ∷ 0 ∷ 0 ∷ []
+  pub removed-reference : u32At removed 408 ≡ 0
+  pub removed-open : openForWriting removed ≡ true
+  -- tile 3 stored takes it
+  pub again : storedAt removed 3 ≡ 336
+  -- closing lists it in a directory of 32 bytes behind the page; the file is accepted
+  pub closed-long : length (closedPage removed 7) ≡ 456
+  pub closed-reference : fileSpaceReference (closedPage removed 7) ≡ 432
+  pub closed-accepted : check (closedPage removed 7) ≡ Accepted
+  -- a free record of 32, 48 or 56 bytes takes a record of 32, one of 40 does not
+  pub taken : map takes32 (32 ∷ 40 ∷ 48 ∷ 56 ∷ []) ≡ true ∷ false ∷ true ∷ true ∷ []
+  -- Req 05: opened with 0x0100 and closed with 7, 20 stores each; the opening's stores make the page, and so do the closing's
+  pub open-stores : storeCount (openWrites file 424 256) ≡ 20
+  pub open-run : run (openWrites file 424 256) file ≡ openedPage file 256
+  pub close-stores : storeCount (closeWrites (openedPage file 256) 424 7) ≡ 20
+  pub close-run : run (closeWrites (openedPage file 256) 424 7) (openedPage file 256) ≡ closedPage (openedPage file 256) 7

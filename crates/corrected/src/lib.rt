@@ -1,0 +1,1 @@
+// What the calls that correct a page make of it: definitions and proofs, no code.

@@ -1,0 +1,4 @@
+pub mod AfterLaws
+pub mod JoinLaws
+pub mod SpotLaws
+pub mod StoredLaws

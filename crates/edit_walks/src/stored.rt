@@ -1,0 +1,87 @@
+// What is asked of a tile before it is stored or removed, and of a page before it is closed.
+use bodies::tile_record;
+use cells::Route;
+use cells::routes;
+use geometry::sizes;
+use header::fields;
+use record::Found;
+use record::chain;
+ghost use mathlib.Core.Path.{_≡_};
+ghost use Prim.Native.Nat.{_<_};
+ghost use lib.ListN.{length};
+ghost use Rattle.correct.specs.Storing.{tileAt, isPlain};
+ghost use Rattle.correct.specs.Removing.{isThere};
+ghost use Rattle.correct.specs.Closing.{anyFree};
+ghost use Rattle.edit_walks.specs.Walks.{overAt};
+ghost use Rattle.edit_walks.specs.Runs.{plainElement};
+
+// The tile's record.
+fn tile_at(s: &[u8], tile: u32) -> Found
+    ensures { λ r. ⌜ r ≡ tileAt (now (s .entry)) tile ⌝ }
+{
+    routes::found_by(s, Route::Walk(chain::header_end(s)), tile)
+}
+
+// Whether an element of the tile record at x is uncompressed.
+fn is_plain_element(s: &[u8], x: usize, e: u32) -> bool
+    requires { ⌜ x < length (now s) ⌝ }
+    ensures { λ r. ⌜ r ≡ plainElement (now (s .entry)) x e ⌝ }
+{
+    let l = wire::u32_at(s, tile_record::section_start(s, x, e)) as u64;
+    if l != sizes::element_bytes(s, e as usize) {
+        return false;
+    }
+    true
+}
+
+// Whether all of them are.
+fn is_plain(s: &[u8], x: usize) -> bool
+    requires { ⌜ x < length (now s) ⌝ }
+    ensures { λ r. ⌜ r ≡ isPlain (now (s .entry)) x ⌝ }
+{
+    let n = fields::element_count(s);
+    let mut e = 0;
+    while e < n {
+        if is_plain_element(s, x, e) {
+            e += 1;
+        } else {
+            return false;
+        }
+    }
+    true
+}
+
+// The tile's record, if it is stored over.
+pub fn stored_over(s: &[u8], tile: u32) -> Found
+    ensures { λ r. ⌜ r ≡ overAt (now (s .entry)) tile ⌝ }
+{
+    match tile_at(s, tile) {
+        Found::Nothing => Found::Nothing,
+        Found::At(x) => {
+            if is_plain(s, x) {
+                return Found::At(x);
+            }
+            Found::Nothing
+        }
+    }
+}
+
+// Whether the tile has a record.
+pub fn is_there(s: &[u8], tile: u32) -> bool
+    ensures { λ r. ⌜ r ≡ isThere (now (s .entry)) tile ⌝ }
+{
+    if let Found::At(_) = tile_at(s, tile) {
+        return true;
+    }
+    false
+}
+
+// Whether the page has a free record.
+pub fn any_free(s: &[u8]) -> bool
+    ensures { λ r. ⌜ r ≡ anyFree (now (s .entry)) ⌝ }
+{
+    if chain::record_count(s, record::FREE) == 0 {
+        return false;
+    }
+    true
+}

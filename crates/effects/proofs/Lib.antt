@@ -1,0 +1,15 @@
+pub mod MadeLaws
+pub mod LieLaws
+pub mod SwapLaws
+pub mod PassedLaws
+pub mod InsideEffects
+pub mod FreeingEffects
+pub mod FrontEffects
+pub mod BufferEffects
+pub mod OnlyLaws
+pub mod PlaceEffects
+pub mod DirectoryStands
+pub mod RecordEffects
+pub mod StoreEffects
+pub mod OpenEffects
+pub mod CloseEffects

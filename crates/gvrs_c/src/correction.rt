@@ -1,0 +1,56 @@
+// A page corrected where it lies.
+ghost use mathlib.Core.Path.{_≡_};
+ghost use mathlib.Core.List.{[], _∷_};
+ghost use Rattle.answer.specs.Answers.{laidNumber};
+ghost use Rattle.correct.specs.Answers.{openAnswer, storeAnswer, removeAnswer, closeAnswer, openOut, storeOut, removeOut, closeOut};
+ghost use Rattle.gvrs_c.specs.Report.{reported, laidReport};
+
+// Opens the page in the first n bytes of the buffer for writing.
+#[no_mangle]
+pub extern "C" fn gvrs_open_page(file: &mut [u8], n: u64, time: u64, out: &mut [u64]) -> u32
+    ensures number { λ r. ⌜ r ≡ laidNumber (openAnswer (now (file .entry)) n time) ⌝ }
+    ensures length { λ _. ⌜ now (out .exit) ≡ reported (laidReport (openAnswer (now (file .entry)) n time) ∷ []) (now (out .entry)) ⌝ }
+    ensures buffer { λ _. ⌜ now (file .exit) ≡ openOut (now (file .entry)) n time ⌝ }
+{
+    let x = calls::open_page(file, n as usize, time);
+    crate::tell_laid(x, out)
+}
+
+// Stores a tile, whole and uncompressed, in the open page.
+#[no_mangle]
+pub extern "C" fn gvrs_store_tile(
+    file: &mut [u8],
+    n: u64,
+    tile: u64,
+    cells: &[u8],
+    out: &mut [u64],
+) -> u32
+    ensures number { λ r. ⌜ r ≡ laidNumber (storeAnswer (now (file .entry)) n tile (now (cells .entry))) ⌝ }
+    ensures length { λ _. ⌜ now (out .exit) ≡ reported (laidReport (storeAnswer (now (file .entry)) n tile (now (cells .entry))) ∷ []) (now (out .entry)) ⌝ }
+    ensures buffer { λ _. ⌜ now (file .exit) ≡ storeOut (now (file .entry)) n tile (now (cells .entry)) ⌝ }
+{
+    let x = calls::store_tile(file, n as usize, tile, cells);
+    crate::tell_laid(x, out)
+}
+
+// Removes a tile of the open page.
+#[no_mangle]
+pub extern "C" fn gvrs_remove_tile(file: &mut [u8], n: u64, tile: u64, out: &mut [u64]) -> u32
+    ensures number { λ r. ⌜ r ≡ laidNumber (removeAnswer (now (file .entry)) n tile) ⌝ }
+    ensures length { λ _. ⌜ now (out .exit) ≡ reported (laidReport (removeAnswer (now (file .entry)) n tile) ∷ []) (now (out .entry)) ⌝ }
+    ensures buffer { λ _. ⌜ now (file .exit) ≡ removeOut (now (file .entry)) n tile ⌝ }
+{
+    let x = calls::remove_tile(file, n as usize, tile);
+    crate::tell_laid(x, out)
+}
+
+// Closes the open page.
+#[no_mangle]
+pub extern "C" fn gvrs_close_page(file: &mut [u8], n: u64, time: u64, out: &mut [u64]) -> u32
+    ensures number { λ r. ⌜ r ≡ laidNumber (closeAnswer (now (file .entry)) n time) ⌝ }
+    ensures length { λ _. ⌜ now (out .exit) ≡ reported (laidReport (closeAnswer (now (file .entry)) n time) ∷ []) (now (out .entry)) ⌝ }
+    ensures buffer { λ _. ⌜ now (file .exit) ≡ closeOut (now (file .entry)) n time ⌝ }
+{
+    let x = calls::close_page(file, n as usize, time);
+    crate::tell_laid(x, out)
+}

@@ -1,0 +1,11 @@
+pub mod EntryLaws
+pub mod ReferenceLaws
+pub mod AgainLaws
+pub mod HeldLaws
+pub mod EditLaws
+pub mod NewLaws
+pub mod StoredLaws
+pub mod RemovedLaws
+pub mod CellLaws
+pub mod BesideLaws
+pub mod OverLaws

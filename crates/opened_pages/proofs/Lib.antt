@@ -1,0 +1,4 @@
+pub mod FrontLaws
+pub mod PieceLaws
+pub mod DirectoryLaws
+pub mod OpenedLaws

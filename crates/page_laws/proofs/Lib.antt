@@ -1,0 +1,9 @@
+pub mod FrontLaws
+pub mod TileMapLaws
+pub mod TileRecordLaws
+pub mod MapLaws
+pub mod MoreLaws
+pub mod ListedLaws
+pub mod FormLaws
+pub mod TilesKeptLaws
+pub mod PageLaws
