@@ -214,6 +214,19 @@ uint32_t gvrs_remove_tile(uint8_t *file, uint64_t file_n, uint64_t n, uint64_t t
    directory goes to the page's end: 13 or 4. */
 uint32_t gvrs_close_page(uint8_t *file, uint64_t file_n, uint64_t n, uint64_t time, uint64_t *out, uint64_t out_n);
 
+/* The four calls, each stopped after a number of byte stores: what stands in the buffer where the power is cut. Each answers as the call
+   does: 0, and out[0] is the length that the whole call reaches, or the refusal's number and its place. out[1] is the number of byte stores
+   that it has made, at most `stores`, and 0 where it is refused. The buffer holds what the call's first stores make of it; one more changes
+   one byte at most. Given enough of them it is the call.
+
+   For one opening, any calls, and one closing that is not refused, on an accepted file: before the first store the page is the old one;
+   after the last it is the new one; after any other number gvrs_check refuses it with 5, at every length from the header's end on. */
+uint32_t gvrs_open_page_stopped(uint8_t *file, uint64_t file_n, uint64_t n, uint64_t time, uint64_t stores, uint64_t *out, uint64_t out_n);
+uint32_t gvrs_store_tile_stopped(uint8_t *file, uint64_t file_n, uint64_t n, uint64_t tile, const uint8_t *cells, uint64_t cells_n,
+                                 uint64_t stores, uint64_t *out, uint64_t out_n);
+uint32_t gvrs_remove_tile_stopped(uint8_t *file, uint64_t file_n, uint64_t n, uint64_t tile, uint64_t stores, uint64_t *out, uint64_t out_n);
+uint32_t gvrs_close_page_stopped(uint8_t *file, uint64_t file_n, uint64_t n, uint64_t time, uint64_t stores, uint64_t *out, uint64_t out_n);
+
 /* The listing of a file, as text: its length. `text` takes it where it fits, and what stands behind it stays; else `text` is as it
    was. A file over 65,536 bytes lists as `too long`. */
 uint64_t gvrs_list(const uint8_t *file, uint64_t n, uint8_t *text, uint64_t text_n);

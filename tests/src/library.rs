@@ -167,7 +167,6 @@ extern "C" {
     ) -> u32;
 }
 
-#[cfg(feature = "stopped")]
 extern "C" {
     fn gvrs_open_page_stopped(
         file: *mut u8,
@@ -462,7 +461,6 @@ pub fn correct_into(file: &mut [u8], n: u64, call: &Call, out: &mut [u64]) -> u3
 }
 
 /// The same, stopped after so many byte stores. Their number goes into `out` too.
-#[cfg(feature = "stopped")]
 pub fn correct_stopped_into(
     file: &mut [u8],
     n: u64,

@@ -2,3 +2,4 @@
 -- The pages stand in the order in which to read them.
 pub mod Layouts
 pub mod Opens
+pub mod Stopped

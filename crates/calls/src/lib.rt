@@ -11,11 +11,11 @@ mod lengths;
 pub mod opening;
 mod reading;
 pub mod removing;
+pub mod stops;
 pub mod storing;
 pub mod verdicts;
 
 use answer::Laid;
-use answer::Verdict;
 ghost use mathlib.Core.Path.{_≡_};
 ghost use Rattle.correct.specs.Answers.{openAnswer, storeAnswer, removeAnswer, closeAnswer, openOut, storeOut, removeOut, closeOut};
 
@@ -37,6 +37,12 @@ struct Grid {
     pub count: u32,
 }
 
+// What a call that stops answers: what the call does, and how many byte stores it has made.
+pub struct StoppedCall {
+    pub answer: Laid,
+    pub made: usize,
+}
+
 // More byte stores than any call makes.
 const ALL: usize = 18446744073709551615;
 
@@ -45,14 +51,8 @@ pub fn open_page(buf: &mut [u8], n: usize, time: u64) -> Laid
     ensures answer { λ r. ⌜ r ≡ openAnswer (now (buf .entry)) n time ⌝ }
     ensures buffer { λ _. ⌜ now (buf .exit) ≡ openOut (now (buf .entry)) n time ⌝ }
 {
-    match verdicts::open_verdict(buf, n, time) {
-        Verdict::Refused(r) => Laid::Refused(r),
-        Verdict::Accepted => {
-            let m = lengths::opened_length(wire::part_of(buf, 0, n));
-            opening::open_page_cut(buf, n, time, ALL);
-            Laid::Length(m)
-        }
-    }
+    let x = stops::open_page_stopped(buf, n, time, ALL);
+    x.answer
 }
 
 // Stores a whole tile, uncompressed: its index, and the cell bytes of all elements in order, no lengths, no padding.
@@ -60,14 +60,8 @@ pub fn store_tile(buf: &mut [u8], n: usize, tile: u64, cells: &[u8]) -> Laid
     ensures answer { λ r. ⌜ r ≡ storeAnswer (now (buf .entry)) n tile (now (cells .entry)) ⌝ }
     ensures buffer { λ _. ⌜ now (buf .exit) ≡ storeOut (now (buf .entry)) n tile (now (cells .entry)) ⌝ }
 {
-    match verdicts::store_verdict(buf, n, tile, cells) {
-        Verdict::Refused(r) => Laid::Refused(r),
-        Verdict::Accepted => {
-            let m = lengths::stored_length(wire::part_of(buf, 0, n), tile as u32);
-            storing::store_tile_cut(buf, n, tile as u32, cells, ALL);
-            Laid::Length(m)
-        }
-    }
+    let x = stops::store_tile_stopped(buf, n, tile, cells, ALL);
+    x.answer
 }
 
 // Removes a tile. One that is absent stays so.
@@ -75,13 +69,8 @@ pub fn remove_tile(buf: &mut [u8], n: usize, tile: u64) -> Laid
     ensures answer { λ r. ⌜ r ≡ removeAnswer (now (buf .entry)) n tile ⌝ }
     ensures buffer { λ _. ⌜ now (buf .exit) ≡ removeOut (now (buf .entry)) n tile ⌝ }
 {
-    match verdicts::remove_verdict(buf, n, tile) {
-        Verdict::Refused(r) => Laid::Refused(r),
-        Verdict::Accepted => {
-            removing::remove_tile_cut(buf, n, tile as u32, ALL);
-            Laid::Length(n)
-        }
-    }
+    let x = stops::remove_tile_stopped(buf, n, tile, ALL);
+    x.answer
 }
 
 // Closes a page: the time modified.
@@ -89,12 +78,6 @@ pub fn close_page(buf: &mut [u8], n: usize, time: u64) -> Laid
     ensures answer { λ r. ⌜ r ≡ closeAnswer (now (buf .entry)) n time ⌝ }
     ensures buffer { λ _. ⌜ now (buf .exit) ≡ closeOut (now (buf .entry)) n time ⌝ }
 {
-    match verdicts::close_verdict(buf, n, time) {
-        Verdict::Refused(r) => Laid::Refused(r),
-        Verdict::Accepted => {
-            let m = lengths::closed_length(wire::part_of(buf, 0, n));
-            closing::close_page_cut(buf, n, time, ALL);
-            Laid::Length(m)
-        }
-    }
+    let x = stops::close_page_stopped(buf, n, time, ALL);
+    x.answer
 }

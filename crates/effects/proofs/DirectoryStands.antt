@@ -69,7 +69,7 @@ module _ (s : List ℕ) (w : Whole s (headerEnd s) (records s)) (t : tileDirecto
   unfolding pieces recordsOf
   directory-stands = pieces-standing s 5 (headerEnd s) (records s) w ∙ ap (map (λ x. (x, pieceAt s x))) directory-only
 
-  pub directory-found : List·Memᴰ (tileDirectoryAt s) (records s) × (typeAt s (tileDirectoryAt s) ≡ 5)
+  directory-found : List·Memᴰ (tileDirectoryAt s) (records s) × (typeAt s (tileDirectoryAt s) ≡ 5)
   directory-found = of-type s 5 (rw directory-only (List·Memᴰ·head refl))
 
   pub directory-ok : recordOk s (tileDirectoryAt s) ≡ true

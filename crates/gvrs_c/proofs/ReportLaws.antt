@@ -148,11 +148,21 @@ held-told s e o p q d m x y n a b u v f g h i l = (l ∙ ap heldKind u, (i ∙ r
 pub one-put : (o p : List ℕ) (a v : ℕ) → a ≡ v → p ≡ set o 0 a → p ≡ reported (v ∷ []) o
 one-put o p a v e h = h ∙ one-reported o a ∙ rw e
 
+-- two numbers of an answer
+pub two-put : (o p q : List ℕ) (a b v w : ℕ) → a ≡ v → p ≡ set o 0 a → b ≡ w → q ≡ set p 1 b → q ≡ reported (v ∷ w ∷ []) o
+two-put o p q a b v w e h f i = i ∙ rw h (two-reported o a b ∙ rw (e, f))
+
 -- the number and length, or place, of a lay-down or a correction, handed on, and what the buffer holds
 pub laid-handed :
     (o p f g : List ℕ) (x y : Laid) (n : ℕ) → x ≡ y → f ≡ g → n ≡ laidNumber x → p ≡ reported (laidReport x ∷ []) o →
     (n ≡ laidNumber y) × ((p ≡ reported (laidReport y ∷ []) o) × (f ≡ g))
 laid-handed o p f g x y n e h i j = (rw (← e) i, (rw (← e) j, h))
+
+-- and of a call that stops, with the number of stores
+pub stopped-handed :
+    (o p f g : List ℕ) (x y : Laid) (n a b : ℕ) → x ≡ y → a ≡ b → f ≡ g → n ≡ laidNumber x → p ≡ reported (laidReport x ∷ a ∷ []) o →
+    (n ≡ laidNumber y) × ((p ≡ reported (laidReport y ∷ b ∷ []) o) × (f ≡ g))
+stopped-handed o p f g x y n a b e d h i j = (rw (← e) i, (rw (← e, ← d) j, h))
 
 -- names compared
 pub compare-told :

@@ -236,7 +236,7 @@ pub extern "C" fn gvrs_content(file: &[u8], tile: u64, element: u64, out: &mut [
 }
 
 // The page's length where a lay-down or a correction is done, and the place of its refusal.
-fn laid_report(x: Laid) -> usize
+pub(crate) fn laid_report(x: Laid) -> usize
     ensures { λ r. ⌜ r ≡ laidReport x ⌝ }
 {
     match x {

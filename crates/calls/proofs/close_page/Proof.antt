@@ -1,6 +1,6 @@
 -- `calls::close_page` meets its contract. Assumes nothing.
 use native.Mathlib.Omega.{arith}
-use Rattle.calls.proofs.AnswerLaws.{close-kept, close-refused, close-made}
+use Rattle.calls.proofs.AnswerLaws.{close-whole}
 use borrow.Author.Needs.{needs}
 use Rattle.calls.proofs.close_page.Statement.{statement}
 use Rattle.calls.proofs.close_page.Tie as tie
@@ -11,11 +11,4 @@ close-page-spec =
     (tie.spec
     (λ c κs. search needs)
     (λ c. search needs)
-    (λ c. search needs)
-    (λ c κs. search needs)
-    (λ c κs. close-kept _ _ _ (c .before .before .before .before .close-verdict .ensures) (c .before .before .enum-told .given .1) (c .part-of .ensures .0))
-    (λ c κs. search needs)
-    (λ c. search needs)
-    (λ c. close-refused _ _ _ (c .before .before .before .close-verdict .ensures) _ (c .before .r .given .1))
-    (λ c. search needs)
-    (λ c. close-made _ _ _ (c .before .before .before .before .before .before .before .before .before .close-verdict .ensures) (c .before .before .before .before .before .before .before .enum-told .given .1) (record { small = λ i. omega (arith, c .before .before .before .before .before .before .before .before .before .before .before .slice-known .given i) }) (c .before .before .before .before .before .part-of .ensures .0) (c .before .before .before .before .closed-length .ensures) (c .before .before .close-page-cut .ensures .1)))
+    (λ c. (c .before .before .close-page-stopped .ensures .0, close-whole _ _ _ (record { small = λ i. omega (arith, c .before .before .before .before .slice-known .given i) }) (c .before .before .close-page-stopped .ensures .1 .1))))

@@ -1,6 +1,6 @@
 -- `calls::open_page` meets its contract. Assumes nothing.
 use native.Mathlib.Omega.{arith}
-use Rattle.calls.proofs.AnswerLaws.{open-kept, open-refused, open-made}
+use Rattle.calls.proofs.AnswerLaws.{open-whole}
 use borrow.Author.Needs.{needs}
 use Rattle.calls.proofs.open_page.Statement.{statement}
 use Rattle.calls.proofs.open_page.Tie as tie
@@ -11,11 +11,4 @@ open-page-spec =
     (tie.spec
     (λ c κs. search needs)
     (λ c. search needs)
-    (λ c. search needs)
-    (λ c κs. search needs)
-    (λ c κs. open-kept _ _ _ (c .before .before .before .before .open-verdict .ensures) (c .before .before .enum-told .given .1) (c .part-of .ensures .0))
-    (λ c κs. search needs)
-    (λ c. search needs)
-    (λ c. open-refused _ _ _ (c .before .before .before .open-verdict .ensures) _ (c .before .r .given .1))
-    (λ c. search needs)
-    (λ c. open-made _ _ _ (c .before .before .before .before .before .before .before .before .before .open-verdict .ensures) (c .before .before .before .before .before .before .before .enum-told .given .1) (record { small = λ i. omega (arith, c .before .before .before .before .before .before .before .before .before .before .before .slice-known .given i) }) (c .before .before .before .before .before .part-of .ensures .0) (c .before .before .before .before .opened-length .ensures) (c .before .before .open-page-cut .ensures .1)))
+    (λ c. (c .before .before .open-page-stopped .ensures .0, open-whole _ _ _ (record { small = λ i. omega (arith, c .before .before .before .before .slice-known .given i) }) (c .before .before .open-page-stopped .ensures .1 .1))))

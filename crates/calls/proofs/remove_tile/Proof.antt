@@ -1,6 +1,6 @@
 -- `calls::remove_tile` meets its contract. Assumes nothing.
 use native.Mathlib.Omega.{arith}
-use Rattle.calls.proofs.AnswerLaws.{remove-index, remove-refused, remove-made}
+use Rattle.calls.proofs.AnswerLaws.{remove-whole}
 use borrow.Author.Needs.{needs}
 use Rattle.calls.proofs.remove_tile.Statement.{statement}
 use Rattle.calls.proofs.remove_tile.Tie as tie
@@ -11,10 +11,4 @@ remove-tile-spec =
     (tie.spec
     (λ c κs. search needs)
     (λ c. search needs)
-    (λ c. search needs)
-    (λ c. omega (arith, remove-index _ _ _ (c .before .before .before .remove-verdict .ensures) (c .before .enum-told .given .1)))
-    (λ c κs. search needs)
-    (λ c. search needs)
-    (λ c. remove-refused _ _ _ (c .before .before .before .remove-verdict .ensures) _ (c .before .r .given .1))
-    (λ c. search needs)
-    (λ c. remove-made _ _ _ (c .before .before .before .before .before .before .remove-verdict .ensures) (c .before .before .before .before .enum-told .given .1) (record { small = λ i. omega (arith, c .before .before .before .before .before .before .before .before .slice-known .given i) }) (c .before .before .remove-tile-cut .ensures .1)))
+    (λ c. (c .before .before .remove-tile-stopped .ensures .0, remove-whole _ _ _ (record { small = λ i. omega (arith, c .before .before .before .before .slice-known .given i) }) (c .before .before .remove-tile-stopped .ensures .1 .1))))

@@ -12,7 +12,6 @@ mod refused;
 mod rooms;
 mod sample;
 mod sequences;
-#[cfg(feature = "stopped")]
 mod stopped;
 pub mod tally;
 mod times;
@@ -34,6 +33,5 @@ pub fn section(run: &mut Run, random: &mut Prng) {
     if !run.small {
         long_files::section(run, random);
     }
-    #[cfg(feature = "stopped")]
     stopped::section(run, random);
 }
