@@ -10,7 +10,7 @@ use std::process::ExitCode;
 use std::{env, fs, io};
 
 use gvrs_tests::build::{build, bytes_of, make_checksums_good, Built};
-use gvrs_tests::page::{Body, Element, Page, Tile, FLOAT, INTEGER, INTEGER_CODED, SHORT};
+use gvrs_tests::page::{Body, Element, Metadata, Page, Tile, FLOAT, INTEGER, INTEGER_CODED, SHORT};
 use gvrs_tests::second::listing::listing;
 
 fn main() -> ExitCode {
@@ -54,6 +54,9 @@ fn files() -> Vec<(&'static str, Vec<u8>)> {
         ("none-stored", bytes_of(&Page::of_sides([70, 9], [8, 5]))),
         ("out-of-order", out_of_order()),
         ("four-types", four_types()),
+        ("packed", packed()),
+        ("wide", wide()),
+        ("large-tiles", bytes_of(&Page::of_sides([4096, 4096], [512, 512]))),
         ("65535-bytes", of_length(65_536)[..65_535].to_vec()),
         ("65536-bytes", of_length(65_536)),
         ("65537-bytes", [of_length(65_536), vec![0]].concat()),
@@ -120,6 +123,50 @@ fn four_types() -> Vec<u8> {
             vec![integers.clone(), integers.clone(), floats[..length].to_vec(), shorts.clone()];
         page.insert(page.records.len(), Body::Tile(Tile { index, contents }));
     }
+    bytes_of(&page)
+}
+
+/// Scores whose fill would be one too. Tile 0 is packed by compressor index 3 and has 900 to 903 and
+/// 901 to 904; so is tile 1, by a predictor that there is not; tile 2 is packed by index 4, tile 3
+/// is absent. Checksums are off.
+fn packed() -> Vec<u8> {
+    let mut page = Page::of_sides([2, 15], [2, 4]);
+    page.checksums = false;
+    page.elements = vec![Element::new(SHORT, b"score")];
+    page.elements[0].set_range_and_fill(0, 1000, 950);
+    for (index, [compressor, predictor]) in [[3, 0], [3, 9], [4, 0]].into_iter().enumerate() {
+        let mut content = vec![compressor, predictor];
+        content.extend(900u32.to_le_bytes());
+        content.extend(7u32.to_le_bytes());
+        content.extend([0, 0b11, 0]); // a tree of one leaf, the number 1
+        let tile = Tile { index: index as u32, contents: vec![content] };
+        page.insert(page.records.len(), Body::Tile(tile));
+    }
+    let name = b"scanner".to_vec();
+    let text = Vec::new();
+    page.insert(
+        0,
+        Body::Metadata(Metadata {
+            name,
+            id: 1,
+            data_type: 8,
+            content: text.clone(),
+            description: text,
+        }),
+    );
+    page.insert(0, Body::MetadataDirectory(vec![1]));
+    bytes_of(&page)
+}
+
+/// More cells than a program may want to hold at once. Tiles 0 and 108 have numbers that differ, tile
+/// 109 is compressed.
+fn wide() -> Vec<u8> {
+    let mut page = Page::of_sides([1100, 1000], [100, 100]);
+    for index in [0, 108] {
+        let content = (0..10_000u32).flat_map(|number| (number + index).to_le_bytes()).collect();
+        page.insert(page.records.len(), Body::Tile(Tile { index, contents: vec![content] }));
+    }
+    page.insert(page.records.len(), tile(109, 10));
     bytes_of(&page)
 }
 

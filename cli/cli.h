@@ -1,0 +1,58 @@
+/* cli/cli.h: what the files of the command `gvrs` share. */
+#ifndef CLI_H
+#define CLI_H
+
+#include <inttypes.h>
+#include "gvrs.h"
+
+/* Exit status. */
+enum { DONE = 0, REFUSED = 1, FAILED = 2 };
+
+/* The longest file that the store takes, the most cells of a tile, and a compressor index that no content has. */
+enum { LONGEST = 16777216, TILE_CELLS = 524288, NO_COMPRESSOR = 256 };
+
+/* What a command is given. */
+struct request {
+    char *words[6];       /* FILE and the others, as they stand */
+    uint32_t compressor;  /* NO_COMPRESSOR where none is named */
+    uint64_t time;        /* milliseconds since 1970 */
+};
+
+/* The file that the command is about: room for the longest and a byte more, so that a longer one is refused too. */
+struct page {
+    const char *name;
+    uint64_t n;
+    uint8_t bytes[LONGEST + 1];
+};
+extern struct page page;
+
+/* Says on standard error what went wrong, or which refusal was given of the page, with a note behind it where there is one: the exit
+   status. */
+__attribute__((format(printf, 1, 2))) int failed(const char *format, ...);
+int refused(uint32_t number, uint64_t place, const char *note);
+
+/* Reads digits alone, of a number up to `most`: whether that is all there is. */
+int read_number(const char *text, uint64_t most, uint64_t *number);
+
+/* The same for an argument; where it is no such number, says so. DONE or FAILED. */
+int number_given(const char *what, const char *text, uint64_t most, uint64_t *number);
+
+/* Reads a file whole, or its first `room` bytes: DONE or FAILED. */
+int read_stream(int stream, const char *name, uint8_t *bytes, uint64_t room, uint64_t *n);
+int read_file(const char *name, uint8_t *bytes, uint64_t room, uint64_t *n);
+int read_page(const char *name);
+
+/* The element that an argument names by its number or its name: DONE, REFUSED or FAILED. */
+int element_given(const char *text, uint64_t *element);
+
+/* The commands. Each gives the exit status. */
+int run_check(const struct request *request);
+int run_info(const struct request *request);
+int run_cell(const struct request *request);
+int run_tile(const struct request *request);
+int run_cells(const struct request *request);
+int run_deed(const struct request *request);
+int run_store(const struct request *request);
+int run_remove(const struct request *request);
+
+#endif

@@ -1,0 +1,147 @@
+/* cli/gvrs.c: the command `gvrs`: its commands, what each is given, and help. docs/CALLING.md shows it in use. */
+#include <errno.h>
+#include <stdio.h>
+#include <string.h>
+#include <time.h>
+#include "cli.h"
+
+/* The options that a command takes. */
+enum { COMPRESSOR = 1, TIME = 2 };
+
+struct command {
+    const char *name;
+    const char *arguments;
+    int count; /* of arguments */
+    int options;
+    int (*run)(const struct request *request);
+    const char *help;
+};
+
+static const struct command COMMANDS[] = {
+    {"check", "FILE", 1, 0, run_check, "Says that the file is accepted, or which refusal it gets.\n"},
+    {"info", "FILE", 1, 0, run_info,
+     "Shows what the page is: the grid's sides, its tiles and how many are stored, metadata records, and\n"
+     "the number, name, type and fill of each element.\n"},
+    {"cell", "FILE ROW COLUMN ELEMENT", 4, COMPRESSOR, run_cell,
+     "Shows one cell: `stored 12 at 354`, with the place of its first byte in the file; `unpacked 12 from\n"
+     "354`, with that of the compressed content; or `fill(7)` where its tile is not stored.\n"},
+    {"tile", "FILE INDEX ELEMENT", 3, COMPRESSOR, run_tile,
+     "Shows an element's cells in one tile, by rows. A fill is `fill(7)`. Where the tile reaches over the\n"
+     "grid's edge, `outside(13)` is what it holds there, and `outside` where it is not stored.\n"},
+    {"cells", "FILE ELEMENT ROW COLUMN ROWS COLUMNS", 6, COMPRESSOR, run_cells,
+     "Shows an element's cells in a rectangle, by rows: ROWS rows from ROW on, COLUMNS columns from COLUMN\n"
+     "on. A fill is `fill(7)`, a cell that cannot be read `refused(11)` or `refused(14)`.\n"},
+    {"deed", "FILE ELEMENT ROW COLUMN ROWS COLUMNS", 6, COMPRESSOR, run_deed,
+     "Judges the scores of a Short element in a rectangle: certain where each is from 900 to 1000, unread\n"
+     "where a cell is fill, else doubtful; with the number of fills and the lowest score.\n"},
+    {"store", "FILE INDEX CELLS", 3, TIME, run_store,
+     "Stores a tile: CELLS is a file with its bytes, all elements in order, little-endian, by rows. The page\n"
+     "is written to a copy beside FILE, which then takes its name; where anything fails FILE stays as it is.\n"},
+    {"remove", "FILE INDEX", 2, TIME, run_remove,
+     "Removes a tile, so that its cells are fills. The page is written to a copy beside FILE, which then\n"
+     "takes its name; where anything fails FILE stays as it is.\n"},
+};
+enum { COUNT = sizeof COMMANDS / sizeof COMMANDS[0] };
+
+static const char NUMBERS[] = "Rows, columns, elements and tiles count from 0.\n";
+static const char ELEMENT[] = "ELEMENT is an element's number or its name.\n";
+
+static void print_usage(FILE *stream, const struct command *command) {
+    fprintf(stream, "gvrs %s %s%s%s\n", command->name, command->arguments, command->options & COMPRESSOR ? " [--compressor N]" : "",
+            command->options & TIME ? " [--time MS]" : "");
+}
+
+static int print_help(void) {
+    printf("Checks, shows and corrects pages: GVRS files, version 1.4, of at most %d bytes.\n\n", LONGEST);
+    for (int i = 0; i < COUNT; i++) {
+        printf("    ");
+        print_usage(stdout, &COMMANDS[i]);
+    }
+    printf("\n%s%s`gvrs COMMAND --help` says more of a command.\n"
+           "Exit status: 0 done, 1 refused, 2 failed.\n", NUMBERS, ELEMENT);
+    return DONE;
+}
+
+static int print_command_help(const struct command *command) {
+    printf("usage: ");
+    print_usage(stdout, command);
+    printf("\n%s", command->help);
+    printf("%s%s", command->count > 1 ? NUMBERS : "", strstr(command->arguments, "ELEMENT") ? ELEMENT : "");
+    if (command->options & COMPRESSOR)
+        printf("--compressor N unpacks content of the compressor index N, 0 to 255, but no Float's; other is refused (11).\n");
+    if (command->options & TIME)
+        printf("--time MS is the time modified, in milliseconds since 1970; without it, the clock's.\n");
+    return DONE;
+}
+
+/* Whether an argument is the option: then its value is the rest of the argument, behind a =, or the next one, NULL if there is none. */
+static int is_option(const char *option, char ***at, const char **value) {
+    size_t n = strlen(option);
+    if (strncmp(**at, option, n) != 0 || ((**at)[n] != '\0' && (**at)[n] != '='))
+        return 0;
+    *value = (**at)[n] == '=' ? **at + n + 1 : *++*at;
+    return 1;
+}
+
+static int option_given(const char *option, const char *value, uint64_t most, uint64_t *number) {
+    return value == NULL ? failed("%s wants a number behind it", option) : number_given(option, value, most, number);
+}
+
+static int read_option(const struct command *command, char ***at, struct request *request) {
+    const char *option = **at, *value = NULL;
+    if (command->options & COMPRESSOR && is_option("--compressor", at, &value)) {
+        uint64_t number = NO_COMPRESSOR;
+        int status = option_given("--compressor", value, 255, &number);
+        request->compressor = (uint32_t)number;
+        return status;
+    }
+    if (command->options & TIME && is_option("--time", at, &value))
+        return option_given("--time", value, UINT64_MAX, &request->time);
+    return failed("%s is no option of gvrs %s; `gvrs %s --help` says what is", option, command->name, command->name);
+}
+
+/* Milliseconds since 1970. */
+static uint64_t clock_time(void) {
+    struct timespec now = {0, 0};
+    timespec_get(&now, TIME_UTC);
+    return (uint64_t)now.tv_sec * 1000 + (uint64_t)now.tv_nsec / 1000000;
+}
+
+static int run_command(const struct command *command, char **at) {
+    struct request request = {{NULL}, NO_COMPRESSOR, clock_time()};
+    int count = 0, options = 1;
+    for (; *at != NULL; at++) {
+        if (options && strcmp(*at, "--help") == 0)
+            return print_command_help(command);
+        if (options && strcmp(*at, "--") == 0)
+            options = 0;
+        else if (options && strncmp(*at, "--", 2) == 0) {
+            if (read_option(command, &at, &request) != DONE)
+                return FAILED;
+        } else if (count++ < command->count)
+            request.words[count - 1] = *at;
+    }
+    if (count == command->count)
+        return command->run(&request);
+    fprintf(stderr, "gvrs: %d arguments given, %d needed: ", count, command->count);
+    print_usage(stderr, command);
+    return FAILED;
+}
+
+static int run(char **words) {
+    if (words[0] == NULL)
+        return failed("a command is needed; `gvrs --help` lists them");
+    if (strcmp(words[0], "--help") == 0)
+        return print_help();
+    for (int i = 0; i < COUNT; i++)
+        if (strcmp(words[0], COMMANDS[i].name) == 0)
+            return run_command(&COMMANDS[i], words + 1);
+    return failed("'%s' is no command; `gvrs --help` lists them", words[0]);
+}
+
+int main(int argc, char **argv) {
+    int status = run(argv + (argc > 0));
+    if (fflush(stdout) == 0 && !ferror(stdout))
+        return status;
+    return failed("standard output: %s", strerror(errno));
+}

@@ -1,0 +1,428 @@
+"""Pages of an archive, GVRS files of version 1.4, checked, read and laid down by the proved page store (libgvrs.so).
+
+    import gvrs
+    page = gvrs.Page("page.gvrs")
+    page.shape.rows, page.shape.columns      # 3, 3
+    page.elements                            # (Element(name='z', type='Short', fill=fill(7)),)
+    page.cell(2, 1, "z").value               # 12
+    page.cell(0, 0, "z").value               # fill(7), of type Fill: no number, since nothing is stored there
+
+    front = gvrs.front(3, 3, 2, 2, [("z", "Short", 7)])
+    file = gvrs.lay_down(front, {2: gvrs.pack("Short", [11, 12, 13, 14])}, time=1)
+
+Rows, columns, elements and tiles count from 0. An element is named by its number or its name. What the store refuses raises Refused; a
+number that does not fit the C type of its argument raises ValueError before anything is called. The library is the file that
+GVRS_LIBRARY names, or libgvrs.so beside this module, in the folder above it, or in `lib` of Python's own prefix.
+
+Any number of threads may call at once; each has to have 320 KiB of stack left, which is less than Python gives one by itself.
+"""
+
+import ctypes
+import math
+import numbers
+import operator
+import os
+import struct
+import sys
+from typing import NamedTuple
+from uuid import uuid4
+
+__all__ = ["Cell", "Element", "Fill", "Outside", "Page", "Refused", "Shape", "front", "lay_down", "pack"]
+
+LONGEST = 16_777_216  # bytes of a file
+_TILE_CELLS = 524_288  # the most cells of a tile
+_NO_COMPRESSOR = 256  # an index that no content has
+_TYPES = ("Integer", "integer-coded", "Float", "Short")  # by their codes
+_DONE, _OUTSIDE, _COMPRESSED, _INPUT, _ROOM, _MALFORMED = 0, 10, 11, 12, 13, 14
+_STORED, _FILL, _UNPACKED = 32, 33, 34
+
+
+# The functions that are used here, each by its numbers of 32 and 64 bits, its bytes and its lists: include/gvrs.h declares them. All but
+# gvrs_refusal are given `out` and its length last.
+_U32, _U64, _BYTES = ctypes.c_uint32, ctypes.c_uint64, ctypes.c_char_p
+_LIST32, _LIST64 = ctypes.POINTER(_U32), ctypes.POINTER(_U64)
+_FILE = [_BYTES, _U64]
+_FUNCTIONS = {
+    "gvrs_check": _FILE,
+    "gvrs_page": _FILE,
+    "gvrs_element": _FILE + [_U64],
+    "gvrs_find_element": _FILE + [_BYTES, _U64],
+    "gvrs_cell_with": _FILE + [_U64, _U64, _U64, _U32, _U32],
+    "gvrs_unpack": _FILE + [_U64, _U64, _U32, _LIST32, _U64],
+    "gvrs_cells": _FILE + [_U32, _U64, _U64, _U64, _U64, _U64] + [_LIST32, _U64] * 3,
+    "gvrs_lay_down": _FILE + [_U64, _LIST32, _U64, _BYTES, _U64, _BYTES, _U64],
+}
+
+
+def _load():
+    named = os.environ.get("GVRS_LIBRARY")
+    here = os.path.dirname(os.path.abspath(__file__))
+    places = [os.path.join(folder, "libgvrs.so") for folder in (here, os.path.dirname(here), os.path.join(sys.prefix, "lib"))]
+    found = [named] if named else [place for place in places if os.path.exists(place)]
+    if not found:
+        places = ", ".join(places)
+        raise ImportError(f"no library of the page store, which `tools/install PREFIX` installs: GVRS_LIBRARY is not set, no {places}")
+    try:
+        library = ctypes.CDLL(found[0])
+        for name, arguments in _FUNCTIONS.items():
+            getattr(library, name).restype = _U32
+            getattr(library, name).argtypes = arguments + [_LIST64, _U64]
+        library.gvrs_refusal.restype, library.gvrs_refusal.argtypes = _BYTES, [_U32]
+    except (OSError, AttributeError) as error:
+        raise ImportError(f"{found[0]} is no library of the page store: {error}") from None
+    return library
+
+
+_library = _load()
+
+
+class Refused(Exception):
+    """A refusal of the store: its `number`, its `place` in the file, and in `words` what it says. Where it stands in a list of cells, for
+    one cell that cannot be read, `place` is None. `note` says more, or is None."""
+
+    def __init__(self, number, place, note=None):
+        super().__init__(number, place, note)
+        self.number, self.place, self.note = number, place, note
+        self.words = _library.gvrs_refusal(number).decode()
+
+    def __str__(self):
+        place = "" if self.place is None else f" at {self.place}"
+        return f"refused {self.number}{place}: {self.words}" + (f": {self.note}" if self.note else "")
+
+    def __repr__(self):
+        return f"refused({self.number})"
+
+
+class _Mark:
+    """A value that is no score. It is equal to a mark of its kind with the same value, and to nothing else; it has no order, no
+    arithmetic and no truth, and float() and int() refuse it."""
+
+    __slots__ = ("_value",)
+
+    def __init__(self, value):
+        self._value = value
+
+    @property
+    def value(self):
+        """The value itself, for whoever has seen that it is no score."""
+        return self._value
+
+    def __repr__(self):
+        word = type(self).__name__.lower()
+        return word if self._value is None else f"{word}({self._value!r})"
+
+    def __eq__(self, other):
+        return type(self) is type(other) and repr(self) == repr(other)
+
+    def __hash__(self):
+        return hash(repr(self))
+
+    def __bool__(self):
+        raise TypeError(f"{self!r} is no number: ask whether it is a {type(self).__name__}")
+
+
+class Fill(_Mark):
+    """What a cell reads as whose tile is not stored: its element's fill value, which no one has read off a page."""
+
+    __slots__ = ()
+
+
+class Outside(_Mark):
+    """What a tile holds for a place past the grid's edge, where the page has no cell; None where the tile is not stored."""
+
+    __slots__ = ()
+
+
+class Shape(NamedTuple):
+    """What a page is in numbers. Sides count cells, but for tiles_down and tiles_across; tile_bytes are those of one tile, all elements
+    together; front is the length of its identification block and header; stored_tiles and metadata count records; time is the time
+    modified, in milliseconds since 1970."""
+
+    rows: int
+    columns: int
+    tile_rows: int
+    tile_columns: int
+    tiles_down: int
+    tiles_across: int
+    elements: int
+    tile_bytes: int
+    front: int
+    stored_tiles: int
+    metadata: int
+    time: int
+    checksums: bool
+
+
+class Element(NamedTuple):
+    """An element of a page: its name, its type (Integer, integer-coded, Float or Short) and its fill, a Fill."""
+
+    name: str
+    type: str
+    fill: Fill
+
+
+class Cell(NamedTuple):
+    """A cell: its kind (stored, unpacked or fill); its value, a number or a Fill; the value's bits, which tell one NaN from another; and
+    the place of its first byte in the file, of an unpacked one that of its content. Bits and place of a fill are None."""
+
+    kind: str
+    value: object
+    bits: int
+    place: int
+
+
+def _number(value, most, what):
+    try:
+        number = operator.index(value)
+    except TypeError:
+        raise TypeError(f"{what} is {value!r}, and has to be a whole number") from None
+    if not 0 <= number <= most:
+        raise ValueError(f"{what} is {number}, and has to be from 0 to {most}")
+    return number
+
+
+def _number64(value, what):
+    return _number(value, 2**64 - 1, what)
+
+
+def _bytes(value, what):
+    """Bytes as they stand in memory; no list of numbers and no number, of which bytes() would make others."""
+    try:
+        return memoryview(value).tobytes()
+    except TypeError:
+        raise TypeError(f"{what} has to be bytes, and not {type(value).__name__}") from None
+
+
+def _ask(name, room, *arguments):
+    out = (_U64 * room)()
+    return getattr(_library, name)(*arguments, out, room), list(out)
+
+
+def _signed(bits, width):
+    half = 1 << (width - 1)
+    return (bits ^ half) - half
+
+
+def _value(type_, bits):
+    if type_ == "Float":
+        return struct.unpack("<f", struct.pack("<I", bits))[0]
+    return _signed(bits, 16 if type_ == "Short" else 32)
+
+
+def _by_rows(values, columns):
+    return [values[at : at + columns] for at in range(0, len(values), columns)] if columns else []
+
+
+class Page:
+    """A page: the bytes of a file, read once and whole. Nothing is judged until something is asked; each question, shape and elements
+    too, checks the bytes first, and raises Refused where they are refused. `compressor` is the compressor index, 0 to 255, of the content
+    that is to be unpacked; without it compressed cells are refused (11)."""
+
+    def __init__(self, path, compressor=None):
+        with open(path, "rb") as stream:
+            self._keep(stream.read(LONGEST + 1), compressor)
+
+    @classmethod
+    def of_bytes(cls, file, compressor=None):
+        """A page of bytes that are in memory, as lay_down gives them."""
+        page = cls.__new__(cls)
+        page._keep(_bytes(file, "file"), compressor)
+        return page
+
+    def _keep(self, file, compressor):
+        self._file = file
+        self._compressor = _NO_COMPRESSOR if compressor is None else _number(compressor, 255, "compressor")
+
+    @property
+    def file(self):
+        """The bytes of the file; of one that is too long, those that show it."""
+        return self._file
+
+    def _ask(self, name, room, *arguments, place=0):
+        """What a function answers and what `out` holds. A refusal is raised, with its place in out[place], but 13 is an answer."""
+        number, out = _ask(name, room, self._file, len(self._file), *arguments)
+        if _DONE < number < _STORED and number != _ROOM:
+            raise Refused(number, out[place], self._sides() if number == _OUTSIDE else None)
+        return number, out
+
+    def _sides(self):
+        is_ = self.shape
+        last = (is_.rows - 1, is_.columns - 1, is_.tiles_down * is_.tiles_across - 1, is_.elements - 1)
+        return "there are rows 0 to %d, columns 0 to %d, tiles 0 to %d and elements 0 to %d" % last
+
+    def check(self):
+        """Nothing, where the file is accepted; else raises Refused, as any other question would."""
+        self._ask("gvrs_check", 1)
+
+    @property
+    def shape(self):
+        """What the page is in numbers, a Shape."""
+        _, out = self._ask("gvrs_page", 13)
+        return Shape(*out[:12], checksums=out[12] == 1)
+
+    def _element(self, number):
+        _, [code, fill, name, name_length] = self._ask("gvrs_element", 4, number)
+        return Element(self._file[name : name + name_length].decode(), _TYPES[code], Fill(_value(_TYPES[code], fill)))
+
+    @property
+    def elements(self):
+        """The page's elements in their order, each an Element."""
+        return tuple(self._element(number) for number in range(self.shape.elements))
+
+    def _element_number(self, element):
+        if not isinstance(element, str):
+            return _number64(element, "element")
+        name = element.encode(errors="surrogatepass")
+        kind, [number] = self._ask("gvrs_find_element", 1, name, len(name))
+        if kind == _FILL:
+            raise Refused(_OUTSIDE, 0, f"no element has the name {element!r}")
+        return number
+
+    def cell(self, row, column, element):
+        """One cell, a Cell. Raises Refused, 10 where it is not in the grid, 11 where it is compressed and not of the page's compressor
+        index, or 14 where its compressed content is malformed."""
+        row, column, e = _number64(row, "row"), _number64(column, "column"), self._element_number(element)
+        kind, [code, bits, place] = self._ask("gvrs_cell_with", 3, row, column, e, 0, self._compressor, place=2)
+        value = _value(_TYPES[code], bits)
+        if kind == _FILL:
+            return Cell("fill", Fill(value), None, None)
+        return Cell("unpacked" if kind == _UNPACKED else "stored", value, bits, place)
+
+    def tile(self, index, element):
+        """An element's cells in a tile, as a list of the tile's rows: numbers, or where the tile is not stored Fills; and past the
+        grid's edge, where the page has no cell, Outsides. Raises Refused as cell does."""
+        index, e = _number64(index, "index"), self._element_number(element)
+        bits = (_U32 * _TILE_CELLS)()
+        kind, _ = self._ask("gvrs_unpack", 2, index, e, self._compressor, bits, _TILE_CELLS)
+        shape, element = self.shape, self._element(e)
+        row, column = index // shape.tiles_across * shape.tile_rows, index % shape.tiles_across * shape.tile_columns
+
+        def value(i):
+            inside = row + i // shape.tile_columns < shape.rows and column + i % shape.tile_columns < shape.columns
+            if kind == _FILL:
+                return element.fill if inside else Outside(None)
+            number = _value(element.type, bits[i])
+            return number if inside else Outside(number)
+
+        return _by_rows([value(i) for i in range(shape.tile_rows * shape.tile_columns)], shape.tile_columns)
+
+    def cells(self, element, row, column, rows, columns):
+        """An element's cells in a rectangle, `rows` rows from `row` on and `columns` columns from `column` on, as a list of rows. Each is
+        a number, a Fill, or, where it cannot be read, the Refused (11 or 14) that cell would raise. Raises Refused, 10 where the
+        rectangle is not in the grid."""
+        e = self._element_number(element)
+        sides = [_number64(side, what) for side, what in ((row, "row"), (column, "column"), (rows, "rows"), (columns, "columns"))]
+        memory = (_U32 * _TILE_CELLS)()
+
+        def ask(room):
+            kinds, bits = (_U32 * room)(), (_U32 * room)()
+            number, _ = self._ask("gvrs_cells", 1, self._compressor, e, *sides, memory, _TILE_CELLS, kinds, room, bits, room)
+            return number, kinds, bits
+
+        number, kinds, bits = ask(0)  # 13 of a rectangle that is in the grid and has a cell
+        if number == _ROOM:
+            _, kinds, bits = ask(sides[2] * sides[3])
+        element = self._element(e)
+        others = {_FILL: element.fill, **{number: Refused(number, None) for number in (_COMPRESSED, _MALFORMED)}}
+        values = [others[kind] if kind in others else _value(element.type, pattern) for kind, pattern in zip(kinds, bits)]
+        return _by_rows(values, sides[3])
+
+    def __repr__(self):
+        return f"<gvrs.Page of {len(self._file)} bytes>"
+
+
+def _packed_float(value):
+    if not isinstance(value, numbers.Real):
+        raise TypeError(f"{value!r} is no number")
+    try:
+        return struct.pack("<f", value)
+    except OverflowError:
+        raise ValueError(f"{value} is more than a Float of 32 bits holds") from None
+
+
+def _packed(type_, value):
+    """The bytes of one number of a type, as they stand in a file."""
+    if isinstance(value, _Mark):
+        raise TypeError(f"{value!r} is no number: a cell that is not stored has no bytes")
+    if type_ == "Float":
+        return _packed_float(value)
+    width = {"Short": 16, "Integer": 32, "integer-coded": 32}.get(type_)
+    if width is None:
+        raise ValueError(f"{type_!r} is no type: {', '.join(_TYPES)}")
+    number, half = operator.index(value), 1 << (width - 1)
+    if not -half <= number < half:
+        raise ValueError(f"{number} is no {type_}, which is from {-half} to {half - 1}")
+    return (number % (2 * half)).to_bytes(width // 8, "little")
+
+
+def pack(type, values):
+    """The bytes of an element's cells in a tile, of numbers by rows, or of rows of numbers. A tile that is laid down has those of its
+    elements in their order: pack("Short", scores) + pack("Float", heights). A Float is rounded to 32 bits."""
+    return b"".join(pack(type, value) if isinstance(value, (list, tuple)) else _packed(type, value) for value in values)
+
+
+def _padded(content, to):
+    return content + bytes(-len(content) % to)
+
+
+# The least and the greatest value of a type, which G's Tables 9 to 12 want beside its fill; the store carries them.
+_RANGES = {"Short": (-(2**15), 2**15 - 1), "Integer": (-(2**31), 2**31 - 1), "Float": (-math.inf, math.inf)}
+
+
+def _block(type_, fill):
+    """G Tables 9 to 12: minimum, maximum and fill; of an integer-coded element as Floats, then its scale and offset, 1 and 0, then as
+    Integers."""
+    if type_ == "integer-coded":
+        floats = [_packed("Float", number) for number in (*_RANGES["Integer"], fill, 1, 0)]
+        return b"".join(floats) + _block("Integer", fill)
+    least, greatest = _RANGES.get(type_, (0, 0))
+    return b"".join(_padded(_packed(type_, number), 4) for number in (least, greatest, fill))
+
+
+def _entry(element):
+    """G Table 8, with an empty label, description and unit."""
+    try:
+        name, type_, fill = element
+        name = name.encode()
+    except (TypeError, ValueError, AttributeError):
+        raise TypeError(f"an element is (name, type, fill), and not {element!r}") from None
+    block = _block(type_, fill.value if isinstance(fill, Fill) else fill)
+    head = struct.pack("<B7xH", _TYPES.index(type_), _number(len(name), 65535, "the length of a name")) + name
+    return _padded(_padded(head + block, 4) + bytes(6), 4)
+
+
+def front(rows, columns, tile_rows, tile_columns, elements, checksums=True, uuid=None):
+    """The identification block and the header of a new page, for lay_down. `elements` is a list of (name, type, fill), as Page.elements
+    has them; an integer-coded element has the scale 1 and the offset 0. `uuid` is 16 bytes, a new one unless given. No labels, units,
+    coordinates or metadata. Nothing is judged here: lay_down refuses a front that breaks a rule."""
+    names = ("rows", "columns", "tile_rows", "tile_columns")
+    sides = [_number(side, 2**31 - 1, name) for side, name in zip((rows, columns, tile_rows, tile_columns), names)]
+    entries = [_entry(element) for element in elements]
+    uuid = uuid4().bytes if uuid is None else _bytes(uuid, "uuid")
+    if len(uuid) != 16:
+        raise ValueError(f"a uuid has 16 bytes, and this one {len(uuid)}")
+    # G Table 7, from position 24 on: the UUID, four sides, whether checksums are on, the elements; then no compression method, an empty
+    # product label and eight reserved bytes. The lay-down sets times, references and the checksum.
+    fixed = struct.pack("<16s64x4i8xB151xi", uuid, *sides, bool(checksums), len(entries))
+    content = fixed + b"".join(entries) + bytes(4 + 2 + 8)
+    record = _padded(bytes(8) + content + bytes(4), 8)
+    return b"gvrs raster\0\1\4\0\0" + struct.pack("<IB3x", len(record), 6) + record[8:]
+
+
+def lay_down(front, tiles, time):
+    """A new page, as the bytes of its file. `tiles` is a dict from a tile's index to its bytes, all elements in order (pack); every other
+    tile is not stored, and its cells are fills. `time` is the time modified, in milliseconds since 1970. Raises Refused: 1 to 4 of the
+    front, 12 where the time is 0, an index is not below the number of tiles or a tile has more or fewer bytes than its cells take, 4 where
+    the file would be too long."""
+    tiles = {_number(index, 2**32 - 1, "index"): _bytes(cells, "a tile") for index, cells in dict(tiles).items()}
+    indexes = sorted(tiles)
+    cells = b"".join(tiles[index] for index in indexes)
+    front, time, count = _bytes(front, "front"), _number64(time, "time"), len(indexes)
+    file = ctypes.create_string_buffer(LONGEST)
+    number, [out] = _ask(
+        "gvrs_lay_down", 1, front, len(front), time, (_U32 * count)(*indexes), count, cells, len(cells), file, LONGEST
+    )
+    if number != _DONE:
+        note = "the time is 0" if time == 0 else "an index past the tiles, or more or fewer bytes than the tiles' cells take"
+        raise Refused(number, out, note if number == _INPUT else None)
+    return ctypes.string_at(file, out)
