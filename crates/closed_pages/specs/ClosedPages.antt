@@ -16,7 +16,7 @@ use Rattle.page_laws.specs.Tiles.{tilesOf, Follows}
 pub record ClosedKeeps (s : List ℕ) (t : ℕ) : Type 0 where
   pub obeys : Obeys (closedPage s t)
   pub follows : Follows s (closedPage s t) (λ j. false) (tilesOf s)
-  -- reading 15: the time modified is the caller's
+  -- Req 03, reading 15: the time modified is the caller's
   pub time : timeModified (closedPage s t) ≡ t
   -- the tile directory's reference stays, and so does every byte from the header's end to where the page ended
   pub reference : tileDirectoryReference (closedPage s t) ≡ tileDirectoryReference s

@@ -42,7 +42,7 @@ use Rattle.pieces.specs.Pieces.{attach, cleared, freeRecord, freeing, isFree, j
 use Rattle.pieces.specs.Standing.{standing, without}
 use Rattle.record.specs.Chain.{endOf, find, findNot, firstRecord, headerEnd, records, recordsEnd, recordsOf, starts, startsGo}
 use Rattle.record.specs.Record.{padded, recordLimit, recordOk}
-use Rattle.stores.specs.Stores.{run, storeCount}
+use Rattle.stores.specs.Stores.{place, run, storeCount}
 use Rattle.stores.specs.Writes.{oneWrite, sealWrite, wholeWrite}
 use Rattle.utf8.specs.Utf8.{following, goesOn, never, octet, rows, tail, utf8}
 use Rattle.wire.specs.Bytes.{byteAt, bytesOf, number, numberAt, part, put, sameBytes, zeros}
@@ -56,7 +56,7 @@ use Rattle.written_records.specs.Tile.{plainRecord, sections, sectionsOf, tileR
 use Rattle.corrected.specs.Samples.{Sampled}
 
 pub sampled : Sampled
-unfolding advance noFileSpace directoriesOpen carries closingWrites directoryWrites firstRecord keepsCeilings openingWrites referenceBytes tileAt walkedTo allBelow anyFree attach below blockAt blockSize bodyFault bodyRight byteAt bytesOf cellSize cellsPut chainFault check checkDirectories checkFromRecords checkHeader checkRecords checksumAt checksumFault checksumFor checksumOf checksumRight cleared closeWrites closed closedFields closedFront closedMore closedPage closedReference closedFieldWrites closedFrontWrites compactOf contentLengthAt countBelow crcBit crcByte crcOf crcOver crcPart dataType descriptionAt directoriesRight directoryForm directoryFull directoryOf element elementBytes elementContentAt elementName elementPacking elementRight elementsRight endOf endRight entriesRead entryAt entryCount entryEnd entryStart entryTexts every fieldsEnd fileSpaceAt fileSpaceRecord fileSpaceRight find findNot firstSet firstTwo firstWrong fiveRules following formRight frameRight freeCount freeEntryBytes freeEntryAt freeEntryIs freeEntryOf freeFits freeList freeListed freeNotEmpty freeOnly freeRecord freedOf freeing freeingWrites fullDirectory gate givesTile goesOn headerEnd headerRight identified identifier inRectangle inSpan indexRight isFree isOpened isPlain isThere joinFree joinWrites keysDistinct labelAt lastByte leastLength leftOver lengthRight letter listWrites listedOnce mark metadataAt metadataCount metadataDescriptionAt metadataDirectoryRight metadataEnd metadataEntryAt metadataEntryEnd metadataEntryIs metadataEntryOf metadataEntrySize metadataFits metadataLength metadataListed metadataName metadataOnly metadataRight methodCount methodsAt nameByte nameBytes namesDiffer never newlyStored nextTwo noOther nothingElse nothingToJoin number numberAt numberOf octet oneIf oneWrite openBody openForWriting openWrites openedFields openedFront openedMore openedPage openedReference openedFieldWrites optionsRight overwritten packingOf padded pageIn part passes pieceAt pieces piecesOf placeFor placed plainRecord plainTileLength positive productLabelAt put recordHead recordId recordIdAt recordLength recordLimit recordOf recordOk records recordsEnd recordsOf recordsRight rectangleRight referTo referenceAt referenceFrom referenceOf referenceSize referencesEnd referencesOf referring refersOrZero refersTo removedPage removedPieces resealed rightOf rows run freeRunWrites sameBytes sameKey sealWithout sealWrite sealed sealedFront section sectionAt sectionEnd sectionLength sectionPacking sectionRight sections sectionsOf select setWrites sidesRight sidesWithin some spanRight stages standing starts startsGo storeCount storedAt storedOver storedPage storedPieces storedSize stringEnd stringSize stringText sumBelow summedBytes tail tailRight takes textRight tileBytes tileCount tileDirectoryAt tileDirectoryRight tileEnd tileIndex tileLength tileRecord tileRight tilesAcross tilesAlong tilesDown tilesIn tilesListed tilesOnly unclosed uncompressed unitAt unless unlessRefused unwanted utf8 versionRight wholeWrite withReference within withinCeilings without zeros
+unfolding advance place noFileSpace directoriesOpen carries closingWrites directoryWrites firstRecord keepsCeilings openingWrites referenceBytes tileAt walkedTo allBelow anyFree attach below blockAt blockSize bodyFault bodyRight byteAt bytesOf cellSize cellsPut chainFault check checkDirectories checkFromRecords checkHeader checkRecords checksumAt checksumFault checksumFor checksumOf checksumRight cleared closeWrites closed closedFields closedFront closedMore closedPage closedReference closedFieldWrites closedFrontWrites compactOf contentLengthAt countBelow crcBit crcByte crcOf crcOver crcPart dataType descriptionAt directoriesRight directoryForm directoryFull directoryOf element elementBytes elementContentAt elementName elementPacking elementRight elementsRight endOf endRight entriesRead entryAt entryCount entryEnd entryStart entryTexts every fieldsEnd fileSpaceAt fileSpaceRecord fileSpaceRight find findNot firstSet firstTwo firstWrong fiveRules following formRight frameRight freeCount freeEntryBytes freeEntryAt freeEntryIs freeEntryOf freeFits freeList freeListed freeNotEmpty freeOnly freeRecord freedOf freeing freeingWrites fullDirectory gate givesTile goesOn headerEnd headerRight identified identifier inRectangle inSpan indexRight isFree isOpened isPlain isThere joinFree joinWrites keysDistinct labelAt lastByte leastLength leftOver lengthRight letter listWrites listedOnce mark metadataAt metadataCount metadataDescriptionAt metadataDirectoryRight metadataEnd metadataEntryAt metadataEntryEnd metadataEntryIs metadataEntryOf metadataEntrySize metadataFits metadataLength metadataListed metadataName metadataOnly metadataRight methodCount methodsAt nameByte nameBytes namesDiffer never newlyStored nextTwo noOther nothingElse nothingToJoin number numberAt numberOf octet oneIf oneWrite openBody openForWriting openWrites openedFields openedFront openedMore openedPage openedReference openedFieldWrites optionsRight overwritten packingOf padded pageIn part passes pieceAt pieces piecesOf placeFor placed plainRecord plainTileLength positive productLabelAt put recordHead recordId recordIdAt recordLength recordLimit recordOf recordOk records recordsEnd recordsOf recordsRight rectangleRight referTo referenceAt referenceFrom referenceOf referenceSize referencesEnd referencesOf referring refersOrZero refersTo removedPage removedPieces resealed rightOf rows run freeRunWrites sameBytes sameKey sealWithout sealWrite sealed sealedFront section sectionAt sectionEnd sectionLength sectionPacking sectionRight sections sectionsOf select setWrites sidesRight sidesWithin some spanRight stages standing starts startsGo storeCount storedAt storedOver storedPage storedPieces storedSize stringEnd stringSize stringText sumBelow summedBytes tail tailRight takes textRight tileBytes tileCount tileDirectoryAt tileDirectoryRight tileEnd tileIndex tileLength tileRecord tileRight tilesAcross tilesAlong tilesDown tilesIn tilesListed tilesOnly unclosed uncompressed unitAt unless unlessRefused unwanted utf8 versionRight wholeWrite withReference within withinCeilings without zeros
 sampled =
     record {
       opened-front = refl;
@@ -74,7 +74,9 @@ sampled =
       closed-accepted = refl;
       taken = refl;
       open-stores = refl;
+      first-store = refl;
       open-run = refl;
       close-stores = refl;
+      last-store = refl;
       close-run = refl;
     }

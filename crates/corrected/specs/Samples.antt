@@ -12,7 +12,7 @@ use Rattle.page_check.specs.Stages.{check}
 use Rattle.sample_page.specs.Page.{file, cells}
 use Rattle.pieces.specs.Pieces.{freeRecord}
 use Rattle.pieces.specs.Edits.{takes}
-use Rattle.stores.specs.Stores.{storeCount, run}
+use Rattle.stores.specs.Stores.{storeCount, run, place}
 use Rattle.writable.specs.Writable.{openForWriting}
 use Rattle.correct.specs.Opening.{openedPage}
 use Rattle.correct.specs.Storing.{storedAt, storedPage}
@@ -53,8 +53,11 @@ pub record Sampled : Type 0 where
   pub closed-accepted : check (closedPage removed 7) ≡ Accepted
   -- a free record of 32, 48 or 56 bytes takes a record of 32, one of 40 does not
   pub taken : map takes32 (32 ∷ 40 ∷ 48 ∷ 56 ∷ []) ≡ true ∷ false ∷ true ∷ true ∷ []
-  -- Req 05: opened with 0x0100 and closed with 7, 20 stores each; the opening's stores make the page, and so do the closing's
+  -- Req 05: opened with 0x0100 and closed with 7, 20 stores each, opening's first and closing's last at 49; the opening's
+  -- stores make the page, and so do the closing's
   pub open-stores : storeCount (openWrites file 424 256) ≡ 20
+  pub first-store : place 0 (openWrites file 424 256) ≡ 49
   pub open-run : run (openWrites file 424 256) file ≡ openedPage file 256
   pub close-stores : storeCount (closeWrites (openedPage file 256) 424 7) ≡ 20
+  pub last-store : place 19 (closeWrites (openedPage file 256) 424 7) ≡ 49
   pub close-run : run (closeWrites (openedPage file 256) 424 7) (openedPage file 256) ≡ closedPage (openedPage file 256) 7

@@ -1,6 +1,6 @@
 -- Req 03: "Over any sequence of calls that starts by opening an accepted file, each on what the last left, the tiles are those of a map
 -- from index to bytes, untouched compressed tiles and metadata kept as they are." Refused calls, closings and openings again may stand
--- anywhere among them (reading 19).
+-- anywhere among them (Req 03, reading 19).
 use Prim.Native.Nat.{ℕ, _≤_, _<_}
 use mathlib.Core.Path.{_≡_}
 use mathlib.Core.Logic.{_⊎_}
@@ -98,7 +98,8 @@ unfoldable pub namedAfterAll : List Call → State → (ℕ → Bool) → ℕ �
 namedAfterAll [] st named = named
 namedAfterAll (call ∷ calls) st named = namedAfterAll calls (after call st) (ifDone (answerOf call st) (namedThen call named) named)
 
--- where the calls start, and what they leave: a page that is accepted, or open for writing by whomever (reading 18)
+-- where the calls start, and what they leave: a page that is accepted, or open for writing by whomever (Req 03,
+-- reading 18)
 abbrev pub AcceptedOrOpen : List ℕ → Type 0
 AcceptedOrOpen s = (check s ≡ Accepted) ⊎ (openForWriting s ≡ true)
 

@@ -28,10 +28,10 @@ wantedBy s (Unwanted full) x = eqb (typeAt s x) fileSpaceDirectoryType || (not f
 unfoldable pub freedFrom : ℕ → ℕ → List ℕ → Wanted → ℕ → ℕ → Bool → List Write
 freedFrom room flag s want from x due = joinWrites room flag s (wantedBy s want) from x due (starts s x)
 
--- readings 11 and 12: where a record of n bytes for tile i goes in page s, and the length of the free record that takes it
+-- Req 03, readings 11 and 12: where a record of n bytes for tile i goes in page s, and the length of the free record that takes it
 unfoldable pub spotOf : List ℕ → ℕ → ℕ → Spot
 spotOf s i n = record { at = placeFor (headerEnd s) n (freedOf s i); room = roomFor n (freedOf s i) }
 
--- reading 10: the tile's record, if it is stored over
+-- Req 03, reading 10: the tile's record, if it is stored over
 unfoldable pub overAt : List ℕ → ℕ → Found
 overAt s i = pick (storedOver s i) (tileAt s i) Nothing

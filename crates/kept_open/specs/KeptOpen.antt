@@ -38,9 +38,10 @@ pub record Beside (s : List ℕ) (x k : ℕ) : Type 0 where
 pub record StoredKeeps (s : List ℕ) (i : ℕ) (c : List ℕ) : Type 0 where
   pub open-page : Open (storedPage s i c)
   pub follows : Follows s (storedPage s i c) (λ j. eqb j i) (λ j. pick (eqb j i) (plainContents s c) (tilesOf s j))
-  -- reading 16: the header is as it was, whole
+  -- Req 03, reading 16: the header is as it was, whole
   pub front : Same s (storedPage s i c) 0 (headerEnd s)
-  -- reading 10: stored over, the page is as long as it was, and each byte beside the record's cell bytes and checksum is as it was
+  -- Req 03, reading 10: stored over, the page is as long as it was, and each byte beside the record's cell bytes and checksum is as it
+  -- was
   pub over-long : storedOver s i ≡ true → length (storedPage s i c) ≡ length s
   pub over-beside : storedOver s i ≡ true → (x : ℕ) → tileAt s i ≡ At x → (k : ℕ) → Beside s x k → byteAt (storedPage s i c) k ≡ byteAt s k
 
@@ -51,7 +52,7 @@ pub record RemovedKeeps (s : List ℕ) (i : ℕ) : Type 0 where
   pub open-page : Open (removedPage s i)
   pub follows : Follows s (removedPage s i) (λ j. eqb j i) (λ j. pick (eqb j i) [] (tilesOf s j))
   pub front : Same s (removedPage s i) 0 (headerEnd s)
-  -- reading 5: the page is as long as it was
+  -- Req 03, reading 5: the page is as long as it was
   pub long : length (removedPage s i) ≡ length s
   -- "removing an absent tile .. changes nothing"
   pub absent : tilesOf s i ≡ [] → removedPage s i ≡ s

@@ -24,10 +24,10 @@ pub record Opens (s : List ℕ) (t : ℕ) : Type 0 where
 pub record OpenedKeeps (s : List ℕ) (t : ℕ) : Type 0 where
   pub open-page : Open (openedPage s t)
   pub follows : Follows s (openedPage s t) (λ j. false) (tilesOf s)
-  -- reading 15: the opened time is the caller's, the time modified stays
+  -- Req 03, reading 15: the opened time is the caller's, the time modified stays
   pub time : timeOpened (openedPage s t) ≡ t
   pub modified : timeModified (openedPage s t) ≡ timeModified s
-  -- readings 6 and 7: a full tile directory stays as it is; else the header refers to a new one where the page ended
+  -- Req 03, readings 6 and 7: a full tile directory stays as it is; else the header refers to a new one where the page ended
   pub directory : directoryFull s ≡ true → tileDirectoryOf (openedPage s t) ≡ tileDirectoryOf s
   pub reference : directoryFull s ≡ true → tileDirectoryReference (openedPage s t) ≡ tileDirectoryReference s
   pub new-reference : directoryFull s ≡ false → tileDirectoryReference (openedPage s t) ≡ contentAt (length s)
