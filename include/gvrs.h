@@ -220,7 +220,8 @@ uint32_t gvrs_close_page(uint8_t *file, uint64_t file_n, uint64_t n, uint64_t ti
    one byte at most. Given enough of them it is the call.
 
    For one opening, any calls, and one closing that is not refused, on an accepted file: before the first store the page is the old one;
-   after the last it is the new one; after any other number gvrs_check refuses it with 5, at every length from the header's end on. */
+   after the last it is the new one; after any other number gvrs_check refuses it with 5, at every length from the header's end to the
+   ceiling that the buffer has: above 16,777,216 bytes it is 4. */
 uint32_t gvrs_open_page_stopped(uint8_t *file, uint64_t file_n, uint64_t n, uint64_t time, uint64_t stores, uint64_t *out, uint64_t out_n);
 uint32_t gvrs_store_tile_stopped(uint8_t *file, uint64_t file_n, uint64_t n, uint64_t tile, const uint8_t *cells, uint64_t cells_n,
                                  uint64_t stores, uint64_t *out, uint64_t out_n);

@@ -1,5 +1,4 @@
-// What each call is judged by, before it stores a byte. The order of the refusals is that of Req 03, readings 2
-// and 3.
+// What each call is judged by, before it stores a byte. The order of the refusals is that of Req 03, readings 2 and 3.
 use crate::lengths;
 use answer::Refusal;
 use answer::Verdict;

@@ -1,6 +1,5 @@
 -- Req 03: what each call answers, and what the buffer holds afterwards. b is the buffer, n the page's length, t a time, i a tile's
--- index, c the cell bytes of a tile. Req 03, readings 2 and 3, give the order of
--- the refusals.
+-- index, c the cell bytes of a tile. The order of the refusals is that of Req 03, readings 2 and 3.
 use Prim.Native.Nat.{ℕ, _+_}
 use mathlib.Core.List.{List, [], _∷_}
 use lib.ListN.{length}

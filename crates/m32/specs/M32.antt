@@ -15,7 +15,10 @@ use Rattle.m32.specs.declared.Found.{Found}
 use Rattle.m32.specs.declared.Found.the-variants.{Nothing}
 use Rattle.m32.specs.declared.Found.the-variants as found
 
--- 'one to five bytes .. holding the magnitude less 127, 255, 16639, 2113791 or 270549247': the lower ends of G 7.1's ranges
+-- 'one to five bytes .. holding the magnitude less 127, 255, 16639, 2113791 or 270549247': where G 7.1's ranges begin, of which it does
+-- not print the fourth. G 7.1's rows of bytes, which hold the number's own bits, are not followed (docs/DECISIONS.md, A53): each range is
+-- just full only where its base is taken off, the fourth has no row, and the rows of the others would share bytes with document 02's
+-- code for it
 abbrev pub bases : List ℕ
 bases = 127 ∷ 255 ∷ 16639 ∷ 2113791 ∷ 270549247 ∷ []
 

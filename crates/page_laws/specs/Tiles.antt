@@ -62,9 +62,8 @@ pub record SameUnset (s t : List ℕ) : Type 0 where
   pub high : Same s t 88 (headerEnd s - 4)
   pub whole : headerEnd s ≤ length t
 
--- t comes from s by calls that name some tiles. Req 03, reading 20: tile records that no call names keep place and bytes, and so does
--- the
--- metadata. The tiles are those that the map gives
+-- t comes from s by calls that name some tiles. Req 03, reading 20: tile records that no call names keep place and bytes, and so do the
+-- metadata records and the metadata directory. The tiles are those that the map gives
 pub record Follows (s t : List ℕ) (named : ℕ → Bool) (tiles : ℕ → List (List ℕ)) : Type 0 where
   pub header : SameUnset s t
   pub metadata : metadataOf t ≡ metadataOf s

@@ -38,8 +38,8 @@ pub record Cut (st : State) (calls : List Call) (t m : ℕ) : Type 0 where
   -- after the last: the new page, which is accepted
   pub behind : pageIn (cutAt (storeCount (storesOfAll (andClose calls t) st)) (andClose calls t) st) m ≡ closedPage (pageOf (afterAll calls st)) t
   pub accepted : check (closedPage (pageOf (afterAll calls st)) t) ≡ Accepted
-  -- after any number between: a file refused with 5, at every length from the header's end on. Which length the page has reached in the
-  -- midst of a call that makes it longer is not said, so it holds of each
+  -- after any number between: a file refused with 5, at every length from the header's end to the ceiling that the buffer has (Req 05,
+  -- reading 5). Which length the page has reached in the midst of a call that makes it longer is not said, so it holds of each
   pub between :
       (k : ℕ) → 0 < k → k < storeCount (storesOfAll (andClose calls t) st) → (l : ℕ) → headerEnd (pageOf st) ≤ l → l ≤ mostFileBytes →
       l ≤ length (st .buffer) → check (pageIn (cutAt k (andClose calls t) st) l) ≡ Refused Opened

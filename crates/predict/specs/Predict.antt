@@ -14,8 +14,9 @@ plus a b = (a + b) % 4294967296
 unfoldable pub minus : ℕ → ℕ → ℕ
 minus a b = (a + (4294967296 - b % 4294967296)) % 4294967296
 
--- the linear predictor (G 5.1.3, 'Zp = 2 x Zb - Za') from the cell to the left and the second to the left. A column with one
--- cell to its left has no line: 'steps for cells the tile lacks left out' (document 02)
+-- the linear predictor (G 5.1.3, 'Zp = 2 x Zb - Za', and G 5.1.4's table) from the cell to the left and the second to the left. A
+-- column with one cell to its left has no line, and is as that cell: the second column of G 5.1.4, 'steps for cells the tile lacks left
+-- out' (document 02). The table's D-(2C-A) is a slip for D-(2C-B) (docs/DECISIONS.md, A58)
 unfoldable pub linear : ℕ → ℕ → ℕ → ℕ
 linear i left second = pick (eqb i 1) left (minus (plus left left) second)
 
