@@ -5,8 +5,8 @@
 #include <inttypes.h>
 #include "gvrs.h"
 
-/* Exit status. */
-enum { DONE = 0, REFUSED = 1, FAILED = 2 };
+/* Exit status. Of a deed DONE is certain. */
+enum { DONE = 0, REFUSED = 1, FAILED = 2, DOUBTFUL = 3, UNREAD = 4 };
 
 /* The longest file that the store takes, the most cells of a tile, and a compressor index that no content has. */
 enum { LONGEST = 16777216, TILE_CELLS = 524288, NO_COMPRESSOR = 256 };
@@ -15,7 +15,10 @@ enum { LONGEST = 16777216, TILE_CELLS = 524288, NO_COMPRESSOR = 256 };
 struct request {
     char *words[6];       /* FILE and the others, as they stand */
     uint32_t compressor;  /* NO_COMPRESSOR where none is named */
+    int has_time;         /* whether a time is given */
     uint64_t time;        /* milliseconds since 1970 */
+    uint64_t wait;        /* seconds; 0 where none are given */
+    int quiet;
 };
 
 /* The file that the command is about: room for the longest and a byte more, so that a longer one is refused too. */
@@ -27,9 +30,10 @@ struct page {
 extern struct page page;
 
 /* Says on standard error what went wrong, or which refusal was given of the page, with a note behind it where there is one: the exit
-   status. */
+   status. The words of a refusal are those of gvrs_refusal, unless others are given. */
 __attribute__((format(printf, 1, 2))) int failed(const char *format, ...);
 int refused(uint32_t number, uint64_t place, const char *note);
+int refused_in_words(uint32_t number, uint64_t place, const char *words, const char *note);
 
 /* Reads digits alone, of a number up to `most`: whether that is all there is. */
 int read_number(const char *text, uint64_t most, uint64_t *number);

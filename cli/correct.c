@@ -1,5 +1,6 @@
-/* cli/correct.c: the commands that correct a page: store, remove. The page is corrected in a buffer, written to a copy beside the
-   file, and the copy takes the file's name. A symbolic link is followed: it stays, and the file that it names is replaced. */
+/* cli/correct.c: the commands that correct a page: store, remove. The file is locked; the page is corrected in a buffer, written to a
+   copy beside the file, and the copy takes the file's name. A symbolic link is followed: it stays, and the file that it names is
+   replaced. */
 #define _DEFAULT_SOURCE
 #define _XOPEN_SOURCE 700
 #include <errno.h>
@@ -10,56 +11,95 @@
 #include <string.h>
 #include <sys/file.h>
 #include <sys/stat.h>
+#include <time.h>
 #include <unistd.h>
 #include "cli.h"
 
 /* The most bytes of a tile and one more, so that more are refused too. */
 static uint8_t cells[1048576 + 1];
 
-/* The file behind FILE: its name without symbolic links, and what it was when it was read. */
+/* Beside an exit status: another correction has the file. */
+enum { TAKEN = -1 };
+
+/* The file behind FILE: its name without symbolic links, and what it was when it was locked. */
 struct original {
     char *path;
     int stream;
     struct stat was;
 };
+static const struct original NONE = {NULL, -1, {0}};
 
 static int why(const char *name) {
     return failed("%s: %s", name, strerror(errno));
 }
 
-/* Opens the file for reading alone, where it may be replaced, and keeps other corrections away. */
-static int open_original(const char *name, struct original *o) {
-    page.name = name;
-    o->path = realpath(name, NULL);
-    if (o->path == NULL)
-        return why(name);
-    o->stream = open(o->path, O_RDONLY | O_CLOEXEC | O_NONBLOCK);
-    if (o->stream < 0 || fstat(o->stream, &o->was) != 0)
-        return why(name);
-    if (!S_ISREG(o->was.st_mode))
-        return failed("%s: not a file that can be replaced", name);
-    if ((o->was.st_mode & 0222) == 0)
-        return failed("%s: no one may write to it", name);
-    if (faccessat(AT_FDCWD, o->path, W_OK, AT_EACCESS) != 0)
-        return why(name);
-    if (o->was.st_nlink > 1)
-        return failed("%s: it has another name, a hard link, which would keep the old page", name);
-    if (flock(o->stream, LOCK_EX | LOCK_NB) != 0 && errno == EWOULDBLOCK)
-        return failed("%s: another correction of it is under way", name);
-    return read_stream(o->stream, name, page.bytes, sizeof page.bytes, &page.n);
+/* Milliseconds of a clock. */
+static uint64_t milliseconds(clockid_t clock) {
+    struct timespec now = {0, 0};
+    clock_gettime(clock, &now);
+    return (uint64_t)now.tv_sec * 1000 + (uint64_t)now.tv_nsec / 1000000;
+}
+
+static int may_be_replaced(const struct stat *is) {
+    if (!S_ISREG(is->st_mode))
+        return failed("%s: not a file that can be replaced", page.name);
+    if ((is->st_mode & 0222) == 0)
+        return failed("%s: no one may write to it", page.name);
+    if (is->st_nlink > 1)
+        return failed("%s: it has another name, a hard link, which would keep the old page", page.name);
+    return DONE;
+}
+
+/* Whether the path still names the file that was locked, and no one has written to it. A file without a name has been replaced, also
+   where the folder is on another machine and this one does not know of it yet. */
+static int is_unchanged(const struct original *o) {
+    struct stat is;
+    return o->was.st_nlink > 0 && stat(o->path, &is) == 0 && is.st_dev == o->was.st_dev && is.st_ino == o->was.st_ino
+        && is.st_size == o->was.st_size && is.st_mtim.tv_sec == o->was.st_mtim.tv_sec && is.st_mtim.tv_nsec == o->was.st_mtim.tv_nsec;
+}
+
+/* Opens the file and locks it: DONE, FAILED, or TAKEN where another correction has the lock, or has replaced the file before the lock
+   was had. The file is open for writing, without which a lock over a network fails; nothing is written to it. */
+static int lock_original(struct original *o) {
+    o->path = realpath(page.name, NULL);
+    if (o->path == NULL || stat(o->path, &o->was) != 0)
+        return why(page.name);
+    if (may_be_replaced(&o->was) != DONE)
+        return FAILED;
+    o->stream = open(o->path, O_RDWR | O_CLOEXEC);
+    if (o->stream < 0)
+        return why(page.name);
+    if (flock(o->stream, LOCK_EX | LOCK_NB) != 0)
+        return errno == EWOULDBLOCK ? TAKEN : failed("%s: it cannot be locked: %s", page.name, strerror(errno));
+    if (fstat(o->stream, &o->was) != 0)
+        return why(page.name);
+    return is_unchanged(o) ? may_be_replaced(&o->was) : TAKEN;
 }
 
 static void close_original(struct original *o) {
     free(o->path);
     if (o->stream >= 0)
         close(o->stream);
+    *o = NONE;
 }
 
-/* Whether the path still names the file that was read, and no one has written to it. */
-static int is_unchanged(const struct original *o) {
-    struct stat is;
-    return stat(o->path, &is) == 0 && is.st_dev == o->was.st_dev && is.st_ino == o->was.st_ino && is.st_size == o->was.st_size
-        && is.st_mtim.tv_sec == o->was.st_mtim.tv_sec && is.st_mtim.tv_nsec == o->was.st_mtim.tv_nsec;
+/* Locks the file, waiting for other corrections up to so many seconds, and reads it. Each try opens it anew, since a correction
+   replaces it. */
+static int open_original(const char *name, uint64_t wait, struct original *o) {
+    static const struct timespec PAUSE = {0, 10000000};
+    uint64_t end = milliseconds(CLOCK_MONOTONIC) + 1000 * wait;
+    page.name = name;
+    int status = lock_original(o);
+    while (status == TAKEN && milliseconds(CLOCK_MONOTONIC) < end) {
+        close_original(o);
+        nanosleep(&PAUSE, NULL);
+        status = lock_original(o);
+    }
+    if (status == TAKEN && wait == 0)
+        return failed("%s: another correction of it is under way; --wait SECONDS waits for it", name);
+    if (status == TAKEN)
+        return failed("%s: another correction of it is still under way after %" PRIu64 " s", name, wait);
+    return status == DONE ? read_stream(o->stream, name, page.bytes, sizeof page.bytes, &page.n) : status;
 }
 
 static int write_page(int copy) {
@@ -161,16 +201,19 @@ static uint32_t correct(const struct change *c, uint64_t *place) {
     return number;
 }
 
-/* Says what is wrong with the input, or that the buffer is the ceiling. `is` is what the page was, by gvrs_page. */
+/* Says what is wrong with the input, or that the page is at the ceiling, which is the buffer's length. `is` is what the page was, by
+   gvrs_page. */
 static int refused_change(uint32_t number, uint64_t place, const struct change *c, const uint64_t *is) {
     char note[100];
-    if (number == GVRS_ROOM)
-        snprintf(note, sizeof note, "the page would have more than %d bytes", LONGEST);
-    else if (number == GVRS_OUTSIDE)
+    if (number == GVRS_ROOM) {
+        snprintf(note, sizeof note, "it would have more than %d bytes", LONGEST);
+        return refused_in_words(number, place, "the page cannot grow", note);
+    }
+    if (number == GVRS_OUTSIDE)
         snprintf(note, sizeof note, "there are tiles 0 to %" PRIu64, is[4] * is[5] - 1);
     else if (number == GVRS_INPUT && c->time == 0)
         snprintf(note, sizeof note, "the time is 0");
-    else if (number == GVRS_INPUT && c->cells_name != NULL)
+    else if (number == GVRS_INPUT && c->cells_name != NULL && c->cells_n != is[7])
         snprintf(note, sizeof note, "CELLS has %s%" PRIu64 " bytes, a tile of this page %" PRIu64,
                  c->cells_n == sizeof cells ? "at least " : "", c->cells_n, is[7]);
     else
@@ -195,14 +238,16 @@ static int correct_original(const struct original *o, const struct change *c) {
     return status;
 }
 
+/* The clock is read once the file is locked, so that a correction is never earlier than the one that it waited for. */
 static int run_change(const struct request *request, const char *cells_name) {
-    struct change c = {0, request->time, 0, cells_name};
-    struct original o = {NULL, -1, {0}};
+    struct change c = {0, 0, 0, cells_name};
+    struct original o = NONE;
     if (number_given("INDEX", request->words[1], UINT64_MAX, &c.tile) != DONE)
         return FAILED;
     if (cells_name != NULL && read_file(cells_name, cells, sizeof cells, &c.cells_n) != DONE)
         return FAILED;
-    int status = open_original(request->words[0], &o);
+    int status = open_original(request->words[0], request->wait, &o);
+    c.time = request->has_time ? request->time : milliseconds(CLOCK_REALTIME);
     if (status == DONE)
         status = correct_original(&o, &c);
     close_original(&o);

@@ -21,6 +21,12 @@ int failed(const char *format, ...) {
     return FAILED;
 }
 
+int refused_in_words(uint32_t number, uint64_t place, const char *words, const char *note) {
+    failed("%s: refused %" PRIu32 " at %" PRIu64 ": %s%s%s", page.name, number, place, words, note == NULL ? "" : ": ",
+           note == NULL ? "" : note);
+    return REFUSED;
+}
+
 int refused(uint32_t number, uint64_t place, const char *note) {
     uint64_t is[13];
     char sides[150];
@@ -29,9 +35,7 @@ int refused(uint32_t number, uint64_t place, const char *note) {
                  " and elements 0 to %" PRIu64, is[0] - 1, is[1] - 1, is[4] * is[5] - 1, is[6] - 1);
         note = sides;
     }
-    failed("%s: refused %" PRIu32 " at %" PRIu64 ": %s%s%s", page.name, number, place, gvrs_refusal(number),
-           note == NULL ? "" : ": ", note == NULL ? "" : note);
-    return REFUSED;
+    return refused_in_words(number, place, gvrs_refusal(number), note);
 }
 
 int read_number(const char *text, uint64_t most, uint64_t *number) {

@@ -2,11 +2,29 @@
 #include <errno.h>
 #include <stdio.h>
 #include <string.h>
-#include <time.h>
 #include "cli.h"
 
-/* The options that a command takes. */
-enum { COMPRESSOR = 1, TIME = 2 };
+/* The options that a command takes, each with the name and the most of the number behind it; -q has none. */
+enum { COMPRESSOR = 1, TIME = 2, WAIT = 4, QUIET = 8 };
+
+struct option {
+    int option;
+    const char *name;
+    const char *number;
+    uint64_t most;
+    const char *help;
+};
+
+static const struct option OPTIONS[] = {
+    {COMPRESSOR, "--compressor", "N", 255,
+     "--compressor N unpacks content of the compressor index N, 0 to 255, but no Float's; other is refused (11).\n"},
+    {TIME, "--time", "MS", UINT64_MAX,
+     "--time MS is the time modified, in milliseconds since 1970; without it, the clock's.\n"},
+    {WAIT, "--wait", "SECONDS", UINT32_MAX,
+     "--wait SECONDS waits up to so long for other corrections of FILE to end; without it, the command fails at once.\n"},
+    {QUIET, "-q", NULL, 0, "-q prints no answer: the exit status says it. Refusals and failures are still said.\n"},
+};
+enum { OPTION_COUNT = sizeof OPTIONS / sizeof OPTIONS[0] };
 
 struct command {
     const char *name;
@@ -31,13 +49,14 @@ static const struct command COMMANDS[] = {
     {"cells", "FILE ELEMENT ROW COLUMN ROWS COLUMNS", 6, COMPRESSOR, run_cells,
      "Shows an element's cells in a rectangle, by rows: ROWS rows from ROW on, COLUMNS columns from COLUMN\n"
      "on. A fill is `fill(7)`, a cell that cannot be read `refused(11)` or `refused(14)`.\n"},
-    {"deed", "FILE ELEMENT ROW COLUMN ROWS COLUMNS", 6, COMPRESSOR, run_deed,
+    {"deed", "FILE ELEMENT ROW COLUMN ROWS COLUMNS", 6, COMPRESSOR | QUIET, run_deed,
      "Judges the scores of a Short element in a rectangle: certain where each is from 900 to 1000, unread\n"
-     "where a cell is fill, else doubtful; with the number of fills and the lowest score.\n"},
-    {"store", "FILE INDEX CELLS", 3, TIME, run_store,
+     "where a cell is fill, else doubtful; with the number of fills and the lowest score.\n"
+     "Exit status: 0 certain, 3 doubtful, 4 unread, 1 refused, 2 failed.\n"},
+    {"store", "FILE INDEX CELLS", 3, TIME | WAIT, run_store,
      "Stores a tile: CELLS is a file with its bytes, all elements in order, little-endian, by rows. The page\n"
      "is written to a copy beside FILE, which then takes its name; where anything fails FILE stays as it is.\n"},
-    {"remove", "FILE INDEX", 2, TIME, run_remove,
+    {"remove", "FILE INDEX", 2, TIME | WAIT, run_remove,
      "Removes a tile, so that its cells are fills. The page is written to a copy beside FILE, which then\n"
      "takes its name; where anything fails FILE stays as it is.\n"},
 };
@@ -47,8 +66,13 @@ static const char NUMBERS[] = "Rows, columns, elements and tiles count from 0.\n
 static const char ELEMENT[] = "ELEMENT is an element's number or its name.\n";
 
 static void print_usage(FILE *stream, const struct command *command) {
-    fprintf(stream, "gvrs %s %s%s%s\n", command->name, command->arguments, command->options & COMPRESSOR ? " [--compressor N]" : "",
-            command->options & TIME ? " [--time MS]" : "");
+    fprintf(stream, "gvrs %s %s", command->name, command->arguments);
+    for (int i = 0; i < OPTION_COUNT; i++) {
+        const char *number = OPTIONS[i].number;
+        if (command->options & OPTIONS[i].option)
+            fprintf(stream, " [%s%s%s]", OPTIONS[i].name, number == NULL ? "" : " ", number == NULL ? "" : number);
+    }
+    fprintf(stream, "\n");
 }
 
 static int print_help(void) {
@@ -58,7 +82,7 @@ static int print_help(void) {
         print_usage(stdout, &COMMANDS[i]);
     }
     printf("\n%s%s`gvrs COMMAND --help` says more of a command.\n"
-           "Exit status: 0 done, 1 refused, 2 failed.\n", NUMBERS, ELEMENT);
+           "Exit status: 0 done, 1 refused, 2 failed; of a deed 0 certain, 3 doubtful, 4 unread.\n", NUMBERS, ELEMENT);
     return DONE;
 }
 
@@ -67,55 +91,56 @@ static int print_command_help(const struct command *command) {
     print_usage(stdout, command);
     printf("\n%s", command->help);
     printf("%s%s", command->count > 1 ? NUMBERS : "", strstr(command->arguments, "ELEMENT") ? ELEMENT : "");
-    if (command->options & COMPRESSOR)
-        printf("--compressor N unpacks content of the compressor index N, 0 to 255, but no Float's; other is refused (11).\n");
-    if (command->options & TIME)
-        printf("--time MS is the time modified, in milliseconds since 1970; without it, the clock's.\n");
+    for (int i = 0; i < OPTION_COUNT; i++)
+        if (command->options & OPTIONS[i].option)
+            printf("%s", OPTIONS[i].help);
     return DONE;
 }
 
 /* Whether an argument is the option: then its value is the rest of the argument, behind a =, or the next one, NULL if there is none. */
-static int is_option(const char *option, char ***at, const char **value) {
-    size_t n = strlen(option);
-    if (strncmp(**at, option, n) != 0 || ((**at)[n] != '\0' && (**at)[n] != '='))
+static int is_option(const struct option *option, char ***at, const char **value) {
+    size_t n = strlen(option->name);
+    if (option->number == NULL)
+        return strcmp(**at, option->name) == 0;
+    if (strncmp(**at, option->name, n) != 0 || ((**at)[n] != '\0' && (**at)[n] != '='))
         return 0;
     *value = (**at)[n] == '=' ? **at + n + 1 : *++*at;
     return 1;
 }
 
-static int option_given(const char *option, const char *value, uint64_t most, uint64_t *number) {
-    return value == NULL ? failed("%s wants a number behind it", option) : number_given(option, value, most, number);
+static void set_option(struct request *request, int option, uint64_t number) {
+    switch (option) {
+    case COMPRESSOR: request->compressor = (uint32_t)number; break;
+    case TIME: request->time = number, request->has_time = 1; break;
+    case WAIT: request->wait = number; break;
+    case QUIET: request->quiet = 1; break;
+    }
 }
 
 static int read_option(const struct command *command, char ***at, struct request *request) {
-    const char *option = **at, *value = NULL;
-    if (command->options & COMPRESSOR && is_option("--compressor", at, &value)) {
-        uint64_t number = NO_COMPRESSOR;
-        int status = option_given("--compressor", value, 255, &number);
-        request->compressor = (uint32_t)number;
-        return status;
-    }
-    if (command->options & TIME && is_option("--time", at, &value))
-        return option_given("--time", value, UINT64_MAX, &request->time);
-    return failed("%s is no option of gvrs %s; `gvrs %s --help` says what is", option, command->name, command->name);
-}
-
-/* Milliseconds since 1970. */
-static uint64_t clock_time(void) {
-    struct timespec now = {0, 0};
-    timespec_get(&now, TIME_UTC);
-    return (uint64_t)now.tv_sec * 1000 + (uint64_t)now.tv_nsec / 1000000;
+    const char *given = **at, *value = NULL;
+    for (const struct option *option = OPTIONS; option < OPTIONS + OPTION_COUNT; option++)
+        if (command->options & option->option && is_option(option, at, &value)) {
+            uint64_t number = 0;
+            if (option->number != NULL && value == NULL)
+                return failed("%s wants a number behind it", option->name);
+            if (option->number != NULL && number_given(option->name, value, option->most, &number) != DONE)
+                return FAILED;
+            set_option(request, option->option, number);
+            return DONE;
+        }
+    return failed("%s is no option of gvrs %s; `gvrs %s --help` says what is", given, command->name, command->name);
 }
 
 static int run_command(const struct command *command, char **at) {
-    struct request request = {{NULL}, NO_COMPRESSOR, clock_time()};
+    struct request request = {.compressor = NO_COMPRESSOR};
     int count = 0, options = 1;
     for (; *at != NULL; at++) {
         if (options && strcmp(*at, "--help") == 0)
             return print_command_help(command);
         if (options && strcmp(*at, "--") == 0)
             options = 0;
-        else if (options && strncmp(*at, "--", 2) == 0) {
+        else if (options && (strncmp(*at, "--", 2) == 0 || strcmp(*at, "-q") == 0)) {
             if (read_option(command, &at, &request) != DONE)
                 return FAILED;
         } else if (count++ < command->count)

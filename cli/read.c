@@ -214,8 +214,30 @@ int run_cells(const struct request *request) {
     return number == GVRS_ACCEPTED ? DONE : refused(number, out, NULL);
 }
 
+/* Why there are no scores to judge: NULL where it is for none of these reasons. */
+static const char *why_no_scores(const struct rectangle *r) {
+    uint64_t element[4];
+    if (r->rows == 0 || r->columns == 0)
+        return "the rectangle has no cell";
+    if (gvrs_element(page.bytes, page.n, r->element, element, 4) == GVRS_ACCEPTED && element[0] != SHORT)
+        return "the element is no Short";
+    return NULL;
+}
+
+static void print_deed(const char *word, const uint64_t *out) {
+    printf("%s, fills %" PRIu64, word, out[0]);
+    if (out[1] == 1) {
+        printf(", lowest ");
+        print_value(SHORT, (uint32_t)out[2]);
+        printf("\n");
+    } else {
+        printf(", no score\n");
+    }
+}
+
 int run_deed(const struct request *request) {
     static const char *const WORDS[] = {"certain", "doubtful", "unread"};
+    static const int STATUS[] = {DONE, DOUBTFUL, UNREAD};
     struct rectangle r;
     uint64_t out[3];
     int status = rectangle_given(request, &r);
@@ -224,16 +246,10 @@ int run_deed(const struct request *request) {
     uint32_t number = gvrs_deed(page.bytes, page.n, request->compressor, r.element, r.row, r.column, r.rows, r.columns, memory,
                                 TILE_CELLS, out, 3);
     if (number == GVRS_INPUT)
-        return refused(number, out[0], r.rows == 0 || r.columns == 0 ? "the rectangle has no cell" : "the element is no Short");
+        return refused(number, out[0], why_no_scores(&r));
     if (number < GVRS_CERTAIN)
         return refused_cells(request, number, out[0]);
-    printf("%s, fills %" PRIu64, WORDS[number - GVRS_CERTAIN], out[0]);
-    if (out[1] == 1) {
-        printf(", lowest ");
-        print_value(SHORT, (uint32_t)out[2]);
-        printf("\n");
-    } else {
-        printf(", no score\n");
-    }
-    return DONE;
+    if (!request->quiet)
+        print_deed(WORDS[number - GVRS_CERTAIN], out);
+    return STATUS[number - GVRS_CERTAIN];
 }
