@@ -8,15 +8,17 @@
     page.cell(0, 0, "z").value               # fill(7), of type Fill: no number, since nothing is stored there
 
     front = gvrs.front(3, 3, 2, 2, [("z", "Short", 7)])
-    file = gvrs.lay_down(front, {2: gvrs.pack("Short", [11, 12, 13, 14])}, time=1)
+    tiles = gvrs.pack(front, {2: {"z": [[11, 12], [13, 14]]}})
+    file = gvrs.lay_down(front, tiles, time=1)
 
-Rows, columns, elements and tiles count from 0. An element is named by its number or its name. What the store refuses raises Refused; a
-number that does not fit the C type of its argument raises ValueError before anything is called. The library is the file that
-GVRS_LIBRARY names, or libgvrs.so beside this module, in the folder above it, or in `lib` of Python's own prefix.
+Rows, columns, elements and tiles count from 0. An element is named by its number or its name, to pack by its name. What the store
+refuses raises Refused; a number that does not fit the C type of its argument raises ValueError before anything is called. The library is
+the file that GVRS_LIBRARY names, or libgvrs.so beside this module, in the folder above it, or in `lib` of Python's own prefix.
 
 Any number of threads may call at once; each has to have 320 KiB of stack left, which is less than Python gives one by itself.
 """
 
+import array
 import ctypes
 import math
 import numbers
@@ -33,6 +35,7 @@ LONGEST = 16_777_216  # bytes of a file
 _TILE_CELLS = 524_288  # the most cells of a tile
 _NO_COMPRESSOR = 256  # an index that no content has
 _TYPES = ("Integer", "integer-coded", "Float", "Short")  # by their codes
+_LETTERS = dict(zip(_TYPES, "iifh"))  # what struct, Python's arrays and NumPy call them
 _DONE, _OUTSIDE, _COMPRESSED, _INPUT, _ROOM, _MALFORMED = 0, 10, 11, 12, 13, 14
 _STORED, _FILL, _UNPACKED = 32, 33, 34
 
@@ -331,34 +334,18 @@ class Page:
         return f"<gvrs.Page of {len(self._file)} bytes>"
 
 
-def _packed_float(value):
-    if not isinstance(value, numbers.Real):
-        raise TypeError(f"{value!r} is no number")
-    try:
-        return struct.pack("<f", value)
-    except OverflowError:
-        raise ValueError(f"{value} is more than a Float of 32 bits holds") from None
-
-
 def _packed(type_, value):
-    """The bytes of one number of a type, as they stand in a file."""
-    if isinstance(value, _Mark):
-        raise TypeError(f"{value!r} is no number: a cell that is not stored has no bytes")
-    if type_ == "Float":
-        return _packed_float(value)
-    width = {"Short": 16, "Integer": 32, "integer-coded": 32}.get(type_)
-    if width is None:
+    """The bytes of one number of a type, as they stand in a file. True and False are no numbers: masks are made of them."""
+    if type_ not in _LETTERS:
         raise ValueError(f"{type_!r} is no type: {', '.join(_TYPES)}")
-    number, half = operator.index(value), 1 << (width - 1)
-    if not -half <= number < half:
-        raise ValueError(f"{number} is no {type_}, which is from {-half} to {half - 1}")
-    return (number % (2 * half)).to_bytes(width // 8, "little")
-
-
-def pack(type, values):
-    """The bytes of an element's cells in a tile, of numbers by rows, or of rows of numbers. A tile that is laid down has those of its
-    elements in their order: pack("Short", scores) + pack("Float", heights). A Float is rounded to 32 bits."""
-    return b"".join(pack(type, value) if isinstance(value, (list, tuple)) else _packed(type, value) for value in values)
+    kind, word = (numbers.Real, "number") if type_ == "Float" else (numbers.Integral, "whole number")
+    if isinstance(value, bool) or not isinstance(value, kind):
+        raise TypeError(f"{value!r} is no {word}")
+    letter = "<" + _LETTERS[type_]
+    try:
+        return struct.pack(letter, value)
+    except (struct.error, OverflowError):
+        raise ValueError(f"{value} does not fit the {8 * struct.calcsize(letter)} bits of a {type_}") from None
 
 
 def _padded(content, to):
@@ -409,20 +396,135 @@ def front(rows, columns, tile_rows, tile_columns, elements, checksums=True, uuid
     return b"gvrs raster\0\1\4\0\0" + struct.pack("<IB3x", len(record), 6) + record[8:]
 
 
-def lay_down(front, tiles, time):
-    """A new page, as the bytes of its file. `tiles` is a dict from a tile's index to its bytes, all elements in order (pack); every other
-    tile is not stored, and its cells are fills. `time` is the time modified, in milliseconds since 1970. Raises Refused: 1 to 4 of the
-    front, 12 where the time is 0, an index is not below the number of tiles or a tile has more or fewer bytes than its cells take, 4 where
-    the file would be too long."""
-    tiles = {_number(index, 2**32 - 1, "index"): _bytes(cells, "a tile") for index, cells in dict(tiles).items()}
+class _Part(NamedTuple):
+    """An element in a tile that is to be packed: how errors name it, its type, its rows and columns."""
+
+    name: str
+    type: str
+    sides: tuple
+
+    def place(self, at):
+        return f"row {at // self.sides[1]}, column {at % self.sides[1]} of {self.name}"
+
+    def packed(self, at, value):
+        try:
+            return _packed(self.type, value)
+        except (TypeError, ValueError) as error:
+            raise type(error)(f"{self.place(at)}: {error}") from None
+
+    def cells(self, values):
+        """The bytes of its cells, and its mask: a byte for each cell, 0 where the cell is not masked."""
+        numpy = sys.modules.get("numpy")  # whoever gives an array of NumPy has imported it
+        if isinstance(values, (list, tuple, range)):
+            return self.of_numbers(values, numpy.ma.masked if numpy else None)
+        letter = _LETTERS[self.type]
+        if isinstance(values, array.array):
+            self.compare((values.typecode, (len(values),)), (letter, (self.sides[0] * self.sides[1],)))
+            return values.tobytes(), bytes(len(values))  # in the file's byte order: the library is for x86-64
+        # No other subclass, which could have a mask of its own.
+        if numpy and type(values) in (numpy.ndarray, numpy.memmap, numpy.matrix, numpy.ma.MaskedArray):
+            self.compare((values.dtype.newbyteorder("="), values.shape), (numpy.dtype(letter), self.sides))
+            return numpy.asarray(values, "<" + letter).tobytes(), numpy.ma.getmaskarray(values).tobytes()
+        raise TypeError(f"{self.name}: cells are numbers, or an array of Python or of NumPy, and not {type(values).__name__}")
+
+    def compare(self, given, wanted):
+        """Raises an error where the type and the shape of an array are not those wanted."""
+        text = "{}: an array of type {} and shape {}, and wanted are type {} and shape {}".format(self.name, *given, *wanted)
+        if given[0] != wanted[0]:
+            raise TypeError(f"{text}; tolist() gives its numbers, which are checked one by one")
+        if given[1] != wanted[1]:
+            raise ValueError(text)
+
+    def of_numbers(self, values, masked):
+        rows, columns = self.sides
+        by_rows = len(values) > 0 and all(isinstance(row, (list, tuple, range)) for row in values)
+        lengths = [len(row) for row in values] if by_rows else [len(values)]
+        if lengths != ([columns] * rows if by_rows else [rows * columns]):
+            in_rows = f" in rows of {' and '.join(map(str, sorted(set(lengths))))}" if by_rows else ""
+            raise ValueError(f"{self.name}: {sum(lengths)} numbers{in_rows}, and a tile has {rows} by {columns} cells")
+        flat = [value for row in values for value in row] if by_rows else values
+        mask = bytes(value is None or value is masked for value in flat)
+        return b"".join(self.packed(at, 0 if mask[at] else value) for at, value in enumerate(flat)), mask
+
+    def stored(self, content, mask, unread):
+        """The bytes of its cells, where the masked ones are to be stored as the number `unread`."""
+        if not any(mask):
+            return content
+        first = next(at for at, masked in enumerate(mask) if masked)
+        if unread is None:
+            raise ValueError(f"{self.place(first)}, is masked: there is no number to store, unless unread= says one")
+        cell = self.packed(first, unread)
+        return b"".join(cell if masked else content[at * len(cell) : (at + 1) * len(cell)] for at, masked in enumerate(mask))
+
+
+def _by_index(tiles, shape):
+    if not isinstance(tiles, dict):
+        raise TypeError(f"tiles has to be a dict from indexes, and not {type(tiles).__name__}")
+    tiles = {_number(index, 2**32 - 1, "index"): cells for index, cells in tiles.items()}
+    for index in tiles:
+        if index >= shape.tiles_down * shape.tiles_across:
+            raise Refused(_INPUT, 0, f"tile {index}: there are tiles 0 to {shape.tiles_down * shape.tiles_across - 1}")
+    return tiles
+
+
+def pack(front, tiles, unread=None):
+    """What lay_down takes: a dict from a tile's index to its bytes. `front` is the page's, or a Page; `tiles` a dict from a tile's index
+    to a dict from each element's name to its cells there, places past the grid's edge too. Cells are numbers by rows, or rows of numbers;
+    an array of Python (array.array); or a two-dimensional one of NumPy. An array is of the element's own type, in any byte order: h for a
+    Short, i for an Integer and an integer-coded one, f for a Float. A number has to fit the type; one for a Float is rounded to 32 bits.
+
+    A cell is masked where it is so in an array, and where it is None among numbers. That is an error, unless `unread` is the number to
+    store there, or a dict of such numbers by the elements' names: nothing in the page tells it from one that was read. A tile that is
+    masked whole in every element is left out, so that its cells are fills."""
+    page = front if isinstance(front, Page) else Page.of_bytes(_laid(_bytes(front, "front"), {}, 1))
+    shape, elements, packed = page.shape, page.elements, {}
+    names = [element.name for element in elements]
+    unread = unread if isinstance(unread, dict) else dict.fromkeys(names, unread)
+    for index, cells in _by_index(tiles, shape).items():
+        if not isinstance(cells, dict) or set(cells) != set(names):
+            given = ", ".join(map(str, cells)) if isinstance(cells, dict) else type(cells).__name__
+            raise TypeError(f"tile {index}: wanted is a dict with the cells of {', '.join(names)}, and not {given}")
+        parts = [_Part(f"tile {index}, element {name!r}", type_, shape[2:4]) for name, type_, _ in elements]
+        contents, masks = zip(*(part.cells(cells[name]) for part, name in zip(parts, names)))
+        if not all(map(all, masks)):
+            packed[index] = b"".join(
+                part.stored(content, mask, unread.get(name)) for part, content, mask, name in zip(parts, contents, masks, names)
+            )
+    return packed
+
+
+def _laid(front, tiles, time):
     indexes = sorted(tiles)
-    cells = b"".join(tiles[index] for index in indexes)
-    front, time, count = _bytes(front, "front"), _number64(time, "time"), len(indexes)
+    cells, count = b"".join(tiles[index] for index in indexes), len(indexes)
     file = ctypes.create_string_buffer(LONGEST)
     number, [out] = _ask(
         "gvrs_lay_down", 1, front, len(front), time, (_U32 * count)(*indexes), count, cells, len(cells), file, LONGEST
     )
     if number != _DONE:
-        note = "the time is 0" if time == 0 else "an index past the tiles, or more or fewer bytes than the tiles' cells take"
-        raise Refused(number, out, note if number == _INPUT else None)
+        raise Refused(number, out, "the time is 0" if number == _INPUT else None)
     return ctypes.string_at(file, out)
+
+
+def _tile_bytes(index, cells, wanted):
+    """The bytes of a tile; of no array, since masked cells have bytes too, and its numbers may have others than the cells of a page."""
+    taken, given = isinstance(cells, (bytes, bytearray)), type(cells).__name__
+    if isinstance(cells, memoryview):
+        taken = cells.format == "B" and cells.ndim == 1 and cells.contiguous
+        given = f"a memoryview of format {cells.format!r} and shape {cells.shape}"
+    if not taken:
+        kinds = "bytes, bytearray or a contiguous memoryview of format 'B'"
+        raise TypeError(f"tile {index} has to be {wanted} bytes, as {kinds}, and not {given}: pack makes them of numbers and arrays")
+    if len(cells) != wanted:
+        raise Refused(_INPUT, 0, f"tile {index}: {len(cells)} bytes, and its cells take {wanted}")
+    return bytes(cells)
+
+
+def lay_down(front, tiles, time):
+    """A new page, as the bytes of its file. `tiles` is a dict from a tile's index to its bytes, all elements in order, as pack makes it:
+    bytes, a bytearray or a memoryview of format B, and nothing else. Every other tile is not stored, and its cells are fills. `time` is the
+    time modified, in milliseconds since 1970. Raises Refused: 1 to 4 of the front, 12 where the time is 0, an index is not below the number
+    of tiles or a tile has more or fewer bytes than its cells take, 4 where the file would be too long."""
+    front, time = _bytes(front, "front"), _number64(time, "time")
+    shape = Page.of_bytes(_laid(front, {}, time)).shape
+    tiles = {index: _tile_bytes(index, cells, shape.tile_bytes) for index, cells in _by_index(tiles, shape).items()}
+    return _laid(front, tiles, time)

@@ -1,12 +1,14 @@
 """Tests of the Python module gvrs, which is found by PYTHONPATH, on the pages of the folder that GVRS_PAGES names. tests/installed/run
-runs them."""
+runs them. Those of Arrays are left out where NumPy is missing."""
 
 import array
 import copy
+import ctypes
 import itertools
 import math
 import os
 import pickle
+import random
 import shutil
 import statistics
 import struct
@@ -20,9 +22,15 @@ from pathlib import Path
 import gvrs
 from gvrs import Cell, Fill, Outside, Page, Refused
 
+try:
+    import numpy
+except ImportError:
+    numpy = None
+
 PAGES = Path(os.environ["GVRS_PAGES"])
 EXAMPLES = Path(__file__).parent.parent / "examples"
 TYPES = ("Integer", "integer-coded", "Float", "Short")
+LETTERS = dict(zip(TYPES, "iifh"))
 
 
 def page(name, compressor=None):
@@ -36,6 +44,11 @@ class Tests(unittest.TestCase):
         self.assertEqual((caught.exception.number, caught.exception.place), (number, place))
         self.assertIn(note or "", str(caught.exception))
         return caught.exception
+
+    def assertSays(self, kind, text, ask, *arguments, **options):
+        with self.assertRaises(kind) as caught:
+            ask(*arguments, **options)
+        self.assertIn(text, str(caught.exception))
 
 
 class StoredPages(Tests):
@@ -225,10 +238,11 @@ class LayDown(Tests):
     """Pages made from nothing, laid down and read back."""
 
     def laid(self, sides, elements, tiles, time=1, **options):
-        return Page.of_bytes(gvrs.lay_down(gvrs.front(*sides, elements, **options), tiles, time))
+        front = gvrs.front(*sides, elements, **options)
+        return Page.of_bytes(gvrs.lay_down(front, gvrs.pack(front, tiles), time))
 
     def test_sample_page(self):
-        made = self.laid((3, 3, 2, 2), [("z", "Short", 7)], {2: gvrs.pack("Short", [11, 12, 13, 14])}, uuid=bytes(16)).file
+        made = self.laid((3, 3, 2, 2), [("z", "Short", 7)], {2: {"z": [11, 12, 13, 14]}}, uuid=bytes(16)).file
         sample = page("page").file
         self.assertEqual(len(made), len(sample))
         differ = {at for at in range(len(made)) if made[at] != sample[at]}
@@ -239,7 +253,7 @@ class LayDown(Tests):
                    "integer-coded": [5, -5, 2**31 - 1, -(2**31), 0, 1], "Float": [0.0, -1.5, math.inf, -math.inf, 2.0**-149, 3.5]}
         for (type_, values), name, checksums in itertools.product(numbers.items(), ("z", "zz", "score_1", "A" * 32), (True, False)):
             with self.subTest(type=type_, name=name, checksums=checksums):
-                made = self.laid((2, 6, 2, 3), [(name, type_, values[1])], {1: gvrs.pack(type_, values)}, checksums=checksums)
+                made = self.laid((2, 6, 2, 3), [(name, type_, values[1])], {1: {name: values}}, checksums=checksums)
                 made.check()
                 fill = Fill(values[1])
                 self.assertEqual(made.elements, ((name, type_, fill),))
@@ -249,8 +263,7 @@ class LayDown(Tests):
 
     def test_several_elements_and_tiles(self):
         elements = [("a", "Integer", -1), ("bb", "integer-coded", 0), ("ccc", "Float", math.nan), ("dddd", "Short", -2), ("e5", "Short", 3)]
-        tiles = {index: b"".join(gvrs.pack(type_, [[10 * index + e, 1], [2, 3]]) for e, (_, type_, _) in enumerate(elements))
-                 for index in (5, 0, 3)}
+        tiles = {index: {name: [[10 * index + e, 1], [2, 3]] for e, (name, _, _) in enumerate(elements)} for index in (5, 0, 3)}
         made = self.laid((5, 4, 2, 2), elements, tiles, time=2**64 - 1)
         self.assertEqual(made.shape[:8], (5, 4, 2, 2, 3, 2, 5, 64))
         self.assertEqual((made.shape.stored_tiles, made.shape.time), (3, 2**64 - 1))
@@ -265,7 +278,8 @@ class LayDown(Tests):
         again = Page.of_bytes(gvrs.lay_down(gvrs.front(*old.shape[:4], old.elements), {}, 1))
         self.assertEqual(again.elements, old.elements)
         self.assertEqual(again.shape.stored_tiles, 0)
-        kept = gvrs.lay_down(page("page").file[:336], {2: gvrs.pack("Short", [11, 12, 13, 14])}, 1)
+        front = page("page").file[:336]
+        kept = gvrs.lay_down(front, gvrs.pack(front, {2: {"z": [11, 12, 13, 14]}}), 1)
         self.assertEqual(kept, page("page").file)
 
     def test_uuid(self):
@@ -290,8 +304,10 @@ class LayDown(Tests):
     def test_input_that_is_wrong(self):
         z, front = [("z", "Short", 7)], gvrs.front(3, 3, 2, 2, [("z", "Short", 7)])
         self.assertRefused(12, 0, lambda: gvrs.lay_down(front, {}, 0), "the time is 0")
-        for tiles in ({4: bytes(8)}, {0: bytes(7)}, {0: bytes(9)}, {0: b""}, {2**32 - 1: bytes(8)}):
-            self.assertRefused(12, 0, lambda: gvrs.lay_down(front, tiles, 1), "an index past the tiles")
+        for index in (4, 2**32 - 1):
+            self.assertRefused(12, 0, lambda: gvrs.lay_down(front, {index: bytes(8)}, 1), f"tile {index}: there are tiles 0 to 3")
+        for count in (7, 9, 0, 16):
+            self.assertRefused(12, 0, lambda: gvrs.lay_down(front, {3: bytes(count)}, 1), f"tile 3: {count} bytes, and its cells take 8")
         self.assertRefused(1, 0, lambda: gvrs.lay_down(b"", {}, 1))
         self.assertRefused(3, 0, lambda: gvrs.lay_down(front + b"\0", {}, 1))
         long = gvrs.front(100, 100, 1, 1, [(f"z{number}", "Integer", 7) for number in range(16)])
@@ -302,26 +318,364 @@ class LayDown(Tests):
             self.assertRaises(ValueError, gvrs.lay_down, front, {}, wrong)
         for wrong in (-1, 2**32):
             self.assertRaises(ValueError, gvrs.lay_down, front, {wrong: bytes(8)}, 1)
-        for wrong in (8, [0] * 8, "12345678", None):
-            self.assertRaises(TypeError, gvrs.lay_down, front, {0: wrong}, 1)
+        for wrong in ([(0, bytes(8)), (0, bytes(8))], None, b"", 0):
+            self.assertSays(TypeError, "tiles has to be a dict", gvrs.lay_down, front, wrong, 1)
         for wrong in (-1, 2**31, 2**64):
             for position in range(4):
                 self.assertRaises(ValueError, gvrs.front, *[wrong if i == position else 2 for i in range(4)], z)
 
+    def test_bytes_of_each_tile(self):
+        front = gvrs.front(3, 3, 2, 2, [("z", "Short", 7)])
+        tiles = {1: bytes(9), 0: bytes(8), 3: bytes(7)}  # as many bytes together as three tiles take
+        self.assertRefused(12, 0, lambda: gvrs.lay_down(front, tiles, 1), "tile 1: 9 bytes, and its cells take 8")
+
     def test_elements_that_are_none(self):
-        for wrong in ("z", ("z",), ("z", "Short"), (b"z", "Short", 7), None, ("z", "Short", None), ("z", "Short", 1.5), ("z", "Float", "1")):
+        for wrong in ("z", ("z",), ("z", "Short"), (b"z", "Short", 7), None, ("z", "Short", None), ("z", "Short", 1.5),
+                      ("z", "Float", "1"), ("z", "Short", True)):
             self.assertRaises(TypeError, gvrs.front, 3, 3, 2, 2, [wrong])
         for wrong in (("z", "short", 7), ("z", None, 7), ("z", "Short", 32768), ("z", "Integer", 2**31), ("z" * 65536, "Short", 7)):
             self.assertRaises(ValueError, gvrs.front, 3, 3, 2, 2, [wrong])
 
-    def test_pack(self):
-        self.assertEqual(gvrs.pack("Short", [[1, -1], (256,)]), b"\1\0\xff\xff\0\1")
-        self.assertEqual(gvrs.pack("Float", [1.5, 2]), struct.pack("<ff", 1.5, 2))
-        self.assertEqual(gvrs.pack("Integer", range(2)) + gvrs.pack("integer-coded", [-2]), struct.pack("<iii", 0, 1, -2))
-        for type_, wrong in (("Short", 32768), ("Short", -32769), ("Integer", 2**31), ("integer-coded", -(2**31) - 1), ("Float", 1e39)):
-            self.assertRaises(ValueError, gvrs.pack, type_, [wrong])
-        for type_, wrong in (("Short", 1.5), ("Short", Fill(7)), ("Float", Fill(1.5)), ("Float", Outside(1.0)), ("Float", "1"), ("Integer", None)):
-            self.assertRaises(TypeError, gvrs.pack, type_, [wrong])
+
+class Packing(Tests):
+    FRONT = gvrs.front(3, 3, 2, 2, [("z", "Short", 7)])
+    TWO = gvrs.front(3, 3, 2, 2, [("glyph", "Integer", 0), ("score", "Short", -1)])
+
+    def front(self, type_):
+        return gvrs.front(3, 3, 2, 2, [("z", type_, 7)])
+
+    def pack(self, values, type_="Short", **options):
+        """What tile 2 is packed as, or None where it is left out."""
+        return gvrs.pack(self.front(type_), {2: {"z": values}}, **options).get(2)
+
+    def deed(self, file):
+        """What a deed of the whole grid says of the last element: its grade, the fills, and the lowest score or None."""
+        shape, memory, out = Page.of_bytes(file).shape, (ctypes.c_uint32 * 4)(), (ctypes.c_uint64 * 3)()
+        wide = [ctypes.c_uint64(number) for number in (shape.elements - 1, 0, 0, shape.rows, shape.columns)]
+        deed = gvrs._library.gvrs_deed
+        deed.restype = ctypes.c_uint32
+        grade = deed(file, ctypes.c_uint64(len(file)), ctypes.c_uint32(256), *wide, memory, ctypes.c_uint64(4), out, ctypes.c_uint64(3))
+        lowest = struct.unpack("<h", struct.pack("<H", out[2]))[0] if out[1] else None
+        return {64: "certain", 65: "doubtful", 66: "unread"}[grade], out[0], lowest
+
+
+class Pack(Packing):
+    """What becomes the cells of a page, and what does not."""
+
+    def test_numbers(self):
+        self.assertEqual(self.pack([[1, -1], (256, 0)]), b"\1\0\xff\xff\0\1\0\0")
+        for values in ([1, 2, 3, 4], (1, 2, 3, 4), range(1, 5), [range(1, 3), [3, 4]], ((1, 2), (3, 4))):
+            self.assertEqual(self.pack(values), struct.pack("<4h", 1, 2, 3, 4))
+            self.assertEqual(self.pack(values, "Integer"), struct.pack("<4i", 1, 2, 3, 4))
+            self.assertEqual(self.pack(values, "integer-coded"), struct.pack("<4i", 1, 2, 3, 4))
+            self.assertEqual(self.pack(values, "Float"), struct.pack("<4f", 1, 2, 3, 4))
+        self.assertEqual(self.pack([1.5, 2, 0.1, -math.inf], "Float"), struct.pack("<4f", 1.5, 2, 0.1, -math.inf))
+
+    def test_numbers_that_do_not_fit(self):
+        for type_, wrong in (("Short", 32768), ("Short", -32769), ("Short", 10**40), ("Integer", 2**31), ("Integer", -(2**31) - 1),
+                             ("integer-coded", 2**31), ("integer-coded", -(2**31) - 1), ("Float", 1e39), ("Float", -1e39), ("Float", 10**400)):
+            bits = 16 if type_ == "Short" else 32
+            text = f"row 1, column 0 of tile 2, element 'z': {wrong} does not fit the {bits} bits of a {type_}"
+            self.assertSays(ValueError, text, self.pack, [1, 2, wrong, 4], type_)
+            self.assertSays(ValueError, text, self.pack, [[1, 2], [wrong, 4]], type_)
+            self.assertSays(ValueError, "row 0, column 1 of tile 2", self.pack, [1, None, 3, 4], type_, unread=wrong)
+
+    def test_no_numbers(self):
+        for type_, wrong in (("Short", 1.0), ("Integer", 1.5), ("integer-coded", math.nan), ("Short", Fill(7)), ("Float", Fill(1.5)),
+                             ("Float", Outside(1.0)), ("Short", Outside(None)), ("Float", "1"), ("Short", "1"), ("Short", b"1"),
+                             ("Float", 1j), ("Short", True), ("Integer", False), ("Float", True), ("Short", [1]),
+                             ("Short", Refused(11, None))):
+            word = "number" if type_ == "Float" else "whole number"
+            text = f"row 0, column 1 of tile 2, element 'z': {wrong!r} is no {word}"
+            self.assertSays(TypeError, text, self.pack, [1, wrong, 3, 4], type_)
+            self.assertSays(TypeError, text, self.pack, [1, None, 3, 4], type_, unread=wrong)
+
+    def test_shape_of_numbers(self):
+        for wrong, given in (([1, 2, 3], "3 numbers"), ([], "0 numbers"), (range(5), "5 numbers"), ([[1, 2], 3, 4], "3 numbers"),
+                             ([[1, 2], [3]], "3 numbers in rows of 1 and 2"), ([[1, 2, 3], [4]], "4 numbers in rows of 1 and 3"),
+                             ([[1, 2, 3, 4]], "4 numbers in rows of 4"), ([[1], [2], [3], [4]], "4 numbers in rows of 1"),
+                             ([[1, 2], [3, 4], [5, 6]], "6 numbers in rows of 2"), ([[], []], "0 numbers in rows of 0"),
+                             ([[[1, 2], [3, 4]]], "2 numbers in rows of 2")):
+            self.assertSays(ValueError, f"tile 2, element 'z': {given}, and a tile has 2 by 2 cells", self.pack, wrong)
+
+    def test_no_cells(self):
+        for wrong in (b"\1\2\3\4", bytearray(8), memoryview(array.array("h", [1, 2, 3, 4])), "1234", {1: 2, 3: 4, 5: 6, 7: 8}, {1, 2, 3, 4},
+                      iter([1, 2, 3, 4]), 1, None, Fill(7), (ctypes.c_int16 * 4)(1, 2, 3, 4)):
+            text = f"tile 2, element 'z': cells are numbers, or an array of Python or of NumPy, and not {type(wrong).__name__}"
+            self.assertSays(TypeError, text, self.pack, wrong)
+
+    def test_arrays_of_python(self):
+        for type_, letter in itertools.product(TYPES, "bBhHiIlLqQfd"):
+            given = array.array(letter, [1, 2, 3, 4])
+            if letter == LETTERS[type_]:
+                self.assertEqual(self.pack(given, type_), struct.pack(f"<4{letter}", 1, 2, 3, 4))
+                for count in (0, 2, 3, 5, 8):
+                    text = f"tile 2, element 'z': an array of type {letter} and shape ({count},), and wanted are type {letter} and shape (4,)"
+                    self.assertSays(ValueError, text, self.pack, array.array(letter, range(count)), type_)
+            else:
+                text = f"tile 2, element 'z': an array of type {letter} and shape (4,), and wanted are type {LETTERS[type_]} and shape (4,)"
+                self.assertSays(TypeError, text, self.pack, given, type_)
+        self.assertEqual(self.pack(array.array("i", [1, 2, 3, -4]).tolist()), struct.pack("<4h", 1, 2, 3, -4))
+
+    def test_wider_numbers_are_not_scattered(self):
+        two = array.array("i", [950, 950])  # as many bytes as four Shorts
+        self.assertSays(TypeError, "tile 0 has to be 8 bytes", gvrs.lay_down, self.FRONT, {0: two}, 1)
+        self.assertSays(TypeError, "type i and shape (2,), and wanted are type h and shape (4,)", self.pack, two)
+        self.assertSays(ValueError, "2 numbers, and a tile has 2 by 2 cells", self.pack, two.tolist())
+
+    def test_elements(self):
+        glyphs, scores = [1, 2, 3, 4], array.array("h", [900, 910, 920, 930])
+        packed = gvrs.pack(self.TWO, {0: {"score": scores, "glyph": glyphs}, 3: {"glyph": glyphs, "score": scores}})
+        self.assertEqual(packed, dict.fromkeys((0, 3), struct.pack("<4i4h", 1, 2, 3, 4, 900, 910, 920, 930)))
+        self.assertRaises(TypeError, gvrs.pack, self.TWO, {0: {"score": glyphs, "glyph": scores}})
+        for wrong, given in (({"score": scores}, "score"), ({}, ""), ({"glyph": glyphs, "score": scores, "z": scores}, "glyph, score, z"),
+                             ({0: glyphs, 1: scores}, "0, 1"), ([glyphs, scores], "list"), (bytes(24), "bytes"), (None, "NoneType")):
+            text = f"tile 3: wanted is a dict with the cells of glyph, score, and not {given}"
+            self.assertSays(TypeError, text, gvrs.pack, self.TWO, {3: wrong})
+
+    def test_indexes(self):
+        for index in (4, 2**32 - 1):
+            for cell in (1, None):
+                self.assertRefused(12, 0, lambda: gvrs.pack(self.FRONT, {index: {"z": [cell] * 4}}), f"tile {index}: there are tiles 0 to 3")
+        for wrong in (-1, 2**32):
+            self.assertRaises(ValueError, gvrs.pack, self.FRONT, {wrong: {"z": [1] * 4}})
+        self.assertSays(TypeError, "tiles has to be a dict", gvrs.pack, self.FRONT, [(0, {"z": [1] * 4})])
+        self.assertEqual(gvrs.pack(self.FRONT, {}), {})
+
+    def test_page_or_front(self):
+        for given in (page("page"), page("page").file[:336]):
+            self.assertEqual(gvrs.pack(given, {2: {"z": [1, 2, 3, 4]}}), {2: struct.pack("<4h", 1, 2, 3, 4)})
+        self.assertRefused(1, 0, lambda: gvrs.pack(b"", {}))
+        self.assertRefused(7, 376, lambda: gvrs.pack(page("refused-7"), {}))
+        self.assertRaises(TypeError, gvrs.pack, "Short", {})
+
+    def test_masked_cells(self):
+        for at in range(4):
+            values = [None if i == at else 900 + i for i in range(4)]
+            text = f"row {at // 2}, column {at % 2} of tile 2, element 'z', is masked"
+            for given in (values, [values[:2], values[2:]]):
+                self.assertSays(ValueError, text, self.pack, given)
+                self.assertSays(ValueError, text, self.pack, given, unread={"y": -1})
+                for unread in (-1, {"z": -1}, {"z": -1, "y": 5}):
+                    self.assertEqual(self.pack(given, unread=unread), struct.pack("<4h", *(-1 if i == at else 900 + i for i in range(4))))
+
+    def test_tiles_masked_whole(self):
+        blank, some = [None] * 4, [1, 2, 3, 4]
+        for unread in (None, -1, {"glyph": 0, "score": -1}):
+            tiles = {0: {"glyph": blank, "score": blank}, 1: {"glyph": some, "score": some}}
+            self.assertEqual(gvrs.pack(self.TWO, tiles, unread), {1: struct.pack("<4i4h", *some, *some)})
+        for tile, name in (({"glyph": blank, "score": some}, "glyph"), ({"glyph": some, "score": blank}, "score")):
+            self.assertSays(ValueError, f"row 0, column 0 of tile 3, element '{name}', is masked", gvrs.pack, self.TWO, {3: tile})
+        self.assertEqual(gvrs.pack(self.TWO, {3: {"glyph": some, "score": blank}}, {"score": 5}), {3: struct.pack("<4i4h", *some, *[5] * 4)})
+        self.assertRaises(ValueError, gvrs.pack, self.TWO, {3: {"glyph": blank, "score": [1, 2, 3]}})
+
+    def test_what_a_deed_makes_of_it(self):
+        front = gvrs.front(2, 4, 2, 2, [("score", "Short", -1)])
+        read, part, blank = [[900, 910], [920, 930]], [[900, None], [920, 930]], [[None] * 2] * 2
+
+        def deed(other, **options):
+            return self.deed(gvrs.lay_down(front, gvrs.pack(front, {0: {"score": read}, 1: {"score": other}}, **options), 1))
+
+        self.assertEqual(deed(read), ("certain", 0, 900))
+        self.assertEqual(deed(blank), ("unread", 4, 900))
+        self.assertEqual(deed(blank, unread=0), ("unread", 4, 900))
+        self.assertEqual(deed(part, unread=0), ("doubtful", 0, 0))
+        self.assertEqual(deed(part, unread=-1), ("doubtful", 0, -1))  # the fill's number, and no fill
+        self.assertEqual(deed(part, unread=1001), ("doubtful", 0, 900))
+        self.assertEqual(deed(part, unread=950), ("certain", 0, 900))
+
+    def test_tiles_are_bytes(self):
+        cells = struct.pack("<4h", 1, 2, 3, 4)
+        kinds = (cells, bytearray(cells), memoryview(cells), memoryview(bytearray(b"0" + cells))[1:])
+        laid = [gvrs.lay_down(self.FRONT, {2: tile}, 1) for tile in kinds]
+        self.assertEqual(laid, laid[:1] * 4)
+        self.assertEqual(Page.of_bytes(laid[0]).cells("z", 2, 0, 1, 2), [[1, 2]])
+        two, four = array.array("i", [950, 950]), array.array("h", [1, 2, 3, 4])
+        views = (memoryview(two), memoryview(four), *(memoryview(cells).cast(letter) for letter in "bcHQ?"), memoryview(cells).cast("B", (2, 4)),
+                 memoryview(cells * 2)[::2], memoryview(cells)[::-1])
+        for wrong in (two, four, array.array("B", cells), *views, (ctypes.c_uint8 * 8)(), [0] * 8, 8, "12345678", None):
+            given = type(wrong).__name__
+            if isinstance(wrong, memoryview):
+                given = f"a memoryview of format {wrong.format!r} and shape {wrong.shape}"
+            text = f"tile 2 has to be 8 bytes, as bytes, bytearray or a contiguous memoryview of format 'B', and not {given}: "
+            self.assertSays(TypeError, text, gvrs.lay_down, self.FRONT, {0: bytes(8), 2: wrong}, 1)
+
+    def test_numpy_is_not_imported(self):
+        text = "import sys, gvrs; gvrs.pack(gvrs.front(1, 1, 1, 1, [('z', 'Short', 7)]), {0: {'z': [1]}}); print('numpy' in sys.modules)"
+        done = subprocess.run([sys.executable, "-c", text], capture_output=True, text=True)
+        self.assertEqual((done.stdout, done.stderr), ("False\n", ""))
+
+
+@unittest.skipUnless(numpy, "NumPy is missing")
+class Arrays(Packing):
+    """Arrays of NumPy, and what is masked in them."""
+
+    def masked(self, mask, under=950):
+        return numpy.ma.MaskedArray(numpy.full((2, 2), under, "<i2"), mask)
+
+    def test_masked_cells_are_no_scores(self):
+        unread = numpy.ma.masked_all((2, 2), "<i2")
+        unread.data[:] = 950
+        self.assertSays(TypeError, "tile 0 has to be 8 bytes", gvrs.lay_down, self.FRONT, {0: unread}, 1)
+        self.assertSays(TypeError, "not a memoryview of format 'h'", gvrs.lay_down, self.FRONT, {0: memoryview(unread)}, 1)
+        front = gvrs.front(2, 2, 2, 2, [("z", "Short", 7)])
+        for options in ({}, {"unread": 0}):
+            packed = gvrs.pack(front, {0: {"z": unread}}, **options)
+            self.assertEqual(packed, {})
+            self.assertEqual(self.deed(gvrs.lay_down(front, packed, 1)), ("unread", 4, None))
+
+    def test_wider_numbers_are_not_scattered(self):
+        two = numpy.array([[900], [910]], "<i4")  # as many bytes as four Shorts
+        self.assertSays(TypeError, "tile 0 has to be 8 bytes", gvrs.lay_down, self.FRONT, {0: two}, 1)
+        self.assertSays(TypeError, "type int32 and shape (2, 1), and wanted are type int16 and shape (2, 2)", self.pack, two)
+        self.assertSays(ValueError, "2 numbers in rows of 1, and a tile has 2 by 2 cells", self.pack, two.tolist())
+
+    def test_other_byte_order_is_not_swapped(self):
+        scores = numpy.array([[900, 910], [920, 930]], ">i2")
+        self.assertSays(TypeError, "tile 0 has to be 8 bytes", gvrs.lay_down, self.FRONT, {0: scores}, 1)
+        self.assertEqual(self.pack(scores), struct.pack("<4h", 900, 910, 920, 930))
+
+    def test_no_array_is_a_tile(self):
+        for type_, shape in (("<i2", (2, 2)), ("<i2", 4), ("u1", 8), ("u1", (2, 4)), ("i1", 8), ("S8", 1), ("V8", ()), ("?", 8), ("<f4", 2)):
+            self.assertSays(TypeError, "tile 0 has to be 8 bytes", gvrs.lay_down, self.FRONT, {0: numpy.zeros(shape, type_)}, 1)
+            self.assertSays(TypeError, "tile 0 has to be 8 bytes", gvrs.lay_down, self.FRONT, {0: numpy.ma.zeros(shape, type_)}, 1)
+
+    def test_types(self):
+        given = {*numpy.typecodes["All"], "S4", "U2", "V4", "M8[s]", "m8[s]", "i2,i2", numpy.dtype([("z", "<i2")])}
+        for type_, dtype, order, masked in itertools.product(TYPES, given, "<>", (False, True)):
+            dtype = numpy.dtype(dtype).newbyteorder(order)
+            cells = numpy.ma.zeros((2, 2), dtype) if masked else numpy.zeros((2, 2), dtype)
+            with self.subTest(type=type_, dtype=dtype, masked=masked):
+                if dtype.newbyteorder("=") == LETTERS[type_]:
+                    self.assertEqual(self.pack(cells, type_), bytes(8 if type_ == "Short" else 16))
+                else:
+                    self.assertSays(TypeError, "tile 2, element 'z': an array of type ", self.pack, cells, type_)
+
+    def test_values(self):
+        for type_, order in itertools.product(TYPES, "<>="):
+            letter = LETTERS[type_]
+            values = [1.5, -math.inf, 3e38, -0.0] if letter == "f" else [1, -2, 255, -(2 ** (8 * struct.calcsize(letter) - 1))]
+            cells = numpy.array(values, order + letter).reshape(2, 2)
+            self.assertEqual(self.pack(cells, type_), struct.pack(f"<4{letter}", *values))
+
+    def test_nans_keep_their_bits(self):
+        bits = [0x7FC00000, 0x7F800001, 0xFFC12345, 0xFF912345]
+        for order in "<>":
+            self.assertEqual(self.pack(numpy.array(bits, order + "u4").view(order + "f4").reshape(2, 2), "Float"), struct.pack("<4I", *bits))
+        packed = self.pack(numpy.ma.MaskedArray(numpy.ones((2, 2), "f4"), [[0, 1], [0, 0]]), "Float", unread=math.nan)
+        self.assertEqual(packed, struct.pack("<4f", 1, math.nan, 1, 1))
+
+    def test_shapes(self):
+        for shape in ((), (4,), (1, 4), (4, 1), (2, 1), (2, 3), (3, 2), (1, 2, 2), (2, 2, 1), (0, 2), (2, 0), (8,)):
+            text = f"tile 2, element 'z': an array of type int16 and shape {shape}, and wanted are type int16 and shape (2, 2)"
+            self.assertSays(ValueError, text, self.pack, numpy.zeros(shape, "i2"))
+            self.assertSays(ValueError, text, self.pack, numpy.ma.zeros(shape, "i2"))
+
+    def test_orders_in_memory(self):
+        front = gvrs.front(2, 3, 2, 3, [("z", "Short", 7)])
+        large = numpy.arange(900, 964, dtype="i2").reshape(8, 8)
+        with tempfile.TemporaryFile() as file:
+            memory = numpy.memmap(file, "i2", "w+", shape=(8, 8))
+            memory[:] = large
+            for cells in (large[:2, :3], large[::4, ::3], large[::-5, ::-3], large[3:, 4:].T[:2, :3], numpy.asfortranarray(large[:2, :3]),
+                          numpy.broadcast_to(large[0, :3], (2, 3)), numpy.broadcast_to(large[:2, :1], (2, 3)), memory[1:3, 2:5],
+                          memory[1:7:3, 2::2], numpy.matrix(large[:2, :3]), numpy.matrix(large[:3, :2]).T, large.astype(">i2")[:3:2, :5:2]):
+                tile = gvrs.pack(front, {0: {"z": cells}})
+                self.assertEqual(Page.of_bytes(gvrs.lay_down(front, tile, 1)).cells("z", 0, 0, 2, 3), cells.tolist())
+                for at in itertools.product(range(2), range(3)):
+                    other = numpy.ma.MaskedArray(cells, False)
+                    other[at] = numpy.ma.masked
+                    text = f"row {at[0]}, column {at[1]} of tile 0, element 'z', is masked"
+                    self.assertSays(ValueError, text, gvrs.pack, front, {0: {"z": other}})
+                    values = [-1 if (row, column) == at else cells[row, column] for row in range(2) for column in range(3)]
+                    self.assertEqual(gvrs.pack(front, {0: {"z": other}}, unread=-1), {0: struct.pack("<6h", *values)})
+            del memory, cells, other
+
+    def test_masks(self):
+        plain = struct.pack("<4h", *[950] * 4)
+        for mask in (numpy.ma.nomask, False, numpy.zeros((2, 2), bool), [[0, 0], [0, 0]]):
+            self.assertEqual(self.pack(self.masked(mask)), plain)
+            self.assertEqual(self.pack(self.masked(mask), unread=-1), plain)
+        self.assertIsNone(self.pack(self.masked(True)))
+        self.assertIsNone(self.pack(self.masked(numpy.ones((2, 2), bool))))
+        by_columns = self.masked(numpy.asfortranarray([[False, True], [False, False]]))
+        self.assertTrue(by_columns.mask.flags.fnc)
+        self.assertSays(ValueError, "row 0, column 1 of tile 2, element 'z', is masked", self.pack, by_columns)
+        self.assertEqual(self.pack(by_columns, unread=-3), struct.pack("<4h", 950, -3, 950, 950))
+        corner = self.masked([[0, 0], [0, 1]])
+        shared = numpy.ma.MaskedArray(numpy.full((2, 2), 950, "i2"), corner.mask, copy=False)
+        hard = self.masked([[0, 0], [0, 1]], under=1)
+        hard.harden_mask()
+        hard[:] = 950
+        part = numpy.ma.MaskedArray(numpy.full((4, 4), 950, "i2"), numpy.eye(4))[2:, 1:3][::-1]
+        for cells in (corner, shared, hard, corner.copy("F"), corner.astype(">i2"), corner.T, part):
+            self.assertSays(ValueError, "row 1, column 1 of tile 2, element 'z', is masked", self.pack, cells)
+            self.assertEqual(self.pack(cells, unread=-3), plain[:6] + struct.pack("<h", -3))
+
+    def test_other_kinds_of_array(self):
+        class Own(numpy.ndarray):
+            pass
+
+        class OwnMasked(numpy.ma.MaskedArray):
+            pass
+
+        cells = numpy.ones((2, 2), "i2")
+        views = (cells.view(Own), cells.view(OwnMasked), cells.view(numpy.recarray), memoryview(cells), cells.flat)
+        for wrong in (*views, numpy.ma.masked, numpy.int16(1), numpy.void(bytes(8))):
+            text = f"tile 2, element 'z': cells are numbers, or an array of Python or of NumPy, and not {type(wrong).__name__}"
+            self.assertSays(TypeError, text, self.pack, wrong)
+
+    def test_lists_of_arrays(self):
+        cells = self.masked([[0, 1], [0, 0]])
+        self.assertRaises(ValueError, self.pack, list(cells))
+        self.assertRaises(ValueError, self.pack, list(numpy.ones((2, 2), "i2")))
+        self.assertRaises(TypeError, self.pack, list(numpy.ones((4, 1), "i2")))
+        self.assertSays(ValueError, "row 0, column 1 of tile 2", self.pack, cells.tolist())
+        self.assertSays(ValueError, "row 0, column 1 of tile 2", self.pack, [cells[0, 0], cells[0, 1], cells[1, 0], cells[1, 1]])
+        self.assertEqual(self.pack([1, numpy.ma.masked, 3, 4], unread=-1), struct.pack("<4h", 1, -1, 3, 4))
+        self.assertIsNone(self.pack([numpy.ma.masked] * 4))
+        arrays = (numpy.ma.MaskedArray(950, True, "i2"), numpy.ma.MaskedArray(950, False, "i2"), numpy.array(950, "i2"), numpy.array([950], "i2"))
+        others = (numpy.bool_(True), numpy.float32(1), numpy.float64(1), numpy.complex64(1), numpy.datetime64(1, "s"), numpy.str_("1"))
+        for wrong in (*arrays, *others):
+            self.assertSays(TypeError, "row 0, column 1 of tile 2", self.pack, [1, wrong, 3, 4])
+            self.assertSays(TypeError, "row 0, column 0 of tile 2", self.pack, [None, 2, 3, 4], unread=wrong)
+        self.assertRaises(TypeError, self.pack, [1, 2, 3, None], unread=numpy.ma.masked)
+
+    def test_numbers_of_numpy(self):
+        for kind in (numpy.int8, numpy.uint8, numpy.int16, numpy.uint16, numpy.int32, numpy.uint32, numpy.int64, numpy.uint64):
+            self.assertEqual(self.pack([kind(number) for number in range(4)]), struct.pack("<4h", 0, 1, 2, 3))
+            self.assertEqual(self.pack([None, 1, 2, 3], unread=kind(7)), struct.pack("<4h", 7, 1, 2, 3))
+        for wrong in (numpy.uint16(40000), numpy.int64(2**40), numpy.uint64(2**64 - 1)):
+            self.assertSays(ValueError, f"row 0, column 0 of tile 2, element 'z': {wrong} does not fit", self.pack, [wrong, 1, 2, 3])
+        for kind in (numpy.float16, numpy.float32, numpy.float64):
+            self.assertEqual(self.pack([kind(0.5), kind(math.inf), 2, kind(-1)], "Float"), struct.pack("<4f", 0.5, math.inf, 2, -1))
+
+    def test_pages_at_random(self):
+        chance = random.Random(1)
+        for _ in range(60):
+            rows, columns, tile_rows, tile_columns = (chance.randint(1, 5) for _ in range(4))
+            elements = [(f"z{number}", chance.choice(TYPES), 7) for number in range(chance.randint(1, 3))]
+            front = gvrs.front(rows, columns, tile_rows, tile_columns, elements)
+            across = -(-columns // tile_columns)
+            tiles, whole = {}, set()
+            for index in range(-(-rows // tile_rows) * across):
+                masks = chance.choice(("none", "some", "all"))
+                for name, type_, _ in elements:
+                    numbers = [chance.randint(-999, 999) for _ in range(tile_rows * tile_columns)]
+                    cells = numpy.array(numbers, chance.choice("<>") + LETTERS[type_])
+                    cells = numpy.ma.MaskedArray(cells.reshape((tile_rows, tile_columns), order=chance.choice("CF")), masks == "all")
+                    if masks == "some":
+                        cells.mask = [[chance.random() < 0.5 for _ in range(tile_columns)] for _ in range(tile_rows)]
+                    tiles.setdefault(index, {})[name] = cells
+                if all(cells.mask.all() for cells in tiles[index].values()):
+                    whole.add(index)
+            made = Page.of_bytes(gvrs.lay_down(front, gvrs.pack(front, tiles, unread=5), 1))
+            self.assertEqual(made.shape.stored_tiles, len(tiles) - len(whole))
+            for row, column, element in itertools.product(range(rows), range(columns), made.elements):
+                index = row // tile_rows * across + column // tile_columns
+                cell = tiles[index][element.name][row % tile_rows, column % tile_columns]
+                wanted = element.fill if index in whole else 5 if cell is numpy.ma.masked else cell
+                self.assertEqual(made.cell(row, column, element.name).value, wanted)
 
 
 class Library(Tests):
