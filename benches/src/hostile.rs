@@ -120,7 +120,7 @@ fn lists(units: &mut Units) {
         measure_file(units, format!("free records, list {}", order.name()), &file, ACCEPTED);
     }
     for order in LISTED {
-        let keys = by_id(Order::Ascending);
+        let keys = by_id(1, Order::Ascending);
         let file = bytes_of(&page_of(&keys, &order.of(keys.len())));
         measure_file(units, format!("one name, list {}", order.name()), &file, ACCEPTED);
     }
@@ -179,15 +179,18 @@ fn keys_file(keys: &[Key]) -> Vec<u8> {
     bytes_of(&page_of(keys, &Order::Ascending.of(keys.len())))
 }
 
-/// One name of one byte.
-fn by_id(order: Order) -> Vec<Key> {
-    order.of(fitting(1)).iter().map(|id| (b"m".to_vec(), *id as u32)).collect()
+/// One name of so many bytes.
+fn by_id(length: usize, order: Order) -> Vec<Key> {
+    order.of(fitting(length)).iter().map(|id| (vec![b'm'; length], *id as u32)).collect()
 }
 
 fn keys_by_id(units: &mut Units) {
-    for order in Order::ALL {
-        let file = keys_file(&by_id(order));
-        measure_file(units, format!("one name, IDs {}", order.name()), &file, ACCEPTED);
+    for length in [1, 7, 32] {
+        for order in Order::ALL {
+            let file = keys_file(&by_id(length, order));
+            let name = format!("one name of {length}, IDs {}", order.name());
+            measure_file(units, name, &file, ACCEPTED);
+        }
     }
 }
 
@@ -211,7 +214,7 @@ fn keys_alike(units: &mut Units) {
     let file = keys_file(&colliding(200_000));
     measure_file(units, "200,000 pairs on one place of a table".into(), &file, ACCEPTED);
     for order in [Order::Ascending, Order::Shuffled, Order::Blocks(4_096)] {
-        let mut keys = by_id(order);
+        let mut keys = by_id(1, order);
         let last = keys.len() - 1;
         keys[last] = keys[last / 2].clone();
         let name = format!("one twin at the end, IDs {}", order.name());
@@ -219,7 +222,7 @@ fn keys_alike(units: &mut Units) {
         let others: [(&str, fn(u32) -> u32); 2] =
             [("every pair twice", |id| id / 2), ("half of the pairs alike", |id| id.max(170_000))];
         for (what, id_of) in others {
-            let keys = by_id(order).into_iter().map(|(name, id)| (name, id_of(id)));
+            let keys = by_id(1, order).into_iter().map(|(name, id)| (name, id_of(id)));
             let keys: Vec<Key> = keys.collect();
             let name = format!("{what}, IDs {}", order.name());
             measure_file(units, name, &keys_file(&keys), DIRECTORIES);

@@ -64,7 +64,8 @@ fn near_equal(run: &mut Run, random: &mut Prng) {
 
 /// So many records: by their IDs, by their names, each pair twice, all but a few alike.
 fn many(run: &mut Run, random: &mut Prng, count: usize) {
-    let ids: Vec<Key> = (0..count).map(|id| (b"m".to_vec(), id as u32)).collect();
+    let name = vec![b'm'; random.between(1, 32)];
+    let ids: Vec<Key> = (0..count).map(|id| (name.clone(), id as u32)).collect();
     distinct(run, random, ids.clone());
     distinct(run, random, ids.iter().rev().cloned().collect());
     let length = random.between(5, 32);
