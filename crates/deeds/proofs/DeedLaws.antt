@@ -12,8 +12,12 @@ use Rattle.answer.specs.declared.Refusal.{Refusal}
 use Rattle.answer.specs.declared.Refusal.the-variants.{OutsideGrid, Input}
 use Rattle.answer.specs.declared.Verdict.{Verdict}
 use Rattle.answer.specs.declared.Verdict.the-variants as verdict
+use Rattle.answer.specs.declared.Cell.{Cell}
 use Rattle.answer.specs.Refusals.{unlessRefused}
 use Rattle.store.specs.Face.{check, element, shortKind, rectangleInside}
+use Rattle.score_rule.specs.declared.Said.{Said}
+use Rattle.score_rule.specs.declared.Said.the-variants.{First, Second, Wrong}
+use Rattle.score_rule.specs.Rules.{pageSays}
 use Rattle.deeds.specs.declared.Rule.{Rule}
 use Rattle.deeds.specs.declared.Grade.{Grade}
 use Rattle.deeds.specs.declared.Grade.the-variants.{Certain, Doubtful, Unread}
@@ -22,7 +26,7 @@ use Rattle.deeds.specs.declared.Deed.the-variants.{Graded, Refused}
 use Rattle.deeds.specs.declared.tally.Tally.{Tally}
 use Rattle.deeds.specs.declared.pieces.Judged.{Judged}
 use Rattle.deeds.specs.declared.pieces.Judged.the-variants as judged
-use Rattle.deeds.specs.Deeds.{gradeFrom, gradeBy, graded, deedBy, cellsOf, rectangleScored, firstRule, deedIn, deed}
+use Rattle.deeds.specs.Deeds.{gradeFrom, gradeBy, graded, firstRule, secondRule, deedBy, cellsOf, rectangleScored, deedSaid, deedIn, deed}
 use Rattle.deeds.specs.Tallies.{judgedIn}
 use Rattle.deeds.proofs.TallyLaws.{tally-fills, tally-certain, tally-lowest}
 use Rattle.deeds.proofs.PieceLaws.{judged-refused, counted-in}
@@ -33,6 +37,10 @@ module _ (s : List ℕ) (e rows columns : ℕ) where
   pub not-scored : (1 ≤ rows → 1 ≤ columns → element s e .kind ≡ shortKind → ⊥) → false ≡ rectangleScored s e rows columns
   unfolding rectangleScored
   not-scored h = no ((1 ≤? rows) ∷ (1 ≤? columns) ∷ (element s e .kind ≡? shortKind) ∷ []) (λ y. h (y .0) (y .1 .0) (y .1 .1 .0))
+
+  pub all-scored : 1 ≤ rows → 1 ≤ columns → element s e .kind ≡ shortKind → true ≡ rectangleScored s e rows columns
+  unfolding rectangleScored
+  all-scored h k t = yes ((1 ≤? rows) ∷ (1 ≤? columns) ∷ (element s e .kind ≡? shortKind) ∷ []) (h, (k, (t, tt)))
 
   pub scored : (k : ℕ) → k ≡ element s e .kind → 1 ≤ rows → 1 ≤ columns → eqb k 3 ≡ rectangleScored s e rows columns
   unfolding rectangleScored
@@ -55,6 +63,34 @@ module _ (n : ℕ) (b : Bool) (h : n ≡ 0) where
   unfolding gradeFrom
   grade-doubtful e = rw (← no ((1 ≤? n) ∷ []) (λ y. omega arith), e)
 
+-- by a rule, from what was counted
+
+module _ (m n : ℕ) (f : ℕ → ℕ → Cell) (rule : Rule) (x : Judged) (q : x ≡ judgedIn rule 0 m 0 n f) where
+  pub deed-at-cell : (r : Refusal) → x ≡ judged.Refused r → Refused r ≡ deedBy rule m n f
+  unfolding deedBy unlessRefused judgedIn
+  deed-at-cell r d = rw (judged-refused _ _ r (sym q ∙ d))
+
+  pub deed-graded : (t : Tally) (g : Grade) → x ≡ judged.Tallied t → g ≡ gradeFrom (t .fills) (t .certain) → Graded rule g (t .fills) (t .lowest) ≡ deedBy rule m n f
+  unfolding deedBy unlessRefused graded gradeBy
+  deed-graded t g d k =
+      let z = counted-in f rule 0 m 0 n t x q d in
+      rw (z .0, k, z .1, tally-fills rule 0 m 0 n f, tally-certain rule 0 m 0 n f, tally-lowest rule 0 m 0 n f)
+
+-- by the rule that the page says
+
+module _ (m n : ℕ) (f : ℕ → ℕ → Cell) (x y : Said) (p : x ≡ y) where
+  pub deed-first : (rule : Rule) (d : Deed) → x ≡ First → rule ≡ firstRule → d ≡ deedBy rule m n f → d ≡ deedSaid y m n f
+  unfolding deedSaid
+  deed-first rule d h u e = e ∙ rw (← p, h, u)
+
+  pub deed-second : (rule : Rule) (d : Deed) → x ≡ Second → rule ≡ secondRule → d ≡ deedBy rule m n f → d ≡ deedSaid y m n f
+  unfolding deedSaid
+  deed-second rule d h u e = e ∙ rw (← p, h, u)
+
+  pub deed-wrong : x ≡ Wrong → Refused Input ≡ deedSaid y m n f
+  unfolding deedSaid
+  deed-wrong h = rw (← p, h)
+
 -- of a rectangle in the grid
 
 module _ (s : List ℕ) (ci e row column rows columns : ℕ) (b : Bool) (p : b ≡ rectangleScored s e rows columns) where
@@ -62,17 +98,9 @@ module _ (s : List ℕ) (ci e row column rows columns : ℕ) (b : Bool) (p : b �
   unfolding deedIn
   deed-input h = rw (← p, h)
 
-  module _ (rule : Rule) (x : Judged) (h : b ≡ true) (u : rule ≡ firstRule) (q : x ≡ judgedIn rule 0 rows 0 columns (cellsOf s ci e row column)) where
-    pub deed-at-cell : (r : Refusal) → x ≡ judged.Refused r → Refused r ≡ deedIn s ci e row column rows columns
-    unfolding deedIn deedBy unlessRefused judgedIn
-    deed-at-cell r d = rw (← p, h, judged-refused _ _ r (sym q ∙ d))
-
-    pub deed-graded : (t : Tally) (g : Grade) → x ≡ judged.Tallied t → g ≡ gradeFrom (t .fills) (t .certain) → Graded g (t .fills) (t .lowest) ≡ deedIn s ci e row column rows columns
-    unfolding deedIn deedBy unlessRefused graded gradeBy
-    deed-graded t g d k =
-        let f = cellsOf s ci e row column in
-        let z = counted-in f rule 0 rows 0 columns t x q d in
-        rw (← p, h, ← u, z .0, k, z .1, tally-fills rule 0 rows 0 columns f, tally-certain rule 0 rows 0 columns f, tally-lowest rule 0 rows 0 columns f)
+  pub deed-scored : (x : Deed) → b ≡ true → x ≡ deedSaid (pageSays s) rows columns (cellsOf s ci e row column) → x ≡ deedIn s ci e row column rows columns
+  unfolding deedIn
+  deed-scored x h q = q ∙ rw (← p, h)
 
 -- behind the check
 

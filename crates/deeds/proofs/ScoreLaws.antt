@@ -18,9 +18,12 @@ use Rattle.answer.specs.Answers.{cellKind, cellBits}
 use Rattle.answer.proofs.SignedLaws as signed
 use Rattle.blocks.specs.Folds.{Joins}
 use Rattle.deeds.specs.declared.Rule.{Rule}
+use Rattle.deeds.specs.declared.Grade.{Grade}
 use Rattle.deeds.specs.declared.Lowest.{Lowest}
 use Rattle.deeds.specs.declared.Lowest.the-variants.{Score, None}
-use Rattle.deeds.specs.Deeds.{isFill, isStored, scoreOf, lesser, scoreWithin, lowestBits}
+use Rattle.deeds.specs.declared.Deed.{Deed}
+use Rattle.deeds.specs.declared.Deed.the-variants.{Graded}
+use Rattle.deeds.specs.Deeds.{isFill, isStored, scoreOf, lesser, scoreWithin, lowestBits, deedScale}
 
 -- the order of signed numbers
 
@@ -131,6 +134,11 @@ kept z h = toZ-ofZ {w = w16} (record { sfits = h })
 
 pub bits-of : (x : Lowest) (z : ℤ) (r : ℕ) → x ≡ Score z → mag z < 2 ^ hbits w16 → r ≡ ofZ w16 (toZ w16 (ofZ w16 z)) → r ≡ lowestBits x
 bits-of x z r e h q = q ∙ rw e (ap (ofZ w16) (kept z h))
+
+pub scale-of :
+    (x : Deed) (rule : Rule) (grade : Grade) (fills : ℕ) (lowest : Lowest) (r : ℕ) → x ≡ Graded rule grade fills lowest → mag (rule .scale) < 2 ^ hbits w16 →
+    r ≡ ofZ w16 (toZ w16 (ofZ w16 (rule .scale))) → r ≡ deedScale x
+scale-of x rule g k l r e h q = q ∙ rw e (ap (ofZ w16) (kept (rule .scale) h))
 
 pub signed-of : (n b : ℕ) (r : ℤ) → r ≡ toZ w16 (b % 65536) → b ≡ n → toZ w16 (ofZ w16 r) ≡ toZ w16 (n % 65536)
 signed-of n b r e q = let f : Fits w16 (b % 65536) = record { fits = omega arith } in signed.kept w16 f e ∙ rw q

@@ -25,9 +25,12 @@ use Rattle.answer.specs.declared.Cell.{Cell}
 use Rattle.answer.specs.Refusals.{unlessRefused}
 use Rattle.answer.specs.Answers.{cellKind, cellBits, cellVerdict}
 use Rattle.answer.proofs.VerdictLaws.{behind-passed, cell-kinds}
-use Rattle.store.specs.Face.{check, meaning, element, shortKind, rectangleInside}
+use Rattle.store.specs.Face.{gridRows, gridColumns, elementCount, check, meaning, element, shortKind, rectangleInside}
 use Rattle.store.proofs.ManyLaws.{means-inside, not-inside}
 use Rattle.store.proofs.PieceLaws.{bits-short}
+use Rattle.score_rule.specs.declared.Said.{Said}
+use Rattle.score_rule.specs.declared.Said.the-variants.{First, Second, Wrong}
+use Rattle.score_rule.specs.Rules.{pageSays}
 use Rattle.blocks.specs.Tables.{Inside}
 use Rattle.blocks.specs.Folds.{foldInside}
 use Rattle.blocks.proofs.FoldLaws.{sums}
@@ -39,11 +42,11 @@ use Rattle.deeds.specs.declared.Lowest.{Lowest}
 use Rattle.deeds.specs.declared.Lowest.the-variants.{Score, None}
 use Rattle.deeds.specs.declared.Deed.{Deed}
 use Rattle.deeds.specs.declared.Deed.the-variants.{Graded, Refused}
-use Rattle.deeds.specs.Deeds.{isFill, isStored, scoreOf, fillsIn, lesser, lowestIn, scoreWithin, certainBy, gradeFrom, gradeBy, graded, refusalIn, deedBy, firstRule, cellsOf, rectangleScored, deedIn, deed, hasLowest}
-use Rattle.deeds.specs.Sound.{storedIn, Sound, GradedSound, DeedSound, CertainCell, CertainExactly, InOrder, RefusedInOrder}
+use Rattle.deeds.specs.Deeds.{isFill, isStored, scoreOf, fillsIn, lesser, lowestIn, scoreWithin, certainBy, gradeFrom, gradeBy, graded, refusalIn, fromTo, firstRule, secondRule, deedBy, cellsOf, rectangleScored, deedSaid, deedIn, deed, hasLowest}
+use Rattle.deeds.specs.Sound.{storedIn, Sound, GradedSound, DeedSound, RuleOfPage, CertainCell, CertainExactly, InOrder, RefusedInOrder}
 use Rattle.deeds.proofs.ScoreLaws.{le-either, scores, lesser-comm, truths}
 use Rattle.deeds.proofs.PieceLaws.{verdicts, stays}
-use Rattle.deeds.proofs.DeedLaws.{not-scored, grade-unread, grade-certain, grade-doubtful, deed-input, deed-refused, deed-outside, deed-inside}
+use Rattle.deeds.proofs.DeedLaws.{not-scored, all-scored, grade-unread, grade-certain, grade-doubtful, deed-wrong, deed-input, deed-scored, deed-refused, deed-outside, deed-inside}
 
 -- two together are nothing where each is
 
@@ -269,52 +272,78 @@ module _ (rule : Rule) (m n : ℕ) (f : ℕ → ℕ → Cell) (a : refusalIn 0 m
 
 -- an answer that is graded
 
-graded-by : (v : Verdict) (x : Deed) (grade : Grade) (fills : ℕ) (lowest : Lowest) → unlessRefused Refused v x ≡ Graded grade fills lowest → (v ≡ verdict.Accepted) × (x ≡ Graded grade fills lowest)
+graded-by : (v : Verdict) (x : Deed) (rule : Rule) (grade : Grade) (fills : ℕ) (lowest : Lowest) → unlessRefused Refused v x ≡ Graded rule grade fills lowest → (v ≡ verdict.Accepted) × (x ≡ Graded rule grade fills lowest)
 unfolding unlessRefused
-graded-by verdict.Accepted x g k l e = (refl, e)
-graded-by (verdict.Refused r) x g k l e = let z : _≡_ {A = ℕ} 0 1 = cc in absurd (omega arith)
+graded-by verdict.Accepted x u g k l e = (refl, e)
+graded-by (verdict.Refused r) x u g k l e = let z : _≡_ {A = ℕ} 0 1 = cc in absurd (omega arith)
 
-graded-parts : (g g2 : Grade) (k k2 : ℕ) (l l2 : Lowest) → Graded g k l ≡ Graded g2 k2 l2 → (g ≡ g2) × ((k ≡ k2) × (l ≡ l2))
-graded-parts g g2 k k2 l l2 e = (cc, (cc, cc))
+graded-parts : (u u2 : Rule) (g g2 : Grade) (k k2 : ℕ) (l l2 : Lowest) → Graded u g k l ≡ Graded u2 g2 k2 l2 → (u ≡ u2) × ((g ≡ g2) × ((k ≡ k2) × (l ≡ l2)))
+graded-parts u u2 g g2 k k2 l l2 e = (cc, (cc, (cc, cc)))
 
 pub graded-sound : GradedSound
 unfolding deedBy graded
-graded-sound rule m n f g k l h w e =
-    let y = graded-by _ _ g k l e in
-    let z = graded-parts _ g _ k _ l (y .1) in
-    rw (z .0, z .1 .0, z .1 .1) at (sound rule m n f (y .0) h w)
+graded-sound rule by m n f g k l h w e =
+    let y = graded-by _ _ by g k l e in
+    let z = graded-parts _ by _ g _ k _ l (y .1) in
+    (sym (z .0), rw (z .1 .0, z .1 .1 .0, z .1 .1 .1) at (sound rule m n f (y .0) h w))
 
 -- and what it says of a page
 
-picked : (b : Bool) (x : Deed) (r : Refusal) (grade : Grade) (fills : ℕ) (lowest : Lowest) → pick b x (Refused r) ≡ Graded grade fills lowest → (b ≡ true) × (x ≡ Graded grade fills lowest)
-picked true x r g k l e = (refl, e)
-picked false x r g k l e = let z : _≡_ {A = ℕ} 0 1 = cc in absurd (omega arith)
+picked :
+    (b : Bool) (x : Deed) (r : Refusal) (rule : Rule) (grade : Grade) (fills : ℕ) (lowest : Lowest) → pick b x (Refused r) ≡ Graded rule grade fills lowest →
+    (b ≡ true) × (x ≡ Graded rule grade fills lowest)
+picked true x r u g k l e = (refl, e)
+picked false x r u g k l e = let z : _≡_ {A = ℕ} 0 1 = cc in absurd (omega arith)
 
 -- the tests that it has passed
-pub record Passed (s : List ℕ) (ci e row column rows columns : ℕ) (grade : Grade) (fills : ℕ) (lowest : Lowest) : Type 0 where
+pub record Passed (s : List ℕ) (ci e row column rows columns : ℕ) (rule : Rule) (grade : Grade) (fills : ℕ) (lowest : Lowest) : Type 0 where
   pub accepted : check s ≡ verdict.Accepted
   pub inside : rectangleInside s e row column rows columns ≡ true
   pub some : (1 ≤ rows) × (1 ≤ columns)
   pub short : element s e .kind ≡ shortKind
-  pub is : deedBy firstRule rows columns (cellsOf s ci e row column) ≡ Graded grade fills lowest
+  pub is : deedSaid (pageSays s) rows columns (cellsOf s ci e row column) ≡ Graded rule grade fills lowest
 
 passed :
-    (s : List ℕ) (ci e row column rows columns : ℕ) (grade : Grade) (fills : ℕ) (lowest : Lowest) →
-    deed s ci e row column rows columns ≡ Graded grade fills lowest → Passed s ci e row column rows columns grade fills lowest
+    (s : List ℕ) (ci e row column rows columns : ℕ) (rule : Rule) (grade : Grade) (fills : ℕ) (lowest : Lowest) →
+    deed s ci e row column rows columns ≡ Graded rule grade fills lowest → Passed s ci e row column rows columns rule grade fills lowest
 unfolding deed deedIn rectangleScored
-passed s ci e row column rows columns g k l q =
-    let a = graded-by _ _ g k l q in
-    let b = picked _ _ _ g k l (a .1) in
-    let c = picked _ _ _ g k l (b .1) in
+passed s ci e row column rows columns u g k l q =
+    let a = graded-by _ _ u g k l q in
+    let b = picked _ _ _ u g k l (a .1) in
+    let c = picked _ _ _ u g k l (b .1) in
     let t = means ((1 ≤? rows) ∷ (1 ≤? columns) ∷ (element s e .kind ≡? shortKind) ∷ []) (c .0) in
     record { accepted = a .0; inside = b .0; some = (t .0, t .1 .0); short = t .1 .1 .0; is = c .1 }
 
-pub deed-sound : DeedSound
-deed-sound s ci e row column rows columns g k l q =
-    let p = passed s ci e row column rows columns g k l q in
-    graded-sound firstRule rows columns (cellsOf s ci e row column) g k l (p .some .0) (p .some .1) (p .is)
+-- by the rule that a page says, or that is none
 
--- a score from 900 to 1000 is one by its bits
+pub record Ruled (x : Said) (m n : ℕ) (f : ℕ → ℕ → Cell) (rule : Rule) (grade : Grade) (fills : ℕ) (lowest : Lowest) : Type 0 where
+  pub which : ((x ≡ First) × (rule ≡ firstRule)) ⊎ ((x ≡ Second) × (rule ≡ secondRule))
+  pub sound : Sound rule m n f grade fills lowest
+
+module _ (m n : ℕ) (f : ℕ → ℕ → Cell) (rule : Rule) (grade : Grade) (fills : ℕ) (lowest : Lowest) (h : 1 ≤ m) (k : 1 ≤ n) where
+  ruled-by : (by : Rule) → deedBy by m n f ≡ Graded rule grade fills lowest → (rule ≡ by) × Sound rule m n f grade fills lowest
+  ruled-by by e = let y = graded-sound by rule m n f grade fills lowest h k e in (y .0, rw (y .0) (y .1))
+
+  ruled : (x : Said) → deedSaid x m n f ≡ Graded rule grade fills lowest → Ruled x m n f rule grade fills lowest
+  unfolding deedSaid
+  ruled First e = let y = ruled-by firstRule e in record { which = inl (refl, y .0); sound = y .1 }
+  ruled Second e = let y = ruled-by secondRule e in record { which = inr (refl, y .0); sound = y .1 }
+  ruled Wrong e = let z : _≡_ {A = ℕ} 0 1 = cc in absurd (omega arith)
+
+deed-ruled :
+    (s : List ℕ) (ci e row column rows columns : ℕ) (rule : Rule) (grade : Grade) (fills : ℕ) (lowest : Lowest) →
+    deed s ci e row column rows columns ≡ Graded rule grade fills lowest → Ruled (pageSays s) rows columns (cellsOf s ci e row column) rule grade fills lowest
+deed-ruled s ci e row column rows columns u g k l q =
+    let p = passed s ci e row column rows columns u g k l q in
+    ruled rows columns (cellsOf s ci e row column) u g k l (p .some .0) (p .some .1) (pageSays s) (p .is)
+
+pub deed-sound : DeedSound
+deed-sound s ci e row column rows columns u g k l q = deed-ruled s ci e row column rows columns u g k l q .sound
+
+pub rule-of-page : RuleOfPage
+rule-of-page s ci e row column rows columns u g k l q = deed-ruled s ci e row column rows columns u g k l q .which
+
+-- a score from a mark to a scale is one by its bits
 
 stored-kind : (x : Cell) → isStored x ≡ true → (cellKind x ≡ 32) ⊎ (cellKind x ≡ 34)
 unfolding isStored
@@ -324,52 +353,62 @@ stored-kind x e = go (cellKind x) e (eqb (cellKind x) 32) refl
     go n e true f = inl (eqb-true n 32 f)
     go n e false f = inr (eqb-true n 34 (rw f at e))
 
-certain-bits : (n : ℕ) → n < 65536 → scoreWithin firstRule (Score (toZ w16 (n % 65536))) ≡ true → (900 ≤ n) × (n ≤ 1000)
-unfolding scoreWithin firstRule
-certain-bits n h e =
-    let z : n % 65536 ≡ n = omega arith in
-    let y = means (is (leZ (pos 900) (toZ w16 (n % 65536))) ∷ is (leZ (toZ w16 (n % 65536)) (pos 1000)) ∷ []) e in
-    by-cases (decLe 32768 n)
-    (λ k.
-    let back : 65536 - suc (65535 - n) ≡ n = omega arith in
-    let low : toZ w16 n ≡ negsuc (65535 - n) = rw back at (toZ-neg w16 (65535 - n) (omega arith)) in
-    not-both (rw (z, low) at (y .0)) refl)
-    (λ k.
-    let l : n < 32768 = omega arith in
-    let u : leZ (pos 900) (pos n) ≡ true = rw (z, toZ-pos w16 l) at (y .0) in
-    let v : leZ (pos n) (pos 1000) ≡ true = rw (z, toZ-pos w16 l) at (y .1 .0) in
-    (leb-true 900 n u, leb-true n 1000 v))
-
-certain-cell : (x : Cell) → cellBits x < 65536 → (isStored x ≡ true) × (scoreWithin firstRule (scoreOf x) ≡ true) → CertainCell x
-unfolding scoreOf
-certain-cell x h e =
-    let w : scoreWithin firstRule (Score (toZ w16 (cellBits x % 65536))) ≡ true = rw (e .0) at (e .1) in
-    let b = certain-bits (cellBits x) h w in
-    record { stored = stored-kind x (e .0); from-mark = b .0; to-scale = b .1 }
-
-bits-certain : (n : ℕ) → 900 ≤ n → n ≤ 1000 → scoreWithin firstRule (Score (toZ w16 (n % 65536))) ≡ true
-unfolding scoreWithin firstRule
-bits-certain n h k =
-    let z : n % 65536 ≡ n = omega arith in
-    let l : n < 32768 = omega arith in
-    rw (z, toZ-pos w16 l) (sym (yes (is (leZ (pos 900) (pos n)) ∷ is (leZ (pos n) (pos 1000)) ∷ []) (le-leb 900 n h, (le-leb n 1000 k, tt))))
-
 kind-stored : (x : Cell) → (cellKind x ≡ 32) ⊎ (cellKind x ≡ 34) → isStored x ≡ true
 unfolding isStored
 kind-stored x e = ⊎-elim (λ h. rw h) (λ h. rw h) e
 
-cell-certain : (x : Cell) → CertainCell x → (isStored x ≡ true) × (scoreWithin firstRule (scoreOf x) ≡ true)
-unfolding scoreOf
-cell-certain x c = let s = kind-stored x (c .stored) in (s, rw s (bits-certain (cellBits x) (c .from-mark) (c .to-scale)))
+module _ (mark scale : ℕ) where
+  certain-bits : (n : ℕ) → n < 65536 → scoreWithin (fromTo mark scale) (Score (toZ w16 (n % 65536))) ≡ true → (mark ≤ n) × (n ≤ scale)
+  unfolding scoreWithin
+  certain-bits n h e =
+      let z : n % 65536 ≡ n = omega arith in
+      let y = means (is (leZ (pos mark) (toZ w16 (n % 65536))) ∷ is (leZ (toZ w16 (n % 65536)) (pos scale)) ∷ []) e in
+      by-cases (decLe 32768 n)
+      (λ k.
+      let back : 65536 - suc (65535 - n) ≡ n = omega arith in
+      let low : toZ w16 n ≡ negsuc (65535 - n) = rw back at (toZ-neg w16 (65535 - n) (omega arith)) in
+      not-both (rw (z, low) at (y .0)) refl)
+      (λ k.
+      let l : n < 32768 = omega arith in
+      let u : leZ (pos mark) (pos n) ≡ true = rw (z, toZ-pos w16 l) at (y .0) in
+      let v : leZ (pos n) (pos scale) ≡ true = rw (z, toZ-pos w16 l) at (y .1 .0) in
+      (leb-true mark n u, leb-true n scale v))
+
+  certain-cell : (x : Cell) → cellBits x < 65536 → (isStored x ≡ true) × (scoreWithin (fromTo mark scale) (scoreOf x) ≡ true) → CertainCell mark scale x
+  unfolding scoreOf
+  certain-cell x h e =
+      let w : scoreWithin (fromTo mark scale) (Score (toZ w16 (cellBits x % 65536))) ≡ true = rw (e .0) at (e .1) in
+      let b = certain-bits (cellBits x) h w in
+      record { stored = stored-kind x (e .0); from-mark = b .0; to-scale = b .1 }
+
+  module _ (small : scale < 32768) where
+    bits-certain : (n : ℕ) → mark ≤ n → n ≤ scale → scoreWithin (fromTo mark scale) (Score (toZ w16 (n % 65536))) ≡ true
+    unfolding scoreWithin
+    bits-certain n h k =
+        let z : n % 65536 ≡ n = omega arith in
+        let l : n < 32768 = omega arith in
+        rw (z, toZ-pos w16 l) (sym (yes (is (leZ (pos mark) (pos n)) ∷ is (leZ (pos n) (pos scale)) ∷ []) (le-leb mark n h, (le-leb n scale k, tt))))
+
+    cell-certain : (x : Cell) → CertainCell mark scale x → (isStored x ≡ true) × (scoreWithin (fromTo mark scale) (scoreOf x) ≡ true)
+    unfolding scoreOf
+    cell-certain x c = let s = kind-stored x (c .stored) in (s, rw s (bits-certain (cellBits x) (c .from-mark) (c .to-scale)))
+
+  -- either rule's scale is the score of a Short
+  scale-small : (x : Said) → ((x ≡ First) × (fromTo mark scale ≡ firstRule)) ⊎ ((x ≡ Second) × (fromTo mark scale ≡ secondRule)) → scale < 32768
+  unfolding firstRule secondRule
+  scale-small x e =
+      ⊎-elim (λ h. let q : pos scale ≡ pos 1000 = ap (λ (r : Rule). r .scale) (h .1) in let z : scale ≡ 1000 = cc in omega arith)
+      (λ h. let q : pos scale ≡ pos 10000 = ap (λ (r : Rule). r .scale) (h .1) in let z : scale ≡ 10000 = cc in omega arith) e
 
 pub certain-exactly : CertainExactly
 unfolding cellsOf
-certain-exactly s ci e row column rows columns g k l q =
-    let p = passed s ci e row column rows columns g k l q in
-    let d = deed-sound s ci e row column rows columns g k l q in
+certain-exactly s ci e row column rows columns mark scale g k l q =
+    let p = passed s ci e row column rows columns _ g k l q in
+    let d = deed-ruled s ci e row column rows columns _ g k l q in
+    let w = scale-small mark scale (pageSays s) (d .which) in
     record {
-      each = λ f r c h w. certain-cell _ (bits-short s ci (row + r) (column + c) e (p .short)) (d .certain f r c h w);
-      all = λ f. d .each-certain (λ r c h w. cell-certain _ (f r c h w));
+      each = λ f r c h i. certain-cell mark scale _ (bits-short s ci (row + r) (column + c) e (p .short)) (d .sound .certain f r c h i);
+      all = λ f. d .sound .each-certain (λ r c h i. cell-certain mark scale w _ (f r c h i));
     }
 
 -- the refusals
@@ -386,23 +425,33 @@ module _ (s : List ℕ) (ci e row column rows columns : ℕ) where
       inside-first-at (unlessRefused verdict.Refused) verdict.Accepted verdicts 0 rows 0 columns _ r c (verdict.Refused x) q
       (λ i k g. above i k (omega arith) (omega arith)) (λ k l w. before k w) (stays x) (omega arith)
 
-  deed-first :
-      (x : Refusal) → refusalIn 0 rows 0 columns (cellsOf s ci e row column) ≡ verdict.Refused x → 1 ≤ rows → 1 ≤ columns → element s e .kind ≡ shortKind →
-      Refused x ≡ deedIn s ci e row column rows columns
-  unfolding deedIn deedBy unlessRefused rectangleScored
-  deed-first x q h k t = rw (← yes ((1 ≤? rows) ∷ (1 ≤? columns) ∷ (element s e .kind ≡? shortKind) ∷ []) (h, (k, (t, tt))), q)
+  said-first : (x : Refusal) (y : Said) → refusalIn 0 rows 0 columns (cellsOf s ci e row column) ≡ verdict.Refused x → (y ≡ Wrong → ⊥) → Refused x ≡ deedSaid y rows columns (cellsOf s ci e row column)
+  unfolding deedSaid deedBy unlessRefused
+  said-first x First q h = rw q
+  said-first x Second q h = rw q
+  said-first x Wrong q h = absurd (h refl)
+
+  -- of a rectangle in the grid of an accepted file
+  inside-order :
+      check s ≡ verdict.Accepted → e < elementCount s → row + rows ≤ gridRows s → column + columns ≤ gridColumns s → (x : Deed) →
+      x ≡ deedIn s ci e row column rows columns → deed s ci e row column rows columns ≡ x
+  inside-order a h k l x q = sym (deed-inside s ci e row column rows columns (check s) refl _ refl a x (sym (means-inside s e row column rows columns h k l)) q)
+
+  either-input : (b : Bool) → b ≡ rectangleScored s e rows columns → pageSays s ≡ Wrong → Refused Input ≡ deedIn s ci e row column rows columns
+  either-input true p w = deed-scored s ci e row column rows columns true p (Refused Input) refl (deed-wrong rows columns _ (pageSays s) _ refl w)
+  either-input false p w = deed-input s ci e row column rows columns false p refl
 
   refused-order : InOrder s ci e row column rows columns
   refused-order =
       record {
         checked = λ x q. sym (deed-refused s ci e row column rows columns (check s) refl x q);
         outside = λ a h. sym (deed-outside s ci e row column rows columns (check s) refl _ refl a (sym (not-inside s e row column rows columns h)));
-        input = λ a h k l f.
-            sym (deed-inside s ci e row column rows columns (check s) refl _ refl a (Refused Input) (sym (means-inside s e row column rows columns h k l))
-            (deed-input s ci e row column rows columns false (not-scored s e rows columns f) refl));
-        cell = λ a h k l t r c i j x q above before.
-            sym (deed-inside s ci e row column rows columns (check s) refl _ refl a (Refused x) (sym (means-inside s e row column rows columns h k l))
-            (deed-first x (refusal-first r c i j x q above before) (omega arith) (omega arith) t));
+        input = λ a h k l f. inside-order a h k l (Refused Input) (deed-input s ci e row column rows columns false (not-scored s e rows columns f) refl);
+        rule-wrong = λ a h k l w. inside-order a h k l (Refused Input) (either-input _ refl w);
+        cell = λ a h k l t w r c i j x q above before.
+            inside-order a h k l (Refused x)
+            (deed-scored s ci e row column rows columns true (all-scored s e rows columns (omega arith) (omega arith) t) (Refused x) refl
+            (said-first x (pageSays s) (refusal-first r c i j x q above before) w));
       }
 
 pub refused-in-order : RefusedInOrder

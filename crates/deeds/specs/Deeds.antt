@@ -1,7 +1,8 @@
 -- Req 07, the deeds product: "Given a page, the number of a Short element with scores in thousandths, and a rectangle of cells, it answers
--- certain, doubtful or unread." A page is its bytes s and the compressor index `ci`; a rectangle is a first row and column and a number of
--- rows and of columns, each any 64-bit number. `f r c` is the cell in row r and column c of the rectangle, counted from its first, and
--- what is counted goes by the rows from `top` to below `bottom` and the columns from `left` to below `right`.
+-- certain, doubtful or unread." Req 08: or in ten-thousandths, where the page says so; what is common to both rules is stated over a rule,
+-- its mark and its scale. A page is its bytes s and the compressor index `ci`; a rectangle is a first row and column and a number of rows
+-- and of columns, each any 64-bit number. `f r c` is the cell in row r and column c of the rectangle, counted from its first, and what is
+-- counted goes by the rows from `top` to below `bottom` and the columns from `left` to below `right`.
 use Prim.Native.Nat.{ℕ, _+_, _%_}
 use mathlib.Core.List.{List, [], _∷_}
 use mathlib.Core.Bool.{Bool, true}
@@ -19,6 +20,9 @@ use Rattle.answer.specs.declared.Cell.{Cell}
 use Rattle.answer.specs.Refusals.{refusalNumber, refusalPlace, unlessRefused}
 use Rattle.answer.specs.Answers.{cellKind, cellBits, cellVerdict}
 use Rattle.store.specs.Face.{check, meaning, element, shortKind, rectangleInside}
+use Rattle.score_rule.specs.declared.Said.{Said}
+use Rattle.score_rule.specs.declared.Said.the-variants.{First, Second, Wrong}
+use Rattle.score_rule.specs.Rules.{pageSays}
 use Rattle.blocks.specs.Folds.{foldInside}
 use Rattle.deeds.specs.declared.Rule.{Rule}
 use Rattle.deeds.specs.declared.Grade.{Grade}
@@ -53,7 +57,7 @@ lesser (Score a) (Score b) = pick (leZ a b) (Score a) (Score b)
 unfoldable pub lowestIn : ℕ → ℕ → ℕ → ℕ → (ℕ → ℕ → Cell) → Lowest
 lowestIn top bottom left right f = foldInside lesser None top bottom left right (λ r c. scoreOf (f r c))
 
--- "certain exactly if every score is from 900 to 1000": a rule has these two numbers as its mark and its scale
+-- "certain exactly if every score is from 900 to 1000", or "from 9,500 to 10,000": a rule has two such numbers as its mark and its scale
 unfoldable pub scoreWithin : Rule → Lowest → Bool
 scoreWithin rule None = true
 scoreWithin rule (Score z) = passes (is (leZ (rule .mark) z) ∷ is (leZ z (rule .scale)) ∷ [])
@@ -61,10 +65,17 @@ scoreWithin rule (Score z) = passes (is (leZ (rule .mark) z) ∷ is (leZ z (rule
 unfoldable pub certainBy : Rule → ℕ → ℕ → ℕ → ℕ → (ℕ → ℕ → Cell) → Bool
 certainBy rule top bottom left right f = foldInside both true top bottom left right (λ r c. scoreWithin rule (scoreOf (f r c)))
 
-unfoldable pub firstRule : Rule
-firstRule = record { mark = pos 900; scale = pos 1000 }
+abbrev pub fromTo : ℕ → ℕ → Rule
+fromTo mark scale = record { mark = pos mark; scale = pos scale }
 
--- "Unread if any cell is fill. Else certain exactly if every score is from 900 to 1000; else doubtful."
+unfoldable pub firstRule : Rule
+firstRule = fromTo 900 1000
+
+unfoldable pub secondRule : Rule
+secondRule = fromTo 9500 10000
+
+-- "Unread if any cell is fill. Else certain exactly if every score is from" the mark to the scale; "else doubtful." Req 08: "Fill means
+-- unread under each."
 unfoldable pub gradeFrom : ℕ → Bool → Grade
 gradeFrom fills certain = pick (passes ((1 ≤? fills) ∷ [])) Unread (pick certain Certain Doubtful)
 
@@ -72,7 +83,8 @@ unfoldable pub gradeBy : Rule → ℕ → ℕ → ℕ → ℕ → (ℕ → ℕ �
 gradeBy rule top bottom left right f = gradeFrom (fillsIn top bottom left right f) (certainBy rule top bottom left right f)
 
 unfoldable pub graded : Rule → ℕ → ℕ → ℕ → ℕ → (ℕ → ℕ → Cell) → Deed
-graded rule top bottom left right f = Graded (gradeBy rule top bottom left right f) (fillsIn top bottom left right f) (lowestIn top bottom left right f)
+graded rule top bottom left right f =
+    Graded rule (gradeBy rule top bottom left right f) (fillsIn top bottom left right f) (lowestIn top bottom left right f)
 
 -- "11 or 14 from the first such cell in row order": of cells by rows the first refusal
 unfoldable pub refusalIn : ℕ → ℕ → ℕ → ℕ → (ℕ → ℕ → Cell) → Verdict
@@ -90,10 +102,16 @@ cellsOf s ci e row column r c = meaning s ci (row + r) (column + c) e
 unfoldable pub rectangleScored : List ℕ → ℕ → ℕ → ℕ → Bool
 rectangleScored s e rows columns = passes ((1 ≤? rows) ∷ (1 ≤? columns) ∷ (element s e .kind ≡? shortKind) ∷ [])
 
+-- by the rule that a page says; "any other ID under that name, or both, is 12, beside Req 07's"
+unfoldable pub deedSaid : Said → ℕ → ℕ → (ℕ → ℕ → Cell) → Deed
+deedSaid First m n f = deedBy firstRule m n f
+deedSaid Second m n f = deedBy secondRule m n f
+deedSaid Wrong m n f = Refused Input
+
 -- of a rectangle in the grid: 12, or the deed of its cells
 unfoldable pub deedIn : List ℕ → ℕ → ℕ → ℕ → ℕ → ℕ → ℕ → Deed
 deedIn s ci e row column rows columns =
-    pick (rectangleScored s e rows columns) (deedBy firstRule rows columns (cellsOf s ci e row column)) (Refused Input)
+    pick (rectangleScored s e rows columns) (deedSaid (pageSays s) rows columns (cellsOf s ci e row column)) (Refused Input)
 
 -- "The check's refusals come first. An element number the page lacks, or a rectangle whose start plus side passes the grid's, is 10; then"
 -- 12; then 11 or 14
@@ -103,7 +121,7 @@ deed s ci e row column rows columns =
     (pick (rectangleInside s e row column rows columns) (deedIn s ci e row column rows columns) (Refused OutsideGrid))
 
 -- what an answer says in numbers: 64, 65 or 66, or the refusal's number; the number of fill cells; whether there is a lowest score, and its
--- 16 bits; the refusal's place
+-- 16 bits; the scale of the rule that it goes by; the refusal's place
 abbrev pub gradeNumber : Grade → ℕ
 gradeNumber Certain = 64
 gradeNumber Doubtful = 65
@@ -118,15 +136,15 @@ lowestBits (Score z) = ofZ w16 z
 lowestBits None = 0
 
 abbrev pub deedNumber : Deed → ℕ
-deedNumber (Graded grade fills lowest) = gradeNumber grade
+deedNumber (Graded rule grade fills lowest) = gradeNumber grade
 deedNumber (Refused r) = refusalNumber r
 
 abbrev pub deedFills : Deed → ℕ
-deedFills (Graded grade fills lowest) = fills
+deedFills (Graded rule grade fills lowest) = fills
 deedFills (Refused r) = 0
 
 abbrev pub deedLowest : Deed → Lowest
-deedLowest (Graded grade fills lowest) = lowest
+deedLowest (Graded rule grade fills lowest) = lowest
 deedLowest (Refused r) = None
 
 abbrev pub deedHasLowest : Deed → ℕ
@@ -135,6 +153,10 @@ deedHasLowest x = hasLowest (deedLowest x)
 abbrev pub deedLowestBits : Deed → ℕ
 deedLowestBits x = lowestBits (deedLowest x)
 
+abbrev pub deedScale : Deed → ℕ
+deedScale (Graded rule grade fills lowest) = ofZ w16 (rule .scale)
+deedScale (Refused r) = 0
+
 abbrev pub deedPlace : Deed → ℕ
-deedPlace (Graded grade fills lowest) = 0
+deedPlace (Graded rule grade fills lowest) = 0
 deedPlace (Refused r) = refusalPlace r

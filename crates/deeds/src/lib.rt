@@ -5,13 +5,15 @@ mod tally;
 use answer::Refusal;
 use answer::Verdict;
 use pieces::Judged;
+use score_rule::Said;
 use store::description;
 use store::many;
 use store::many::Rectangle;
 use tally::Tally;
 ghost use mathlib.Core.Path.{_≡_};
 ghost use Rattle.store.specs.Face.{Accepts};
-ghost use Rattle.deeds.specs.Deeds.{rectangleScored, firstRule, gradeFrom, deedIn, deed, gradeNumber, hasLowest, lowestBits, deedNumber, deedFills, deedLowest, deedHasLowest, deedLowestBits, deedPlace};
+ghost use Rattle.score_rule.specs.Rules.{pageSays};
+ghost use Rattle.deeds.specs.Deeds.{rectangleScored, gradeFrom, deedBy, cellsOf, deedSaid, deedIn, deed, gradeNumber, hasLowest, lowestBits, deedNumber, deedFills, deedLowest, deedHasLowest, deedLowestBits, deedScale, deedPlace};
 
 // The scores that are certain: from a mark to a scale.
 pub struct Rule {
@@ -31,24 +33,15 @@ pub enum Lowest {
     None,
 }
 
-// What is said of a rectangle: its grade, how many of its cells are fill, and its lowest score.
+// What is said of a rectangle: the rule that its page says, its grade by that rule, how many of its cells are fill, and its lowest score.
 pub enum Deed {
     Graded {
+        rule: Rule,
         grade: Grade,
         fills: u64,
         lowest: Lowest,
     },
     Refused(Refusal),
-}
-
-// Scores in thousandths, certain from 900 to 1000.
-fn first_rule() -> Rule
-    ensures { λ r. ⌜ r ≡ firstRule ⌝ }
-{
-    Rule {
-        mark: 900,
-        scale: 1000,
-    }
 }
 
 // Whether the rectangle has a cell and the element is a Short.
@@ -77,23 +70,56 @@ fn grade_of(t: Tally) -> Grade
     Grade::Unread
 }
 
-// The deed of a rectangle in the grid of an accepted file.
+// The deed of a rectangle in the grid of an accepted file, by a rule.
+fn judge_by(file: &[u8], compressor: u32, a: Rectangle, memory: &mut [u32], rule: Rule) -> Deed
+    requires { ⌜ Accepts (now file) a ⌝ }
+    ensures { λ r. ⌜ r ≡ deedBy rule (a .rows) (a .columns) (cellsOf (now (file .entry)) compressor (a .e) (a .row) (a .column)) ⌝ }
+{
+    match pieces::judge_all(file, compressor, memory, a, rule) {
+        Judged::Refused(r) => Deed::Refused(r),
+        Judged::Tallied(t) => {
+            let lowest = t.lowest;
+            Deed::Graded {
+                rule,
+                grade: grade_of(t),
+                fills: t.fills,
+                lowest,
+            }
+        }
+    }
+}
+
+// By the rule that the page says: in thousandths, certain from 900 to 1000, or in ten-thousandths, certain from 9,500 to 10,000.
+fn judge_said(file: &[u8], compressor: u32, a: Rectangle, memory: &mut [u32]) -> Deed
+    requires { ⌜ Accepts (now file) a ⌝ }
+    ensures { λ r. ⌜ r ≡ deedSaid (pageSays (now (file .entry))) (a .rows) (a .columns) (cellsOf (now (file .entry)) compressor (a .e) (a .row) (a .column)) ⌝ }
+{
+    match score_rule::page_says(file) {
+        Said::First => {
+            let first = Rule {
+                mark: 900,
+                scale: 1000,
+            };
+            judge_by(file, compressor, a, memory, first)
+        }
+        Said::Second => {
+            let second = Rule {
+                mark: 9500,
+                scale: 10000,
+            };
+            judge_by(file, compressor, a, memory, second)
+        }
+        Said::Wrong => Deed::Refused(Refusal::Input),
+    }
+}
+
+// The same, where the rectangle has a cell and the element is a Short.
 fn judge_inside(file: &[u8], compressor: u32, a: Rectangle, memory: &mut [u32]) -> Deed
     requires { ⌜ Accepts (now file) a ⌝ }
     ensures { λ r. ⌜ r ≡ deedIn (now (file .entry)) compressor (a .e) (a .row) (a .column) (a .rows) (a .columns) ⌝ }
 {
     if rectangle_scored(file, a.e, a.rows, a.columns) {
-        match pieces::judge_all(file, compressor, memory, a, first_rule()) {
-            Judged::Refused(r) => Deed::Refused(r),
-            Judged::Tallied(t) => {
-                let lowest = t.lowest;
-                Deed::Graded {
-                    grade: grade_of(t),
-                    fills: t.fills,
-                    lowest,
-                }
-            }
-        }
+        judge_said(file, compressor, a, memory)
     } else {
         Deed::Refused(Refusal::Input)
     }
@@ -165,6 +191,7 @@ pub fn deed_number(x: Deed) -> u32
 {
     match x {
         Deed::Graded {
+            rule: _,
             grade,
             fills: _,
             lowest: _,
@@ -179,6 +206,7 @@ pub fn deed_fills(x: Deed) -> u64
 {
     match x {
         Deed::Graded {
+            rule: _,
             grade: _,
             fills,
             lowest: _,
@@ -192,6 +220,7 @@ fn deed_lowest(x: Deed) -> Lowest
 {
     match x {
         Deed::Graded {
+            rule: _,
             grade: _,
             fills: _,
             lowest,
@@ -213,12 +242,28 @@ pub fn deed_lowest_bits(x: Deed) -> u32
     lowest_bits(deed_lowest(x))
 }
 
+// The scale of the rule, 1000 or 10000; 0 of a refusal.
+pub fn deed_scale(x: Deed) -> u32
+    ensures { λ r. ⌜ r ≡ deedScale x ⌝ }
+{
+    match x {
+        Deed::Graded {
+            rule,
+            grade: _,
+            fills: _,
+            lowest: _,
+        } => answer::bits_16(rule.scale) as u32,
+        Deed::Refused(_) => 0,
+    }
+}
+
 // The refusal's place.
 pub fn deed_place(x: Deed) -> usize
     ensures { λ r. ⌜ r ≡ deedPlace x ⌝ }
 {
     match x {
         Deed::Graded {
+            rule: _,
             grade: _,
             fills: _,
             lowest: _,

@@ -71,6 +71,7 @@ fn print_deed(label: &[u8], x: Deed) {
     io::write_all(STDOUT_FILENO, label);
     match x {
         Deed::Graded {
+            rule,
             grade,
             fills,
             lowest,
@@ -78,6 +79,7 @@ fn print_deed(label: &[u8], x: Deed) {
             print_grade(grade);
             print(b", fills ", fills);
             print_lowest(lowest);
+            print(b", scale ", answer::bits_16(rule.scale) as u64);
         }
         Deed::Refused(r) => print_refusal(r),
     }

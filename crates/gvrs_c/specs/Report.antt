@@ -10,7 +10,7 @@ use Rattle.answer.specs.Refusals.{refusalPlace, verdictNumber, verdictPlace}
 use Rattle.answer.specs.Answers.{cellType, cellBits, cellPlace, contentPlace, contentLength, heldPlace}
 use Rattle.deeds.specs.declared.Deed.{Deed}
 use Rattle.deeds.specs.declared.Deed.the-variants as deeds
-use Rattle.deeds.specs.Deeds.{deedHasLowest, deedLowestBits}
+use Rattle.deeds.specs.Deeds.{deedHasLowest, deedLowestBits, deedScale}
 use lib.Dec.{eqb}
 use Rattle.wire.specs.Pick.{pick}
 use Rattle.check_header.specs.Start.{checkStart, needed}
@@ -42,10 +42,10 @@ abbrev pub laidReport : Laid → ℕ
 laidReport (Length n) = n
 laidReport (Refused r) = refusalPlace r
 
--- a deed's: the number of fill cells, or the refusal's place; then whether there is a lowest score, and its bits
+-- a deed's: the number of fill cells, or the refusal's place; then whether there is a lowest score, its bits, and the scale
 abbrev pub deedReport : Deed → ℕ
-deedReport (deeds.Graded grade fills lowest) = fills
+deedReport (deeds.Graded rule grade fills lowest) = fills
 deedReport (deeds.Refused r) = refusalPlace r
 
 abbrev pub deedNumbers : Deed → List ℕ
-deedNumbers x = deedReport x ∷ deedHasLowest x ∷ deedLowestBits x ∷ []
+deedNumbers x = deedReport x ∷ deedHasLowest x ∷ deedLowestBits x ∷ deedScale x ∷ []

@@ -1,4 +1,5 @@
 // The scores of a rectangle judged.
+use crate::description;
 use deeds::Deed;
 ghost use mathlib.Core.Path.{_≡_};
 ghost use Rattle.deeds.specs.Deeds.{deed, deedNumber};
@@ -10,6 +11,7 @@ fn deed_report(x: Deed) -> u64
 {
     match x {
         Deed::Graded {
+            rule: _,
             grade: _,
             fills,
             lowest: _,
@@ -18,9 +20,21 @@ fn deed_report(x: Deed) -> u64
     }
 }
 
+// What `out` takes of a deed.
+fn deed_numbers(x: Deed) -> [u64; 4]
+    ensures { λ r. ⌜ r ≡ deedNumbers x ⌝ }
+{
+    [
+        deed_report(x),
+        deeds::deed_has_lowest(x) as u64,
+        deeds::deed_lowest_bits(x) as u64,
+        deeds::deed_scale(x) as u64,
+    ]
+}
+
 // Judges the scores of a Short element in a rectangle: 64 where they are certain, 65 doubtful, 66 unread, else the refusal's number; `out`
-// takes the number of fill cells or the refusal's place, then 1 and the lowest stored score's 16 bits, or 0 and 0 where there is none. What
-// `memory` holds afterwards is free.
+// takes the number of fill cells or the refusal's place, then 1 and the lowest stored score's 16 bits, or 0 and 0 where there is none, then
+// the scale of the rule that the page says, 0 of a refusal. What `memory` holds afterwards is free.
 #[no_mangle]
 pub extern "C" fn gvrs_deed(
     file: &[u8],
@@ -46,8 +60,7 @@ pub extern "C" fn gvrs_deed(
         columns,
         memory,
     );
-    crate::report(out, 0, deed_report(x));
-    crate::report(out, 1, deeds::deed_has_lowest(x) as u64);
-    crate::report(out, 2, deeds::deed_lowest_bits(x) as u64);
+    let numbers = deed_numbers(x);
+    description::report_all(out, &numbers);
     deeds::deed_number(x)
 }

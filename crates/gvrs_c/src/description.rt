@@ -9,7 +9,7 @@ ghost use Rattle.gvrs_c.specs.Report.{reported};
 ghost use Rattle.gvrs_c.specs.Description.{numbersInOrder, pageNumbers, elementNumbers};
 
 // All numbers of an answer, as many as `out` has room for.
-fn report_all(out: &mut [u64], numbers: &[u64])
+pub(crate) fn report_all(out: &mut [u64], numbers: &[u64])
     ensures { λ _. ⌜ now (out .exit) ≡ reported (now (numbers .entry)) (now (out .entry)) ⌝ }
 {
     let mut k = 0;

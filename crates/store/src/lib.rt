@@ -16,6 +16,7 @@
 pub mod description;
 mod elements;
 pub mod many;
+pub mod named;
 pub mod reads;
 
 use answer::Cell;

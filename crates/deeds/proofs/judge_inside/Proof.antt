@@ -1,5 +1,5 @@
 -- `deeds::judge_inside` meets its contract. Assumes nothing.
-use Rattle.deeds.proofs.DeedLaws.{deed-input, deed-at-cell, deed-graded}
+use Rattle.deeds.proofs.DeedLaws.{deed-input, deed-scored}
 use borrow.Author.Needs.{needs}
 use Rattle.deeds.proofs.judge_inside.Statement.{statement}
 use Rattle.deeds.proofs.judge_inside.Tie as tie
@@ -10,12 +10,6 @@ judge-inside-spec =
     (tie.spec
     (λ c κs. search needs)
     (λ c κs. search needs)
-    (λ c κs. search needs)
     (λ c. search needs)
-    (λ c. search needs)
-    (λ c κs. search needs)
-    (λ c. search needs)
-    (λ c. deed-at-cell _ _ _ _ _ _ _ _ (c .before .before .before .before .before .before .before .before .before .rectangle-scored .ensures) _ _ (c .before .before .before .before .before .before .before .before .if1 .taken) (c .before .before .before .before .before .before .first-rule .ensures) (c .before .before .before .before .before .judge-all .ensures) _ (c .before .r .given .1))
-    (λ c. search needs)
-    (λ c. deed-graded _ _ _ _ _ _ _ _ (c .before .before .before .before .before .before .before .before .before .before .rectangle-scored .ensures) _ _ (c .before .before .before .before .before .before .before .before .before .if1 .taken) (c .before .before .before .before .before .before .before .first-rule .ensures) (c .before .before .before .before .before .before .judge-all .ensures) _ _ (c .before .before .t .given .1) (c .grade-of .ensures))
+    (λ c. deed-scored _ _ _ _ _ _ _ _ (c .before .before .before .before .before .rectangle-scored .ensures) _ (c .before .before .before .before .if1 .taken) (c .before .before .judge-said .ensures))
     (λ c. deed-input _ _ _ _ _ _ _ _ (c .before .rectangle-scored .ensures) (c .if1 .left)))
