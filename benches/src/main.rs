@@ -1,12 +1,13 @@
 //! Times the library's check, checksum, reads, lay-down and unpacking against the second
-//! implementation's, in one run, the cells of rectangles, a tile stored in an open page, and the check
-//! of hostile files. Fails where the check, unpacking, the cells of a rectangle or the storing of a
-//! tile take longer than their bounds. With the word `hostile` it measures the hostile files alone,
-//! with `corrections` the storing of tiles alone.
+//! implementation's, in one run, the cells of rectangles, a deed, a tile stored in an open page, and the
+//! check of hostile files. Fails where the check, unpacking, the cells of a rectangle, a deed or the
+//! storing of a tile take longer than their bounds. With the word `hostile` it measures the hostile
+//! files alone, with `corrections` the storing of tiles alone, with `deeds` deeds alone.
 
 mod cells;
 mod checksum;
 mod corrections;
+mod deeds;
 mod hostile;
 mod lay_downs;
 mod look_up;
@@ -33,6 +34,9 @@ fn main() -> ExitCode {
     if env::args().any(|argument| argument == "corrections") {
         return exit_code(corrections::measure());
     }
+    if env::args().any(|argument| argument == "deeds") {
+        return exit_code(deeds::measure());
+    }
     let checks = measure_checks(units::measure);
     checksum::measure();
     reads::measure();
@@ -41,8 +45,9 @@ fn main() -> ExitCode {
     let pages = packed::pages();
     let unpacking = unpack::measure(&pages);
     let cells = cells::measure(&pages);
+    let deeds = deeds::measure();
     let corrections = corrections::measure();
-    exit_code(checks && unpacking && cells && corrections)
+    exit_code(checks && unpacking && cells && deeds && corrections)
 }
 
 /// The check of some files, and of hostile ones.

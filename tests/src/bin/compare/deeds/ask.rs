@@ -13,8 +13,8 @@ const MARK: u64 = 0x5a5a_5a5a_a5a5_a5a5;
 /// What the lent memory holds before a call, in turn: a score that is certain too.
 const MEMORIES: [u32; 4] = [950, 0, u32::MAX, 0x1234_5678];
 /// How many numbers `out` has: as many as there are, and others in turn.
-const OUT: usize = 3;
-const OTHER_OUTS: [usize; 4] = [0, 1, 2, 4];
+const OUT: usize = 4;
+const OTHER_OUTS: [usize; 5] = [0, 1, 2, 3, 5];
 
 /// One call.
 struct Call {
@@ -40,8 +40,8 @@ impl Run {
         self.deed_with(sort, asked, rectangle, compressor, &memories)
     }
 
-    /// The same with memories of these lengths, each with an `out` of 3; then with one of them in
-    /// turn, and in turn with an `out` of 0, 1, 2 and 4.
+    /// The same with memories of these lengths, each with an `out` of 4; then with one of them in
+    /// turn, and in turn with an `out` of 0, 1, 2, 3 and 5.
     pub fn deed_with(
         &mut self,
         sort: &str,
@@ -56,7 +56,8 @@ impl Run {
             Deed::Refused(_) => &memories[..memories.len().min(2)],
         };
         let turn = self.deeds.asked(sort);
-        let other = (memories[turn / 4 % memories.len()], OTHER_OUTS[turn % 4]);
+        let outs = OTHER_OUTS.len();
+        let other = (memories[turn / outs % memories.len()], OTHER_OUTS[turn % outs]);
         let each = memories.iter().map(|memory| (*memory, OUT)).chain([other]);
         for (memory, out_room) in each {
             let filled = MEMORIES[self.deeds.next_call() % MEMORIES.len()];
@@ -121,7 +122,7 @@ pub fn is_the_deed(
     memory: &mut [u32],
     answer: &Deed,
 ) -> bool {
-    let mut out = [u64::MAX; 3];
+    let mut out = [u64::MAX; 4];
     let number = deed_into(file, rectangle, compressor, memory, &mut out);
     (number, out) == answer.as_numbers()
 }

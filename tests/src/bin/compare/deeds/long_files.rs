@@ -7,7 +7,7 @@ use std::time::{Duration, Instant};
 use gvrs_tests::build::{build, bytes_of};
 use gvrs_tests::page::{Body, Element, Page, Tile, TileDirectory, SHORT};
 use gvrs_tests::prng::Prng;
-use gvrs_tests::second::deeds::{Deed, CERTAIN, DOUBTFUL, UNREAD};
+use gvrs_tests::second::deeds::{Deed, CERTAIN, DOUBTFUL, FIRST, UNREAD};
 use gvrs_tests::second::rectangles::Rectangle;
 
 use super::ask::is_the_deed;
@@ -154,7 +154,7 @@ impl Sparse {
                 found.extend(position(rectangle, spot).map(|_| *score));
             }
         }
-        graded(rectangle.cells() as u64 - found.len() as u64, found)
+        graded(FIRST, rectangle.cells() as u64 - found.len() as u64, found)
     }
 }
 
@@ -193,7 +193,7 @@ fn strips(run: &mut Run, file: &[u8], cells: usize) {
 
 /// Whether the directory lists the whole grid or no tile at all.
 fn no_tile(run: &mut Run) {
-    let expected = Deed::Graded { grade: UNREAD, fills: 1 << 32, lowest: None };
+    let expected = Deed::by_first(UNREAD, 1 << 32, None);
     for lists_all in [true, false] {
         let mut page = Sparse::new([256, 256]).page;
         if !lists_all {
@@ -203,7 +203,7 @@ fn no_tile(run: &mut Run) {
         for memory in [0, ALWAYS_ENOUGH] {
             in_time(run, &file, rectangle(ALL), memory, &expected, NO_TILE);
         }
-        let one_less = Deed::Graded { grade: UNREAD, fills: (1 << 32) - SIDE, lowest: None };
+        let one_less = Deed::by_first(UNREAD, (1 << 32) - SIDE, None);
         for sides in [[1, 0, SIDE - 1, SIDE], [0, 0, SIDE, SIDE - 1]] {
             in_time(run, &file, rectangle(sides), 0, &one_less, NO_TILE);
         }
@@ -229,7 +229,7 @@ fn last_refused(run: &mut Run, random: &mut Prng) {
 /// The score of each tile is its index, in 16 bits.
 fn many_tiles(run: &mut Run, random: &mut Prng) {
     let file = bytes_of(&page_of_many_tiles(random));
-    let graded = |grade, lowest| Deed::Graded { grade, fills: 0, lowest: Some(lowest) };
+    let graded = |grade, lowest| Deed::by_first(grade, 0, Some(lowest));
     let deeds = [
         ([0, 0, 256, 256], graded(DOUBTFUL, i16::MIN)),
         ([0, 0, 128, 256], graded(DOUBTFUL, 0)),
@@ -267,7 +267,7 @@ fn many_cells(run: &mut Run, random: &mut Prng) {
             }
         }
         let lowest = Some(if grade == CERTAIN { 900 } else { 899 });
-        let expected = Deed::Graded { grade, fills: 0, lowest };
+        let expected = Deed::by_first(grade, 0, lowest);
         let file = bytes_of(&page);
         let whole = [0, 0, 2048, 2048];
         both_in_time(run, &Asked::new(&file), whole, 16_384, &expected, MANY_CELLS);

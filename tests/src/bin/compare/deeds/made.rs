@@ -5,7 +5,7 @@ use gvrs_tests::build::build;
 use gvrs_tests::page::Page;
 use gvrs_tests::prng::Prng;
 use gvrs_tests::random_page::random_page;
-use gvrs_tests::second::deeds::{Deed, CERTAIN, DOUBTFUL, UNREAD};
+use gvrs_tests::second::deeds::{Deed, Rule, CERTAIN, DOUBTFUL, SECOND, UNREAD};
 use gvrs_tests::second::rectangles::Rectangle;
 
 use super::ask::is_the_deed;
@@ -22,13 +22,13 @@ const PAGES_SORT: &str = "deeds of pages at random";
 
 const CERTAIN_OF_BOTH: &str = "certain: stored and unpacked cells";
 const OTHERS_IN_TILE: &str = "certain, though its tiles have other scores too";
-const TOO_LOW: &str = "doubtful: a score below 900, none above 1000";
-const TOO_HIGH: &str = "doubtful: a score above 1000, none below 900";
+const TOO_LOW: &str = "doubtful: a score below the mark, none above the scale";
+const TOO_HIGH: &str = "doubtful: a score above the scale, none below the mark";
 const BELOW_0: &str = "doubtful: the lowest is below 0";
 const UNREAD_GOOD: &str = "unread: fills, and no score but certain ones";
 const UNREAD_BAD: &str = "unread: fills, and other scores than certain ones";
 const UNREAD_NONE: &str = "unread: fills alone, no lowest";
-const CERTAIN_FILL: &str = "unread: the fill's value is from 900 to 1000";
+const CERTAIN_FILL: &str = "unread: the fill's value would be a certain score";
 const EQUAL_TO_FILL: [&str; 2] = [
     "not unread: a stored cell whose bits equal the fill",
     "not unread: an unpacked cell whose bits equal the fill",
@@ -42,6 +42,8 @@ const LATER_IN_FILE: &str = "11 or 14, not of the first such record in the file"
 const LATER_BY_COLUMNS: &str = "11 or 14, not of the first such cell by columns";
 const OTHER_INDEX: &str = "11: with an index above 255 nothing is unpacked";
 const USED_MEMORY: &str = "a memory as the call before has left it";
+const BY_SECOND: [&str; 3] =
+    ["certain by the second rule", "doubtful by the second rule", "unread by the second rule"];
 const ADDRESSES: &str = "a page of scores at eight addresses in memory";
 
 /// Cells of a rectangle, so that packed tiles can be read without memory.
@@ -52,7 +54,14 @@ pub fn section(run: &mut Run, random: &mut Prng) {
         [CERTAIN_OF_BOTH, OTHERS_IN_TILE, TOO_LOW, TOO_HIGH, BELOW_0, UNREAD_GOOD, UNREAD_BAD];
     let others = [UNREAD_NONE, CERTAIN_FILL, OTHER_TILE, OTHER_ELEMENT, THEN_14, THEN_11];
     let last = [WITH_FILLS, LATER_IN_FILE, LATER_BY_COLUMNS, OTHER_INDEX, USED_MEMORY, ADDRESSES];
-    for thing in graded.iter().chain(&others).chain(&EQUAL_TO_FILL).chain(&last).chain(&FORMS) {
+    for thing in graded
+        .iter()
+        .chain(&others)
+        .chain(&EQUAL_TO_FILL)
+        .chain(&BY_SECOND)
+        .chain(&last)
+        .chain(&FORMS)
+    {
         run.deeds.want(thing);
     }
     let mut memory = Vec::new();
@@ -110,8 +119,9 @@ fn note(run: &mut Run, scored: &Scored, rectangle: Rectangle, account: &Account)
             let scores = account.scores();
             let element = &scored.page.elements[rectangle.element as usize];
             let own_fill = fill(element) as i16;
-            let (low, high) =
-                (scores.iter().any(|score| *score < 900), scores.iter().any(|score| *score > 1000));
+            let Rule { mark, scale } = scored.rule;
+            let low = scores.iter().any(|score| *score < mark);
+            let high = scores.iter().any(|score| *score > scale);
             let both = !account.stored.is_empty() && !account.unpacked.is_empty();
             run.deeds.reached_if(&[
                 (CERTAIN_OF_BOTH, grade == CERTAIN && both),
@@ -122,10 +132,13 @@ fn note(run: &mut Run, scored: &Scored, rectangle: Rectangle, account: &Account)
                 (UNREAD_GOOD, grade == UNREAD && !scores.is_empty() && !low && !high),
                 (UNREAD_BAD, grade == UNREAD && (low || high)),
                 (UNREAD_NONE, grade == UNREAD && scores.is_empty()),
-                (CERTAIN_FILL, grade == UNREAD && (900..=1000).contains(&own_fill)),
+                (CERTAIN_FILL, grade == UNREAD && scored.rule.is_certain(own_fill)),
                 (EQUAL_TO_FILL[0], grade != UNREAD && account.stored.contains(&own_fill)),
                 (EQUAL_TO_FILL[1], grade != UNREAD && account.unpacked.contains(&own_fill)),
             ]);
+            for (thing, of) in BY_SECOND.into_iter().zip([CERTAIN, DOUBTFUL, UNREAD]) {
+                run.deeds.reached_if(&[(thing, grade == of && scored.rule == SECOND)]);
+            }
             note_around(run, scored, rectangle);
         }
     }
@@ -148,7 +161,7 @@ fn note_around(run: &mut Run, scored: &Scored, rectangle: Rectangle) {
 
 /// Some tile of the rectangle has a score that is not certain.
 fn has_others(scored: &Scored, rectangle: Rectangle) -> bool {
-    let other = |score: &i16| !(900..=1000).contains(score);
+    let other = |score: &i16| !scored.rule.is_certain(*score);
     scored.kept(rectangle.element).any(|(tile, kept)| match kept {
         Kept::Stored(scores) | Kept::Unpacked(scores) => {
             meets(&scored.page, rectangle, tile) && scores.iter().any(other)

@@ -1,6 +1,7 @@
-//! Scores of rectangles judged (Req 07).
+//! Scores of rectangles judged (Req 07), by either rule (Req 08).
 
 mod ask;
+mod editions;
 mod long_files;
 mod made;
 mod outside;
@@ -18,6 +19,7 @@ use crate::run::Run;
 pub fn section(run: &mut Run, random: &mut Prng) {
     sample_sums::section(run);
     rule::section(run, random);
+    editions::section(run, random);
     made::section(run, random);
     outside::section(run, random);
     refused::section(run, random);

@@ -4,10 +4,10 @@
 use gvrs_tests::build::bytes_of;
 use gvrs_tests::page::{Body, Element, Page, Tile, SHORT};
 use gvrs_tests::prng::Prng;
-use gvrs_tests::second::deeds::{Deed, CERTAIN, DOUBTFUL, UNREAD};
+use gvrs_tests::second::deeds::{Deed, Rule, CERTAIN, DOUBTFUL, FIRST, SCORE_RULE, SECOND, UNREAD};
 use gvrs_tests::second::rectangles::Rectangle;
 
-use super::scored::{graded, packed, packed_page, EDGES};
+use super::scored::{edges, graded, packed, packed_page, say};
 use crate::face::sample_sums::{page, rectangle};
 use crate::reads::ask::Asked;
 use crate::run::Run;
@@ -35,7 +35,10 @@ const ODD: [(i16, u32, i16); 11] = [
 const STORED_OR_PACKED: [&str; 2] = ["stored", "packed"];
 const PAIRS: &str = "every pair of odd scores";
 const FILLS: &str = "every set of four tiles, stored scores and fills with the same bits";
-const SCORES: &str = "each of 65,536 scores by itself, 101 of them certain";
+const SCORES: [&str; 2] = [
+    "each of 65,536 scores by itself, 101 of them certain",
+    "each of 65,536 scores by itself, 501 of them certain by the second rule",
+];
 const PACKED_SCORES: &str = "scores by themselves, out of packed tiles";
 
 /// Of packed contents.
@@ -48,13 +51,14 @@ const TILE: [u32; 2] = [4, 6];
 const JUDGED: u64 = 1;
 
 pub fn section(run: &mut Run, random: &mut Prng) {
-    for thing in [PAIRS, FILLS, SCORES, PACKED_SCORES] {
+    for thing in [PAIRS, FILLS, SCORES[0], SCORES[1], PACKED_SCORES] {
         run.deeds.want(thing);
     }
     every_place(run, random);
     pairs(run);
     fills(run);
-    every_score(run);
+    every_score(run, FIRST, 101, SCORES[0], random);
+    every_score(run, SECOND, 501, SCORES[1], random);
     for first in [i16::MIN, -128, 768, i16::MAX - 255] {
         packed_scores(run, first, random);
     }
@@ -101,8 +105,8 @@ fn at_place(run: &mut Run, asked: &Asked, odd: (i16, u32, i16), place: [usize; 2
     if is_outside(place) {
         return right & is(run, asked, whole(), &certain());
     }
-    let with_it = Deed::Graded { grade, fills: 0, lowest: Some(lowest) };
-    let by_itself = Deed::Graded { grade, fills: 0, lowest: Some(score) };
+    let with_it = Deed::by_first(grade, 0, Some(lowest));
+    let by_itself = Deed::by_first(grade, 0, Some(score));
     right
         & is(run, asked, whole(), &with_it)
         & is(run, asked, one_cell(place), &by_itself)
@@ -114,7 +118,7 @@ fn is(run: &mut Run, asked: &Asked, rectangle: Rectangle, expected: &Deed) -> bo
 }
 
 fn certain() -> Deed {
-    Deed::Graded { grade: CERTAIN, fills: 0, lowest: Some(950) }
+    Deed::by_first(CERTAIN, 0, Some(950))
 }
 
 fn whole() -> Rectangle {
@@ -172,15 +176,15 @@ fn bytes(scores: &[i16]) -> Vec<u8> {
 
 /// Side by side in one tile, and one below the other in two.
 fn pairs(run: &mut Run) {
-    for first in EDGES {
-        for second in EDGES {
+    for first in edges(FIRST) {
+        for second in edges(FIRST) {
             let files = [
                 (page([1, 2], [1, 2], &[(0, &[first, second])]), [0, 0, 1, 2]),
                 (page([2, 1], [1, 1], &[(1, &[second]), (0, &[first])]), [0, 0, 2, 1]),
             ];
             for (page, sides) in files {
                 let file = bytes_of(&page);
-                let expected = graded(0, vec![first, second]);
+                let expected = graded(FIRST, 0, vec![first, second]);
                 let asked = Asked::new(&file);
                 if run.deed_is(PAIRS_SORT, &asked, rectangle(sides), 256, &expected) {
                     run.deeds.reached(PAIRS);
@@ -193,7 +197,7 @@ fn pairs(run: &mut Run) {
 /// Grid 3 by 4, tiles 2 by 2. Every stored score is the fill.
 fn fills(run: &mut Run) {
     const CELLS: [u64; 4] = [4, 4, 2, 2];
-    for score in EDGES.into_iter().chain([950]) {
+    for score in edges(FIRST).into_iter().chain([950]) {
         let scores = [score; 4];
         for set in 0..16 {
             let stored = (0..4).filter(|tile| set >> tile & 1 == 1);
@@ -207,7 +211,7 @@ fn fills(run: &mut Run) {
                 900..=1000 => CERTAIN,
                 _ => DOUBTFUL,
             };
-            let expected = Deed::Graded { grade, fills, lowest: (set > 0).then_some(score) };
+            let expected = Deed::by_first(grade, fills, (set > 0).then_some(score));
             let file = bytes_of(&page);
             let asked = Asked::new(&file);
             if run.deed_is(FILLS_SORT, &asked, rectangle([0, 0, 3, 4]), 256, &expected) {
@@ -217,19 +221,22 @@ fn fills(run: &mut Run) {
     }
 }
 
-/// 256 of them in a tile.
-fn every_score(run: &mut Run) {
+/// 256 of them in a tile, of a page that says this rule; so many of all have to be certain.
+fn every_score(run: &mut Run, rule: Rule, expected: usize, thing: &str, random: &mut Prng) {
     let (mut right, mut certain) = (0, 0);
     for high in (0..=255).step_by(if run.small { 85 } else { 1 }) {
         let scores: Vec<i16> = (0..=255).map(|low| i16::from_be_bytes([high, low])).collect();
-        let file = bytes_of(&page([16, 16], [16, 16], &[(0, &scores)]));
-        let asked = Asked::new(&file);
-        let answers = by_themselves(run, &asked, &scores, &[0]);
+        let mut page = page([16, 16], [16, 16], &[(0, &scores)]);
+        if rule == SECOND {
+            say(&mut page, &[(SCORE_RULE, 2)], random);
+        }
+        let file = bytes_of(&page);
+        let answers = by_themselves(run, &Asked::new(&file), rule, &scores, &[0]);
         right += answers.len();
         certain += answers.iter().filter(|grade| **grade == CERTAIN).count();
     }
-    if (right, certain) == (65_536, 101) {
-        run.deeds.reached(SCORES);
+    if (right, certain) == (65_536, expected) {
+        run.deeds.reached(thing);
     }
 }
 
@@ -238,19 +245,27 @@ fn packed_scores(run: &mut Run, first: i16, random: &mut Prng) {
     let scores: Vec<i16> = (0..=255).map(|more| first + more).collect();
     let file = packed_page(16, &scores, INDEX, random);
     let asked = Asked::new(&file);
-    if by_themselves(run, &asked, &scores, &[0, 256]).len() == 256 {
+    if by_themselves(run, &asked, FIRST, &scores, &[0, 256]).len() == 256 {
         run.deeds.reached(PACKED_SCORES);
     }
 }
 
 /// Each cell of a tile of 16 by 16 by itself: the grades, where all is as it has to be.
-fn by_themselves(run: &mut Run, asked: &Asked, scores: &[i16], memories: &[usize]) -> Vec<u32> {
+fn by_themselves(
+    run: &mut Run,
+    asked: &Asked,
+    by: Rule,
+    scores: &[i16],
+    memories: &[usize],
+) -> Vec<u32> {
     let mut grades = Vec::new();
     for (at, score) in (0..).zip(scores) {
         let cell = rectangle([at / 16, at % 16, 1, 1]);
         let answer = run.deed_with(SCORES_SORT, asked, cell, u32::from(INDEX), memories);
         match answer {
-            Some(Deed::Graded { grade, fills: 0, lowest }) if lowest == Some(*score) => {
+            Some(Deed::Graded { rule, grade, fills: 0, lowest: Some(lowest) })
+                if (rule, lowest) == (by, *score) =>
+            {
                 grades.push(grade);
             }
             Some(answer) => run.fault(&format!("{SCORES_SORT}: {score}: {answer:?}"), asked.file),

@@ -49,7 +49,7 @@ fn first(run: &mut Run, fill: i16) {
     let file = bytes_of(&page);
     let asked = Asked::new(&file);
     for (sides, grade, fills, lowest) in FIRST {
-        is(run, &asked, sides, Deed::Graded { grade, fills, lowest });
+        is(run, &asked, sides, Deed::by_first(grade, fills, lowest));
     }
     for sides in REFUSED_10 {
         is(run, &asked, sides, Deed::Refused((10, 0)));
@@ -75,8 +75,8 @@ fn second(run: &mut Run, fill: i16) {
     let [of_tile_2, of_tile_1] = [built.starts[0], built.starts[1]].map(|start| start as u64);
     let asked = Asked::new(&built.bytes);
     for (compressor, number) in [(INDEX + 1, 11), (INDEX, 14)] {
-        let certain = Deed::Graded { grade: CERTAIN, fills: 0, lowest: Some(950) };
-        let unread = Deed::Graded { grade: UNREAD, fills: 1, lowest: None };
+        let certain = Deed::by_first(CERTAIN, 0, Some(950));
+        let unread = Deed::by_first(UNREAD, 1, None);
         let samples = [
             ([0, 0, 2, 2], Deed::Refused((number, of_tile_1))),
             ([0, 0, 2, 1], Deed::Refused((number, of_tile_2))),

@@ -1,15 +1,16 @@
-//! Pages of scores at random, whose tiles are stored, absent, packed by the index that is named and
+//! Pages of scores at random, by either rule, whose tiles are stored, absent, packed by the index that is named and
 //! by another, malformed, and with a Short out of range; and what their descriptions say of a
 //! rectangle.
 
 use std::collections::HashMap;
 
 use gvrs_tests::build::{build, bytes_of, Built};
-use gvrs_tests::page::{Body, Element, Filler, Page, Tile, SHORT};
+use gvrs_tests::page::{Body, Element, Filler, Metadata, Page, Tile, SHORT};
 use gvrs_tests::prng::Prng;
-use gvrs_tests::random_page::put_anywhere;
+use gvrs_tests::random_page::{put_anywhere, text_of};
+use gvrs_tests::second::chain::{METADATA, METADATA_DIRECTORY};
 use gvrs_tests::second::check::Answer;
-use gvrs_tests::second::deeds::{Deed, CERTAIN, DOUBTFUL, UNREAD};
+use gvrs_tests::second::deeds::{Deed, Rule, CERTAIN, DOUBTFUL, FIRST, SCORE_RULE, SECOND, UNREAD};
 use gvrs_tests::second::predict::PREDICTORS;
 use gvrs_tests::second::rectangles::Rectangle;
 
@@ -19,15 +20,59 @@ use crate::face::sample_sums::page;
 use crate::packed::contents::{of_cells, Form};
 use crate::reads::described::{fill, Described, Inside};
 
-/// Scores next to what decides, and at both ends.
-pub const EDGES: [i16; 11] = [899, 900, 901, 999, 1000, 1001, -1, 0, 1, i16::MAX, i16::MIN];
+/// Scores next to what decides by a rule, and at both ends.
+pub fn edges(Rule { mark, scale }: Rule) -> [i16; 11] {
+    [mark - 1, mark, mark + 1, scale - 1, scale, scale + 1, -1, 0, 1, i16::MAX, i16::MIN]
+}
+
 /// Scores that are certain.
-const GOOD: [i16; 6] = [900, 901, 950, 950, 999, 1000];
-const FILLS: [i16; 8] = [950, 950, 900, 1000, 0, -1, i16::MIN, i16::MAX];
+fn good(rule: Rule) -> [i16; 6] {
+    let Rule { mark, scale } = rule;
+    [mark, mark + 1, middle(rule), middle(rule), scale - 1, scale]
+}
+
+/// 950 or 9,750.
+fn middle(rule: Rule) -> i16 {
+    (rule.mark + rule.scale) / 2
+}
+
+fn fills(rule: Rule) -> [i16; 8] {
+    [middle(rule), middle(rule), rule.mark, rule.scale, 0, -1, i16::MIN, i16::MAX]
+}
+
+/// Puts metadata records of these names and IDs anywhere into a page, and makes its directory list all
+/// that there are. What else they hold is none of a rule's business.
+pub fn say(page: &mut Page, keys: &[(&[u8], u32)], random: &mut Prng) {
+    for (name, id) in keys {
+        let mut metadata = Metadata::new(name, *id);
+        metadata.data_type = random.below(10) as u8;
+        let [content, description] = [random.below(30), random.below(30)];
+        metadata.content = random.bytes(content);
+        metadata.description = text_of(description, random);
+        put_anywhere(page, Body::Metadata(metadata), random);
+    }
+    list_metadata(page, random);
+}
+
+/// Makes the metadata directory list all metadata records, in any order; puts one where there is none.
+pub fn list_metadata(page: &mut Page, random: &mut Prng) {
+    if page.of_type(METADATA_DIRECTORY).is_empty() {
+        put_anywhere(page, Body::MetadataDirectory(Vec::new()), random);
+    }
+    let mut records = page.of_type(METADATA);
+    random.shuffle(&mut records);
+    for record in &mut page.records {
+        if let Body::MetadataDirectory(listed) = &mut record.body {
+            listed.clone_from(&records);
+        }
+    }
+}
 
 pub struct Scored {
     pub page: Page,
     pub built: Built,
+    /// The rule that the page says.
+    pub rule: Rule,
     /// The compressor index that is named.
     pub compressor: u32,
     /// The Short elements, by tile index and element.
@@ -44,6 +89,7 @@ pub enum Kept {
 /// What the tiles of a page are like.
 #[derive(Clone, Copy)]
 struct Temper {
+    rule: Rule,
     /// One in so many tiles is absent, one in so many contents refused; of 0 none.
     absent: usize,
     refused: usize,
@@ -65,6 +111,7 @@ enum Scores {
 
 /// The cells of a rectangle by what they are.
 pub struct Account {
+    pub rule: Rule,
     pub stored: Vec<i16>,
     pub unpacked: Vec<i16>,
     pub fills: u64,
@@ -75,8 +122,9 @@ pub struct Account {
 impl Scored {
     pub fn at_random(random: &mut Prng) -> Scored {
         let mut page = empty_page(random);
-        page.elements = elements(random);
-        let temper = Temper::at_random(random);
+        let rule = rule(&mut page, random);
+        page.elements = elements(rule, random);
+        let temper = Temper::at_random(rule, random);
         let index = random.byte();
         let mut kept = HashMap::new();
         for tile in 0..page.tile_count() as u32 {
@@ -85,7 +133,7 @@ impl Scored {
                 put_anywhere(&mut page, Body::Tile(Tile { index: tile, contents }), random);
             }
         }
-        Scored { built: build(&page), page, compressor: u32::from(index), kept }
+        Scored { built: build(&page), page, rule, compressor: u32::from(index), kept }
     }
 
     pub fn described(&self) -> Described<'_> {
@@ -125,7 +173,8 @@ impl Scored {
             }
         }
         let read = stored.len() + unpacked.len() + refused.len();
-        Account { stored, unpacked, fills: rectangle.cells() as u64 - read as u64, refused }
+        let fills = rectangle.cells() as u64 - read as u64;
+        Account { rule: self.rule, stored, unpacked, fills, refused }
     }
 
     /// The contents of one element, by tile index.
@@ -164,44 +213,44 @@ impl Account {
     pub fn deed(&self) -> Deed {
         match self.refused.iter().min() {
             Some((_, refusal)) => Deed::Refused(*refusal),
-            None => graded(self.fills, self.scores()),
+            None => graded(self.rule, self.fills, self.scores()),
         }
     }
 }
 
 /// From the number of fills and all scores, in any order.
-pub fn graded(fills: u64, mut scores: Vec<i16>) -> Deed {
+pub fn graded(rule: Rule, fills: u64, mut scores: Vec<i16>) -> Deed {
     scores.sort_unstable();
     let lowest = scores.first().copied();
     let grade = match (lowest, scores.last()) {
         _ if fills > 0 => UNREAD,
-        (Some(900..), Some(..=1000)) => CERTAIN,
+        (Some(low), Some(high)) if rule.mark <= low && *high <= rule.scale => CERTAIN,
         _ => DOUBTFUL,
     };
-    Deed::Graded { grade, fills, lowest }
+    Deed::Graded { rule, grade, fills, lowest }
 }
 
 impl Temper {
-    fn at_random(random: &mut Prng) -> Temper {
+    fn at_random(rule: Rule, random: &mut Prng) -> Temper {
         let odds = [[0, 0], [0, 0], [8, 0], [3, 0], [0, 12], [6, 6], [3, 3]];
         let [absent, refused] = random.pick(&odds);
         let scores = match random.below(6) {
             0 | 1 => Scores::Good,
-            2 | 3 => Scores::But(random.pick(&EDGES)),
+            2 | 3 => Scores::But(random.pick(&edges(rule))),
             4 => Scores::Edges,
             _ => Scores::Any,
         };
-        Temper { absent, refused, scores, other_outside: random.one_in(2) }
+        Temper { rule, absent, refused, scores, other_outside: random.one_in(2) }
     }
 }
 
 impl Scores {
-    fn one(self, fill: i16, random: &mut Prng) -> i16 {
+    fn one(self, rule: Rule, fill: i16, random: &mut Prng) -> i16 {
         match self {
             Scores::But(score) if random.one_in(30) => score,
-            Scores::Good | Scores::But(_) => random.pick(&GOOD),
+            Scores::Good | Scores::But(_) => random.pick(&good(rule)),
             Scores::Edges if random.one_in(6) => fill,
-            Scores::Edges => random.pick(&EDGES),
+            Scores::Edges => random.pick(&edges(rule)),
             Scores::Any => random.long() as i16,
         }
     }
@@ -230,14 +279,28 @@ fn empty_page(random: &mut Prng) -> Page {
     page
 }
 
+/// Makes a page say a rule, by a record or by none, with records of other names or without.
+fn rule(page: &mut Page, random: &mut Prng) -> Rule {
+    let (rule, id) = random.pick(&[(FIRST, None), (FIRST, Some(1)), (SECOND, Some(2))]);
+    let mut keys: Vec<(&[u8], u32)> = Vec::new();
+    for _ in 0..random.below(3) {
+        keys.push((&b"reader"[..], keys.len() as u32));
+    }
+    keys.extend(id.map(|id| (SCORE_RULE, id)));
+    if !keys.is_empty() {
+        say(page, &keys, random);
+    }
+    rule
+}
+
 /// One Short at least, and up to three of any type before and behind it.
-fn elements(random: &mut Prng) -> Vec<Element> {
+fn elements(rule: Rule, random: &mut Prng) -> Vec<Element> {
     let mut types: Vec<u8> = (0..random.below(4)).map(|_| random.below(4) as u8).collect();
     types.insert(random.between(0, types.len()), SHORT);
     let named = |(number, type_code)| Element::new(type_code, &[b'a' + number]);
     let mut elements: Vec<Element> = (0..).zip(types).map(named).collect();
     for element in &mut elements {
-        element.set_range_and_fill(0, 1000, random.pick(&FILLS) as u16 as u32);
+        element.set_range_and_fill(0, 1000, random.pick(&fills(rule)) as u16 as u32);
     }
     elements
 }
@@ -287,8 +350,8 @@ fn scores(page: &Page, tile: u32, element: usize, temper: Temper, random: &mut P
         for column in first_column..first_column + page.tile_columns {
             let outside = row >= page.grid_rows || column >= page.grid_columns;
             scores.push(match outside && temper.other_outside {
-                true => random.pick(&[i16::MIN, 899, 1001]),
-                false => temper.scores.one(fill, random),
+                true => random.pick(&[i16::MIN, temper.rule.mark - 1, temper.rule.scale + 1]),
+                false => temper.scores.one(temper.rule, fill, random),
             });
         }
     }

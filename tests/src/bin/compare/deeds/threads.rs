@@ -4,7 +4,7 @@ use std::thread;
 
 use gvrs_tests::prng::Prng;
 use gvrs_tests::second::cells::Opened;
-use gvrs_tests::second::deeds::Deed;
+use gvrs_tests::second::deeds::{Deed, FIRST};
 use gvrs_tests::second::rectangles::Rectangle;
 
 use super::ask::is_the_deed;
@@ -68,7 +68,7 @@ fn large(random: &mut Prng) -> Question {
     let file = packed_page(SIDE, &scores, index, random);
     let compressor = u32::from(index);
     let rectangle = rectangle([0, 0, u64::from(SIDE), u64::from(SIDE)]);
-    Question { rectangle, compressor, deed: graded(0, scores), file }
+    Question { rectangle, compressor, deed: graded(FIRST, 0, scores), file }
 }
 
 /// Asks them all, each thread beginning with another, until one is answered otherwise.
