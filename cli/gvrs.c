@@ -51,7 +51,8 @@ static const struct command COMMANDS[] = {
      "on. A fill is `fill(7)`, a cell that cannot be read `refused(11)` or `refused(14)`.\n"},
     {"deed", "FILE ELEMENT ROW COLUMN ROWS COLUMNS", 6, COMPRESSOR | QUIET, run_deed,
      "Judges the scores of a Short element in a rectangle: certain where each is from 900 to 1000, unread\n"
-     "where a cell is fill, else doubtful; with the number of fills and the lowest score.\n"
+     "where a cell is fill, else doubtful; with the number of fills, the lowest score and the scale. A page\n"
+     "with a metadata record named score_rule, ID 2, has the scale 10000: 9500 to 10000 is certain there.\n"
      "Exit status: 0 certain, 3 doubtful, 4 unread, 1 refused, 2 failed.\n"},
     {"store", "FILE INDEX CELLS", 3, TIME | WAIT, run_store,
      "Stores a tile: CELLS is a file with its bytes, all elements in order, little-endian, by rows. The page\n"

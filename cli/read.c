@@ -214,14 +214,14 @@ int run_cells(const struct request *request) {
     return number == GVRS_ACCEPTED ? DONE : refused(number, out, NULL);
 }
 
-/* Why there are no scores to judge: NULL where it is for none of these reasons. */
-static const char *why_no_scores(const struct rectangle *r) {
+/* Why scores cannot be judged, in the order in which a caller can mend it. */
+static const char *why_not_judged(const struct rectangle *r) {
     uint64_t element[4];
     if (r->rows == 0 || r->columns == 0)
         return "the rectangle has no cell";
     if (gvrs_element(page.bytes, page.n, r->element, element, 4) == GVRS_ACCEPTED && element[0] != SHORT)
         return "the element is no Short";
-    return NULL;
+    return "the metadata records named score_rule do not say one rule: there may be one, with ID 1 or 2, or none";
 }
 
 static void print_deed(const char *word, const uint64_t *out) {
@@ -229,24 +229,24 @@ static void print_deed(const char *word, const uint64_t *out) {
     if (out[1] == 1) {
         printf(", lowest ");
         print_value(SHORT, (uint32_t)out[2]);
-        printf("\n");
     } else {
-        printf(", no score\n");
+        printf(", no score");
     }
+    printf(", scale %" PRIu64 "\n", out[3]);
 }
 
 int run_deed(const struct request *request) {
     static const char *const WORDS[] = {"certain", "doubtful", "unread"};
     static const int STATUS[] = {DONE, DOUBTFUL, UNREAD};
     struct rectangle r;
-    uint64_t out[3];
+    uint64_t out[4];
     int status = rectangle_given(request, &r);
     if (status != DONE)
         return status;
     uint32_t number = gvrs_deed(page.bytes, page.n, request->compressor, r.element, r.row, r.column, r.rows, r.columns, memory,
-                                TILE_CELLS, out, 3);
+                                TILE_CELLS, out, 4);
     if (number == GVRS_INPUT)
-        return refused(number, out[0], why_no_scores(&r));
+        return refused(number, out[0], why_not_judged(&r));
     if (number < GVRS_CERTAIN)
         return refused_cells(request, number, out[0]);
     if (!request->quiet)

@@ -35,7 +35,7 @@ enum {
     GVRS_DIRECTORY = 9,    /* directory at fault */
     GVRS_OUTSIDE = 10,     /* row, column, element, tile or rectangle asked for, or tile to correct, not in the grid */
     GVRS_COMPRESSED = 11,  /* content asked for is compressed; of a cell: and not of the compressor index named, or of a Float */
-    GVRS_INPUT = 12,       /* input wrong: of a lay-down or a correction, more first bytes than the stated length, or no scores to judge */
+    GVRS_INPUT = 12,       /* input wrong: of a lay-down, a correction or a deed, or more first bytes than the stated length */
     GVRS_ROOM = 13,        /* lay-down output, a page's buffer for a correction, or one for the cells of a rectangle, too short */
     GVRS_MALFORMED = 14,   /* compressed content malformed, or a Short in it out of range */
     GVRS_NOT_OPEN = 15,    /* no page that is open for writing */
@@ -43,7 +43,7 @@ enum {
     GVRS_STORED = 32,      /* the cell is stored, the content is present, the name is found */
     GVRS_FILL = 33,        /* the cell is fill, the tile is absent, no element has the name */
     GVRS_UNPACKED = 34,    /* the cell comes out of compressed content */
-    GVRS_CERTAIN = 64,     /* no cell is fill, and every score is from 900 to 1000 */
+    GVRS_CERTAIN = 64,     /* no cell is fill, and every score is from 900 to 1000, or by the second rule from 9500 to 10000 */
     GVRS_DOUBTFUL = 65,    /* no cell is fill, and some score is not */
     GVRS_UNREAD = 66       /* some cell is fill */
 };
@@ -143,12 +143,14 @@ uint32_t gvrs_cells(const uint8_t *file, uint64_t n, uint32_t compressor, uint64
                     uint64_t rows, uint64_t columns, uint32_t *memory, uint64_t memory_n, uint32_t *kinds, uint64_t kinds_n,
                     uint32_t *bits, uint64_t bits_n, uint64_t *out, uint64_t out_n);
 
-/* Judges the scores, in thousandths, of a Short element in a rectangle, given as for gvrs_cells: 64 certain, 65 doubtful, 66 unread.
-   out[0] is the number of fill cells; out[1] is 1 where there is a lowest stored score, else 0; out[2] is that score's 16 bits, as
-   gvrs_cell gives a Short's, else 0. A stored cell's number is its score, signed, whatever it is, also where it is the fill value; an
-   unpacked cell counts as stored; a fill has no score, whatever its value is. Else the refusal's number, out[0] is its place, and
-   out[1] and out[2] are 0. Refused, in this order: as by gvrs_check; 10 as by gvrs_cells; 12, at 0, where rows or columns is 0, or the
-   element is no Short; 11 or 14 where a cell of the rectangle has it, of the first by rows.
+/* Judges the scores of a Short element in a rectangle, given as for gvrs_cells, by the rule that the page says: 64 certain, 65 doubtful,
+   66 unread. out[0] is the number of fill cells; out[1] is 1 where there is a lowest stored score, else 0; out[2] is that score's 16
+   bits, as gvrs_cell gives a Short's, else 0; out[3] is the scale, 1000 or 10000: of 1000, scores are certain from 900 to 1000, of
+   10000 from 9500 to 10000. The page says the second by a metadata record named score_rule with record ID 2, the first by one with ID
+   1, or by none. A stored cell's number is its score, signed, whatever it is, also where it is the fill value; an unpacked cell counts
+   as stored; a fill has no score, whatever its value is. Else the refusal's number, out[0] is its place, and out[1] to out[3] are 0.
+   Refused, in this order: as by gvrs_check; 10 as by gvrs_cells; 12, at 0, where rows or columns is 0, the element is no Short, or
+   metadata records named score_rule have any other ID, or both; 11 or 14 where a cell of the rectangle has it, of the first by rows.
 
    memory as for gvrs_cells: 524,288 numbers let every tile be unpacked once; fewer, or none, cost time and change no answer. */
 uint32_t gvrs_deed(const uint8_t *file, uint64_t n, uint32_t compressor, uint64_t element, uint64_t row, uint64_t column,

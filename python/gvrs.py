@@ -29,7 +29,7 @@ import sys
 from typing import NamedTuple
 from uuid import uuid4
 
-__all__ = ["Cell", "Element", "Fill", "Outside", "Page", "Refused", "Shape", "front", "lay_down", "pack"]
+__all__ = ["Cell", "Deed", "Element", "Fill", "Outside", "Page", "Refused", "Shape", "front", "lay_down", "pack"]
 
 LONGEST = 16_777_216  # bytes of a file
 _TILE_CELLS = 524_288  # the most cells of a tile
@@ -38,6 +38,7 @@ _TYPES = ("Integer", "integer-coded", "Float", "Short")  # by their codes
 _LETTERS = dict(zip(_TYPES, "iifh"))  # what struct, Python's arrays and NumPy call them
 _DONE, _OUTSIDE, _COMPRESSED, _INPUT, _ROOM, _MALFORMED = 0, 10, 11, 12, 13, 14
 _STORED, _FILL, _UNPACKED = 32, 33, 34
+_GRADES = {64: "certain", 65: "doubtful", 66: "unread"}
 
 
 # The functions that are used here, each by its numbers of 32 and 64 bits, its bytes and its lists: include/gvrs.h declares them. All but
@@ -53,6 +54,7 @@ _FUNCTIONS = {
     "gvrs_cell_with": _FILE + [_U64, _U64, _U64, _U32, _U32],
     "gvrs_unpack": _FILE + [_U64, _U64, _U32, _LIST32, _U64],
     "gvrs_cells": _FILE + [_U32, _U64, _U64, _U64, _U64, _U64] + [_LIST32, _U64] * 3,
+    "gvrs_deed": _FILE + [_U32, _U64, _U64, _U64, _U64, _U64, _LIST32, _U64],
     "gvrs_lay_down": _FILE + [_U64, _LIST32, _U64, _BYTES, _U64, _BYTES, _U64],
 }
 
@@ -174,6 +176,20 @@ class Cell(NamedTuple):
     place: int
 
 
+class Deed(NamedTuple):
+    """What the scores of a rectangle are: the grade (certain, doubtful or unread); the number of fills; the lowest stored score, None where
+    every cell is a fill; and the scale of the rule that the page says. Of 1000, scores are certain from 900 to 1000, of 10000 from 9500 to
+    10000. It has no truth: ask for the grade."""
+
+    grade: str
+    fills: int
+    lowest: int
+    scale: int
+
+    def __bool__(self):
+        raise TypeError(f"a deed is neither true nor false: its grade is {self.grade!r}")
+
+
 def _number(value, most, what):
     try:
         number = operator.index(value)
@@ -241,11 +257,13 @@ class Page:
         """The bytes of the file; of one that is too long, those that show it."""
         return self._file
 
-    def _ask(self, name, room, *arguments, place=0):
-        """What a function answers and what `out` holds. A refusal is raised, with its place in out[place], but 13 is an answer."""
+    def _ask(self, name, room, *arguments, place=0, why=None):
+        """What a function answers and what `out` holds. A refusal is raised, with its place in out[place], of 10 with the page's sides and
+        of 12 with what `why` says, but 13 is an answer."""
         number, out = _ask(name, room, self._file, len(self._file), *arguments)
         if _DONE < number < _STORED and number != _ROOM:
-            raise Refused(number, out[place], self._sides() if number == _OUTSIDE else None)
+            note = {_OUTSIDE: self._sides, _INPUT: why}.get(number)
+            raise Refused(number, out[place], note and note())
         return number, out
 
     def _sides(self):
@@ -309,12 +327,15 @@ class Page:
 
         return _by_rows([value(i) for i in range(shape.tile_rows * shape.tile_columns)], shape.tile_columns)
 
+    @staticmethod
+    def _rectangle(row, column, rows, columns):
+        return [_number64(side, what) for side, what in ((row, "row"), (column, "column"), (rows, "rows"), (columns, "columns"))]
+
     def cells(self, element, row, column, rows, columns):
         """An element's cells in a rectangle, `rows` rows from `row` on and `columns` columns from `column` on, as a list of rows. Each is
         a number, a Fill, or, where it cannot be read, the Refused (11 or 14) that cell would raise. Raises Refused, 10 where the
         rectangle is not in the grid."""
-        e = self._element_number(element)
-        sides = [_number64(side, what) for side, what in ((row, "row"), (column, "column"), (rows, "rows"), (columns, "columns"))]
+        e, sides = self._element_number(element), self._rectangle(row, column, rows, columns)
         memory = (_U32 * _TILE_CELLS)()
 
         def ask(room):
@@ -329,6 +350,24 @@ class Page:
         others = {_FILL: element.fill, **{number: Refused(number, None) for number in (_COMPRESSED, _MALFORMED)}}
         values = [others[kind] if kind in others else _value(element.type, pattern) for kind, pattern in zip(kinds, bits)]
         return _by_rows(values, sides[3])
+
+    def deed(self, element, row, column, rows, columns):
+        """Whether the scores of a Short element in a rectangle, given as for cells, are certain, doubtful or unread, a Deed. Raises
+        Refused, 10 where the rectangle is not in the grid; 12 where it has no cell, where the element is no Short, or where the page's
+        metadata records named score_rule do not say one rule; 11 or 14 of the first cell by rows that cannot be read."""
+        e, sides = self._element_number(element), self._rectangle(row, column, rows, columns)
+
+        def why():
+            if 0 in sides[2:]:
+                return "the rectangle has no cell"
+            if self._element(e).type != "Short":
+                return "the element is no Short"
+            return "the metadata records named score_rule do not say one rule: there may be one, with ID 1 or 2, or none"
+
+        memory = (_U32 * _TILE_CELLS)()
+        number, out = self._ask("gvrs_deed", 4, self._compressor, e, *sides, memory, _TILE_CELLS, why=why)
+        fills, has_lowest, lowest, scale = out
+        return Deed(_GRADES[number], fills, _value("Short", lowest) if has_lowest else None, scale)
 
     def __repr__(self):
         return f"<gvrs.Page of {len(self._file)} bytes>"

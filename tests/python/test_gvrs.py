@@ -20,7 +20,7 @@ import unittest
 from pathlib import Path
 
 import gvrs
-from gvrs import Cell, Fill, Outside, Page, Refused
+from gvrs import Cell, Deed, Fill, Outside, Page, Refused
 
 try:
     import numpy
@@ -156,6 +156,44 @@ class StoredPages(Tests):
         self.assertRaises(IsADirectoryError, Page, PAGES)
         self.assertRefused(4, 0, page("longer").check)
         self.assertEqual(len(page("longer").file), 16_777_217)
+
+
+class Deeds(Tests):
+    """Scores of rectangles judged, by the rule that the page says."""
+
+    def test_first_rule(self):
+        z = page("page")
+        self.assertEqual(z.deed("z", 2, 0, 1, 2), Deed("doubtful", 0, 11, 1000))
+        self.assertEqual(z.deed(0, 0, 0, 3, 3), Deed("unread", 7, 11, 1000))
+        self.assertEqual(z.deed("z", 0, 0, 2, 2), Deed("unread", 4, None, 1000))
+        self.assertEqual(page("packed", 3).deed("score", 0, 0, 2, 4), Deed("certain", 0, 900, 1000))
+        self.assertEqual(page("four-types").deed("d", 1, 1, 1, 1), Deed("doubtful", 0, -32768, 1000))
+
+    def test_second_rule(self):
+        ten_thousandths = page("second-rule")
+        self.assertEqual(ten_thousandths.deed("score", 0, 0, 1, 2), Deed("certain", 0, 9500, 10000))
+        self.assertEqual(ten_thousandths.deed("score", 0, 1, 1, 2), Deed("unread", 1, 10000, 10000))
+
+    def test_refused(self):
+        z, packed, no_rule = page("page"), page("packed"), page("no-rule")
+        self.assertRefused(10, 0, lambda: z.deed("z", 0, 0, 4, 3), "there are rows 0 to 2")
+        self.assertRefused(10, 0, lambda: no_rule.deed("score", 0, 0, 1, 4), "columns 0 to 2")
+        self.assertRefused(12, 0, lambda: z.deed("z", 0, 0, 0, 3), "the rectangle has no cell")
+        self.assertRefused(12, 0, lambda: page("four-types").deed("c", 0, 0, 1, 0), "the rectangle has no cell")
+        self.assertRefused(12, 0, lambda: page("four-types").deed("c", 0, 0, 1, 1), "the element is no Short")
+        self.assertRefused(12, 0, lambda: no_rule.deed("score", 0, 0, 1, 2), "metadata records named score_rule do not say one rule")
+        self.assertRefused(11, 472, lambda: packed.deed("score", 0, 0, 2, 15))
+        self.assertRefused(14, 512, lambda: page("packed", 3).deed("score", 0, 0, 2, 15))
+        self.assertRefused(9, 16, lambda: page("refused-9").deed(0, 0, 0, 1, 1))
+
+    def test_no_truth(self):
+        self.assertSays(TypeError, "'unread'", bool, page("page").deed("z", 0, 0, 3, 3))
+
+    def test_arguments(self):
+        z = page("page")
+        for position in range(5):
+            for wrong, error in ((-1, ValueError), (2**64, ValueError), (1.0, TypeError), (None, TypeError)):
+                self.assertRaises(error, z.deed, *[wrong if i == position else 0 for i in range(5)])
 
 
 class Numbers(Tests):

@@ -55,6 +55,8 @@ fn files() -> Vec<(&'static str, Vec<u8>)> {
         ("out-of-order", out_of_order()),
         ("four-types", four_types()),
         ("packed", packed()),
+        ("second-rule", by_rule(&[2])),
+        ("no-rule", by_rule(&[1, 2])),
         ("wide", wide()),
         ("large-tiles", bytes_of(&Page::of_sides([4096, 4096], [512, 512]))),
         ("65535-bytes", of_length(65_536)[..65_535].to_vec()),
@@ -155,6 +157,20 @@ fn packed() -> Vec<u8> {
         }),
     );
     page.insert(0, Body::MetadataDirectory(vec![1]));
+    bytes_of(&page)
+}
+
+/// Scores of 9,500 and 10,000, and a tile that is absent; metadata records with these IDs say the rule.
+fn by_rule(ids: &[u32]) -> Vec<u8> {
+    let mut page = Page::of_sides([1, 3], [1, 2]);
+    page.elements = vec![Element::new(SHORT, b"score")];
+    page.elements[0].set_range_and_fill(0, 10_000, 9_750);
+    let content = [9_500i16, 10_000].into_iter().flat_map(i16::to_le_bytes).collect();
+    page.insert(0, Body::Tile(Tile { index: 0, contents: vec![content] }));
+    for id in ids {
+        page.insert(1, Body::Metadata(Metadata::new(b"score_rule", *id)));
+    }
+    page.insert(0, Body::MetadataDirectory((2..2 + ids.len()).collect()));
     bytes_of(&page)
 }
 
