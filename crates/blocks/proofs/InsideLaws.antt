@@ -29,6 +29,15 @@ inside-found op unit s top bottom left right f h =
     let z = fold-found op unit s (right - left) _ (λ e. h (sym (y .2) ∙ e)) in
     (top + y .0, left + z .0, omega arith, z .2 ∙ y .2)
 
+-- another place, and other cells there that are the same
+pub inside-moved :
+    {A : Type 0} (op : A → A → A) (unit : A) (top bottom left right top2 bottom2 left2 right2 : ℕ) (f g : ℕ → ℕ → A) → bottom - top ≡ bottom2 - top2 → right - left ≡ right2 - left2 →
+    ((i k : ℕ) → i < bottom - top → k < right - left → f (top + i) (left + k) ≡ g (top2 + i) (left2 + k)) →
+    foldInside op unit top bottom left right f ≡ foldInside op unit top2 bottom2 left2 right2 g
+unfolding foldInside foldRectangle
+inside-moved op unit top bottom left right top2 bottom2 left2 right2 f g p q e =
+    rw (← p, ← q) (fold-same op unit (bottom - top) _ _ (λ i h. fold-same op unit (right - left) _ _ (λ k l. e i k h l)))
+
 module _ {A : Type 0} (op : A → A → A) (unit : A) (j : Joins op unit) where
   -- one cell
   pub inside-one : (r c : ℕ) (f : ℕ → ℕ → A) → foldInside op unit r (r + 1) c (c + 1) f ≡ f r c

@@ -2,3 +2,4 @@ pub mod BlockLaws
 pub mod TableLaws
 pub mod FoldLaws
 pub mod InsideLaws
+pub mod WalkLaws

@@ -7,3 +7,4 @@
 pub mod Blocks
 pub mod Tables
 pub mod Folds
+pub mod Walks

@@ -4,7 +4,7 @@ use mathlib.Core.Path.{_≡_, refl, sym, ap, _∙_}
 use mathlib.Core.List.{List, [], _∷_}
 use mathlib.Core.Bool.{Bool, true, false}
 use native.Mathlib.Omega.{arith}
-use native.Mathlib.Nat.{mod-lt, mul-le-mul}
+use native.Mathlib.Nat.{mod-lt, mul-le-mul, mul-le-mul-left}
 use lib.ListN.{length}
 use lib.Dec.{leb, eqb}
 use borrow.Author.Tests.{leb-true, eqb-true, eqb-false, ne-eqb}
@@ -124,19 +124,16 @@ inside-small s row column e =
     let g = grid-less (tileColumns s) (row % tileRows s) (column % tileColumns s) c (tileRows s) b in
     omega (arith, product-small (tileRows s) (tileColumns s) (a .tile-rows .1) (a .tile-columns .1))
 
-pub offset-small : (k i : ℕ) → i < 16777216 → cellOffset k i ≤ 67108864
+pub offset-few : (k i : ℕ) → cellOffset k i ≤ i * 4
 unfolding cellOffset
-offset-small k i h =
-    let l : i ≤ 16777216 = omega arith in
-    let m : i * cellSize k ≤ 16777216 * 4 = mul-le-mul l (size-range k .1) in
-    omega arith
+offset-few k i = mul-le-mul-left i (size-range k .1)
 
 pub offset-is :
     (s : List ℕ) (row column e k i r : ℕ) → sidesLawful s ≡ true → k ≡ element s e .kind → i ≡ cellInside s row column → r ≡ cellOffset k i →
     (r ≡ offsetIn s row column e) × (r ≤ 67108864)
 unfolding offsetIn
 offset-is s row column e k i r l p q f =
-    (f ∙ rw (p, q), omega (arith, offset-small k i (omega (arith, inside-small s row column l))))
+    (f ∙ rw (p, q), omega (arith, offset-few k i, inside-small s row column l))
 
 pub bytes-small : (s : List ℕ) (e n : ℕ) → sidesLawful s ≡ true → n ≡ min (elementBytes s e) cap → n ≡ elementBytes s e
 unfolding elementBytes uncompressed

@@ -7,6 +7,7 @@ use mathlib.Core.Logic.{by-cases}
 use native.Mathlib.Decide.{decLe}
 use native.Mathlib.Omega.{arith}
 use lib.ListN.{length, getD}
+use borrow.Author.Tests.{eq-eqb, ne-eqb}
 use Rattle.wire.specs.Pick.{pick}
 use Rattle.wire.specs.Tests.{_≤?_, passes}
 use Rattle.wire.specs.Bytes.{put, numberAt}
@@ -19,8 +20,8 @@ use Rattle.answer.specs.declared.Cell.{Cell}
 use Rattle.answer.specs.declared.Cell.the-variants as cell
 use Rattle.answer.specs.declared.Held.{Held}
 use Rattle.answer.specs.declared.Held.the-variants as held
-use Rattle.answer.specs.Values.{valueOf, valueBits}
-use Rattle.answer.specs.Answers.{cellKind, cellBits, heldKind}
+use Rattle.answer.specs.Values.{valueOf}
+use Rattle.answer.specs.Answers.{heldKind}
 use Rattle.header.specs.Fields.{tileRows, tileColumns, elementCount}
 use Rattle.header.specs.Element.{cellSize, element}
 use Rattle.record.specs.declared.Found.{Found}
@@ -29,6 +30,7 @@ use Rattle.geometry.specs.Tiles.{tileCount, cellTile, cellInside}
 use Rattle.geometry.specs.Sizes.{cellOffset}
 use Rattle.geometry.proofs.GridLaws.{inside-less}
 use Rattle.geometry.proofs.SizeLaws.{size-range}
+use Rattle.bodies.specs.TileDirectory.{tileDirectoryAt}
 use Rattle.bodies.specs.TileRecord.{elementContentAt}
 use Rattle.unpack.specs.Unpack.{cellsIn, isWhole}
 use Rattle.unpack.proofs.AnswerLaws.{whole-cell}
@@ -36,10 +38,10 @@ use Rattle.page_check.specs.Accepted.{Sound}
 use Rattle.page_check.proofs.AcceptedLaws.{accepted-sound}
 use Rattle.cells.specs.Asked.{inGrid}
 use Rattle.cells.specs.TileCells.{fillOf, packed, unpackable, unpackedIn, unpackedAt, offsetIn, placeIn, storedAt, packedCell, cellIn, cellOf, heldRoom, roomOf, unpackedBits}
-use Rattle.cells.specs.Routes.{meant, cellBy, tileBy}
+use Rattle.cells.specs.Routes.{meant, cellBy, tileBy, referredTo}
 use Rattle.cells.specs.Meaning.{meaning}
-use Rattle.cells.specs.inner.Lookups.{guarded}
-use Rattle.cells.specs.Many.{heldByDirectory, storedFrom, toldBy, heldCell, bitsInside, Tells, Holds, HoldsAccepted}
+use Rattle.cells.specs.inner.Lookups.{guarded, lookedUp}
+use Rattle.cells.specs.Many.{heldByDirectory, storedFrom, numberedCell, toldBy, heldCell, Holds, HoldsAccepted}
 use Rattle.cells.proofs.CellLaws.{tiles-in, sides-mean}
 use Rattle.cells.proofs.ReadLaws.{sound-lawful, sound-finds, looked-means, tile-looked-means}
 use Rattle.cells.proofs.HeldLaws.{in-at, room-stored, room-packed, room-alone, room-unpacked, room-malformed}
@@ -47,66 +49,49 @@ use Rattle.cells.proofs.DemandLaws.{stored-inside, not-whole-cell, cont
 
 -- a cell told from what is held, as the functions below answer
 
-module _ (s : List ℕ) (at row column e : ℕ) where
-  pub stored-in : (o : ℕ) (r : Cell) → at < length s → o ≡ offsetIn s row column e → r ≡ storedAt s e (at + o) → r ≡ storedFrom s at row column e
+module _ (s : List ℕ) (k at i : ℕ) where
+  pub stored-in :
+      (o p n : ℕ) (v : Value) → at < length s → o ≡ cellOffset k i → p ≡ at + o → n ≡ numberAt (cellSize k) s (p + 0) → v ≡ valueOf k n → cell.Stored v p ≡ storedFrom s k at i
   unfolding storedFrom
-  stored-in o r h p q = rw (← yes ((at + 1 ≤? length s) ∷ []) (omega arith, tt), ← p) q
+  stored-in o p n v h q t e f =
+      let z : p + 0 ≡ p = omega arith in
+      let w : p ≡ at + cellOffset k i = t ∙ ap (λ (x : ℕ). at + x) q in
+      rw (← yes ((at + 1 ≤? length s) ∷ []) (omega arith, tt), f, e, z, w)
 
-  pub stored-past : length s ≤ at → cell.Refused Directory ≡ storedFrom s at row column e
+  pub stored-past : length s ≤ at → cell.Refused Directory ≡ storedFrom s k at i
   unfolding storedFrom
   stored-past h = rw (← no ((at + 1 ≤? length s) ∷ []) (λ y. omega (arith, y .0)))
 
-pub from-memory :
-    (s m : List ℕ) (at row column e i k b : ℕ) (v : Value) → i ≡ cellInside s row column → k ≡ element s e .kind → b ≡ getD m i 0 → v ≡ valueOf k b →
-    cell.Unpacked v at ≡ cell.Unpacked (valueOf (element s e .kind) (getD m (cellInside s row column) 0)) at
-from-memory s m at row column e i k b v p q t f = ap (λ (x : Value). cell.Unpacked x at) (f ∙ rw (t, q, p))
-
-pub told : (s : List ℕ) (ci : ℕ) (m : List ℕ) (row column e : ℕ) (x y : Held) (r : Cell) → x ≡ y → r ≡ toldBy s ci m row column e y → r ≡ toldBy s ci m row column e x
-told s ci m row column e x y r p q = rw p q
-
--- the kind and the bits, from the number inside the tile
-
 module _ (s m : List ℕ) (k f i : ℕ) (x : Held) where
-  pub inside-stored :
-      {at : ℕ} → x ≡ held.Stored at → (o n r : ℕ) → o ≡ cellOffset k i → n ≡ numberAt (cellSize k) s (at + o) → r ≡ valueBits (valueOf k n) → r ≡ bitsInside s k f m i x
-  unfolding bitsInside
-  inside-stored p o n r q t e = e ∙ rw (t, q, p)
+  pub numbered-stored : {at : ℕ} (r : Cell) → x ≡ held.Stored at → r ≡ storedFrom s k at i → r ≡ numberedCell s k f m i x
+  unfolding numberedCell
+  numbered-stored r p e = e ∙ rw p
 
-  pub inside-unpacked : {at : ℕ} → x ≡ held.Unpacked at → (n r : ℕ) → n ≡ getD m i 0 → r ≡ valueBits (valueOf k n) → r ≡ bitsInside s k f m i x
-  unfolding bitsInside
-  inside-unpacked p n r t e = e ∙ rw (t, p)
+  pub numbered-unpacked : {at : ℕ} (n : ℕ) (v : Value) → x ≡ held.Unpacked at → n ≡ getD m i 0 → v ≡ valueOf k n → cell.Unpacked v at ≡ numberedCell s k f m i x
+  unfolding numberedCell
+  numbered-unpacked n v p t e = rw (e, t, p)
 
-  pub inside-absent : x ≡ held.Absent → (r : ℕ) → r ≡ valueBits (valueOf k f) → r ≡ bitsInside s k f m i x
-  unfolding bitsInside
-  inside-absent p r e = e ∙ rw p
+  pub numbered-absent : (v : Value) → x ≡ held.Absent → v ≡ valueOf k f → cell.Fill v ≡ numberedCell s k f m i x
+  unfolding numberedCell
+  numbered-absent v p e = rw (e, p)
 
-  pub inside-alone : x ≡ held.Alone → 0 ≡ bitsInside s k f m i x
-  unfolding bitsInside
-  inside-alone p = rw p
+  pub numbered-alone : x ≡ held.Alone → cell.Refused Directory ≡ numberedCell s k f m i x
+  unfolding numberedCell
+  numbered-alone p = rw p
 
-  pub inside-refused : {u : Refusal} → x ≡ held.Refused u → 0 ≡ bitsInside s k f m i x
-  unfolding bitsInside
-  inside-refused p = rw p
+  pub numbered-refused : {r : Refusal} → x ≡ held.Refused r → cell.Refused r ≡ numberedCell s k f m i x
+  unfolding numberedCell
+  numbered-refused p = rw p
 
-abbrev Starts : List ℕ → Held → Type 0
-Starts s (held.Stored at) = at < length s
-Starts s (held.Unpacked at) = Unit {0}
-Starts s held.Absent = Unit {0}
-Starts s held.Alone = Unit {0}
-Starts s (held.Refused r) = Unit {0}
+module _ (s : List ℕ) (ci : ℕ) (m : List ℕ) (row column e n : ℕ) (x : Held) (r : Cell) (q : n ≡ heldKind x) where
+  pub told-alone : n ≡ 0 → r ≡ lookedUp s ci (referredTo s (tileDirectoryAt s)) row column e → r ≡ toldBy s ci m row column e x
+  unfolding toldBy
+  told-alone h f = f ∙ rw (eq-eqb (heldKind x) 0 (sym q ∙ h))
 
-tells-cell :
-    (s : List ℕ) (ci row column e : ℕ) (m : List ℕ) (x : Held) → toldBy s ci m row column e x ≡ meaning s ci row column e → Starts s x → (heldKind x ≡ 0 → ⊥) →
-    Tells s ci row column e x m
-unfolding bitsInside storedFrom storedAt offsetIn fillOf
-tells-cell s ci row column e m (held.Stored at) q h n =
-    let t : pick (passes ((at + 1 ≤? length s) ∷ [])) (storedAt s e (at + offsetIn s row column e)) (cell.Refused Directory) ≡ meaning s ci row column e = q in
-    let z : storedAt s e (at + offsetIn s row column e) ≡ meaning s ci row column e = rw (← yes ((at + 1 ≤? length s) ∷ []) (omega arith, tt)) at t in
-    record { kind = sym (ap cellKind z); bits = sym (ap cellBits z) }
-tells-cell s ci row column e m (held.Unpacked at) q h n = record { kind = sym (ap cellKind q); bits = sym (ap cellBits q) }
-tells-cell s ci row column e m held.Absent q h n = record { kind = sym (ap cellKind q); bits = sym (ap cellBits q) }
-tells-cell s ci row column e m held.Alone q h n = absurd (n refl)
-tells-cell s ci row column e m (held.Refused r) q h n = record { kind = sym (ap cellKind q); bits = sym (ap cellBits q) }
+  pub told-numbered :
+      (k f i : ℕ) → (n ≡ 0 → ⊥) → k ≡ element s e .kind → f ≡ element s e .fill → i ≡ cellInside s row column → r ≡ numberedCell s k f m i x → r ≡ toldBy s ci m row column e x
+  unfolding toldBy
+  told-numbered k f i h a b c d = d ∙ rw (ne-eqb (heldKind x) 0 (λ z. h (q ∙ z)), a, b, c)
 
 -- on a sound page it is the meaning
 
@@ -123,10 +108,10 @@ module _ (s : List ℕ) (o : Sound s) (ci row column e : ℕ) (m : List ℕ) (g 
   few = let d = sides-mean s (sound-lawful s o) in inside-less (tileRows s) (tileColumns s) row column (omega (arith, d .tile-rows .0)) (omega (arith, d .tile-columns .0))
 
   abbrev Told : ℕ → Held → Type 0
-  Told x y = (toldBy s ci (put m 0 (unpackedBits s e y)) row column e y ≡ cellIn s ci x row column e) × Starts s y
+  Told x y = toldBy s ci (put m 0 (unpackedBits s e y)) row column e y ≡ cellIn s ci x row column e
 
   by-record : (x : ℕ) → meant s (cellTile s row column) ≡ At x → Told x (heldRoom s ci x e (length m))
-  unfolding cellIn packedCell storedFrom placeIn storedAt
+  unfolding cellIn packedCell toldBy numberedCell storedFrom placeIn storedAt offsetIn
   by-record x j = go (packed s x e) refl (unpackable s ci x e) refl (isWhole (unpackedIn s x e)) refl
     where
       at : ℕ
@@ -137,36 +122,36 @@ module _ (s : List ℕ) (o : Sound s) (ci row column e : ℕ) (m : List ℕ) (g 
           let q : meaning s ci row column e ≡ storedAt s e (at + offsetIn s row column e) = means (At x) j ∙ rw ep in
           let l = stored-inside s o ci row column e _ _ q in
           let h : at < length s = omega (arith, l, size-range (element s e .kind) .0) in
-          rw (room-stored s ci x e (length m) ep, ep, ← yes ((at + 1 ≤? length s) ∷ []) (omega arith, tt)) (refl, h)
-      go true ep false eu w ew = rw (room-packed s ci x e (length m) ep eu, ep, eu) (refl, tt)
+          rw (room-stored s ci x e (length m) ep, ep, ← yes ((at + 1 ≤? length s) ∷ []) (omega arith, tt))
+      go true ep false eu w ew = rw (room-packed s ci x e (length m) ep eu, ep, eu)
       go true ep true eu w ew =
           by-cases (decLe (tileRows s * tileColumns s) (length m)) (λ h. fits w ew h)
-          (λ h. rw (room-alone s ci x e (length m) ep eu (omega arith)) (looked-means s _ (sound-lawful s o) (sound-finds s o) ci row column e ∙ means (At x) j ∙ rw ep, tt))
+          (λ h. rw (room-alone s ci x e (length m) ep eu (omega arith)) (looked-means s _ (sound-lawful s o) (sound-finds s o) ci row column e ∙ means (At x) j ∙ rw ep))
         where
           fits : (w : Bool) → isWhole (unpackedIn s x e) ≡ w → tileRows s * tileColumns s ≤ length m → Told x (heldRoom s ci x e (length m))
-          fits false ew h = rw (room-malformed s ci x e (length m) ep eu h ew, ep, eu, not-whole-cell (unpackedIn s x e) i ew) (refl, tt)
+          fits false ew h = rw (room-malformed s ci x e (length m) ep eu h ew, ep, eu, not-whole-cell (unpackedIn s x e) i ew)
           fits true ew h =
               let v : List ℕ = cellsIn (unpackedAt s e at) in
               let n : length v ≡ tileRows s * tileColumns s = content-long s x e ew in
               let z : 0 + i ≡ i = omega arith in
               let c : getD (put m 0 v) i 0 ≡ getD v i 0 = rw z at (put-each m 0 v i (omega (arith, few)) (omega arith)) in
-              rw (room-unpacked s ci x e (length m) ep eu h ew, ep, eu, whole-cell (unpackedIn s x e) i ew, in-at s x e, c) (refl, tt)
+              rw (room-unpacked s ci x e (length m) ep eu h ew, ep, eu, whole-cell (unpackedIn s x e) i ew, in-at s x e, c)
 
   by-found :
       (f : Found) → meant s (cellTile s row column) ≡ f →
-      (toldBy s ci (put m 0 (unpackedBits s e (roomOf s ci e (length m) f))) row column e (roomOf s ci e (length m) f) ≡ meaning s ci row column e)
-      × Starts s (roomOf s ci e (length m) f)
-  by-found Nothing j = (sym (means Nothing j), tt)
-  by-found (At x) j = let t = by-record x j in (t .0 ∙ sym (means (At x) j), t .1)
+      toldBy s ci (put m 0 (unpackedBits s e (roomOf s ci e (length m) f))) row column e (roomOf s ci e (length m) f) ≡ meaning s ci row column e
+  unfolding toldBy numberedCell fillOf
+  by-found Nothing j = sym (means Nothing j)
+  by-found (At x) j = by-record x j ∙ sym (means (At x) j)
 
 pub sound-holds :
     (s : List ℕ) → Sound s → (ci tile e : ℕ) (m : List ℕ) → tile < tileCount s → e < elementCount s →
     Holds s ci tile e (heldByDirectory s ci tile e (length m)) (put m 0 (unpackedBits s e (heldByDirectory s ci tile e (length m))))
-unfolding heldByDirectory heldCell guarded tileBy
+unfolding heldByDirectory heldCell guarded tileBy toldBy
 sound-holds s o ci tile e m t n =
     record {
-      each = λ row column g k. rw (g, sound-lawful s o) (found row column g k .0);
-      tells = λ h row column g k. let y = found row column g k in tells-cell s ci row column e _ _ (y .0) (y .1) h;
+      each = λ row column g k. rw (g, sound-lawful s o) (found row column g k);
+      numbered = λ h row column g k. rw (ne-eqb (heldKind x) 0 h) at (found row column g k);
     }
   where
     x : Held
@@ -178,7 +163,7 @@ sound-holds s o ci tile e m t n =
 
     found :
         (row column : ℕ) → inGrid s row column e ≡ true → cellTile s row column ≡ tile →
-        (toldBy s ci (put m 0 (unpackedBits s e x)) row column e x ≡ meaning s ci row column e) × Starts s x
+        toldBy s ci (put m 0 (unpackedBits s e x)) row column e x ≡ meaning s ci row column e
     found row column g k = rw (b, ← k) (by-found s o ci row column e m g (meant s (cellTile s row column)) refl)
 
 pub holds-accepted : HoldsAccepted

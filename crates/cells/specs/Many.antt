@@ -5,6 +5,7 @@ use Prim.Native.Nat.{ℕ, _+_, _<_}
 use mathlib.Core.Path.{_≡_}
 use mathlib.Core.List.{List, [], _∷_}
 use mathlib.Core.Bool.{true}
+use lib.Dec.{eqb}
 use lib.ListN.{length, getD}
 use Rattle.wire.specs.Pick.{pick}
 use Rattle.wire.specs.Tests.{_≤?_, passes}
@@ -15,8 +16,8 @@ use Rattle.answer.specs.declared.Cell.{Cell}
 use Rattle.answer.specs.declared.Cell.the-variants as cell
 use Rattle.answer.specs.declared.Held.{Held}
 use Rattle.answer.specs.declared.Held.the-variants as held
-use Rattle.answer.specs.Values.{valueOf, valueBits}
-use Rattle.answer.specs.Answers.{cellKind, cellBits, heldKind}
+use Rattle.answer.specs.Values.{valueOf}
+use Rattle.answer.specs.Answers.{heldKind}
 use Rattle.header.specs.Fields.{elementCount}
 use Rattle.header.specs.Element.{cellSize, element}
 use Rattle.geometry.specs.Tiles.{tileCount, cellTile, cellInside}
@@ -24,7 +25,7 @@ use Rattle.geometry.specs.Sizes.{cellOffset}
 use Rattle.bodies.specs.TileDirectory.{tileDirectoryAt}
 use Rattle.page_check.specs.Stages.{check}
 use Rattle.cells.specs.Asked.{inGrid}
-use Rattle.cells.specs.TileCells.{fillOf, offsetIn, storedAt, unpackedBits}
+use Rattle.cells.specs.TileCells.{unpackedBits}
 use Rattle.cells.specs.Routes.{referredTo}
 use Rattle.cells.specs.Meaning.{meaning}
 use Rattle.cells.specs.inner.Lookups.{guarded, lookedUp, lookedUpRoom}
@@ -33,41 +34,40 @@ use Rattle.cells.specs.inner.Lookups.{guarded, lookedUp, lookedUpRoom}
 unfoldable pub heldByDirectory : List ℕ → ℕ → ℕ → ℕ → ℕ → Held
 heldByDirectory s ci tile e room = lookedUpRoom s ci (referredTo s (tileDirectoryAt s)) tile e room
 
--- a stored cell, by where its element's content starts: 9 where that is past the file
-unfoldable pub storedFrom : List ℕ → ℕ → ℕ → ℕ → ℕ → Cell
-storedFrom s at row column e = pick (passes ((at + 1 ≤? length s) ∷ [])) (storedAt s e (at + offsetIn s row column e)) (cell.Refused Directory)
+-- a stored cell of a type code, by where its element's content starts and its number inside the tile: 9 where that start is past the file
+unfoldable pub storedFrom : List ℕ → ℕ → ℕ → ℕ → Cell
+storedFrom s kind at inside =
+    pick (passes ((at + 1 ≤? length s) ∷ []))
+    (cell.Stored (valueOf kind (numberAt (cellSize kind) s (at + cellOffset kind inside))) (at + cellOffset kind inside))
+    (cell.Refused Directory)
 
--- a cell, by what is held: stored, from the memory, the fill, looked up by itself, or refused as all are
-abbrev pub toldBy : List ℕ → ℕ → List ℕ → ℕ → ℕ → ℕ → Held → Cell
-toldBy s ci m row column e (held.Stored at) = storedFrom s at row column e
-toldBy s ci m row column e (held.Unpacked at) = cell.Unpacked (valueOf (element s e .kind) (getD m (cellInside s row column) 0)) at
-toldBy s ci m row column e held.Absent = fillOf s e
-toldBy s ci m row column e held.Alone = lookedUp s ci (referredTo s (tileDirectoryAt s)) row column e
-toldBy s ci m row column e (held.Refused r) = cell.Refused r
+-- the cell with a number inside its tile, of an element of a type code and a fill, by what is held, without a look at the grid: stored, from
+-- the memory, the fill, or refused as all are. Cells that are looked up by themselves have no such answer: 9
+unfoldable pub numberedCell : List ℕ → ℕ → ℕ → List ℕ → ℕ → Held → Cell
+numberedCell s kind fill m inside (held.Stored at) = storedFrom s kind at inside
+numberedCell s kind fill m inside (held.Unpacked at) = cell.Unpacked (valueOf kind (getD m inside 0)) at
+numberedCell s kind fill m inside held.Absent = cell.Fill (valueOf kind fill)
+numberedCell s kind fill m inside held.Alone = cell.Refused Directory
+numberedCell s kind fill m inside (held.Refused r) = cell.Refused r
+
+-- a cell, by what is held: looked up by itself, or by its number inside the tile
+unfoldable pub toldBy : List ℕ → ℕ → List ℕ → ℕ → ℕ → ℕ → Held → Cell
+toldBy s ci m row column e x =
+    pick (eqb (heldKind x) 0)
+    (lookedUp s ci (referredTo s (tileDirectoryAt s)) row column e)
+    (numberedCell s (element s e .kind) (element s e .fill) m (cellInside s row column) x)
 
 -- 10 outside the grid; then 9 where the sides are not lawful
 unfoldable pub heldCell : List ℕ → ℕ → Held → List ℕ → ℕ → ℕ → ℕ → Cell
 heldCell s ci x m row column e = guarded cell.Refused (inGrid s row column e) s (toldBy s ci m row column e x)
 
--- the bits of the cell with a number inside its tile, of an element of a type code and a fill: without a look at the grid. 0 of cells that
--- are looked up by themselves or are refused
-unfoldable pub bitsInside : List ℕ → ℕ → ℕ → List ℕ → ℕ → Held → ℕ
-bitsInside s kind fill m inside (held.Stored at) = valueBits (valueOf kind (numberAt (cellSize kind) s (at + cellOffset kind inside)))
-bitsInside s kind fill m inside (held.Unpacked at) = valueBits (valueOf kind (getD m inside 0))
-bitsInside s kind fill m inside held.Absent = valueBits (valueOf kind fill)
-bitsInside s kind fill m inside held.Alone = 0
-bitsInside s kind fill m inside (held.Refused r) = 0
-
--- what is held has the kind of a cell, and its bits at the cell's number inside the tile
-pub record Tells (s : List ℕ) (ci row column e : ℕ) (x : Held) (m : List ℕ) : Type 0 where
-  pub kind : cellKind (meaning s ci row column e) ≡ heldKind x
-  pub bits : cellBits (meaning s ci row column e) ≡ bitsInside s (element s e .kind) (element s e .fill) m (cellInside s row column) x
-
--- what is held gives the meaning of each cell of the tile; and where it has a kind, which cells that are looked up by themselves lack, it
--- tells each
+-- what is held gives the meaning of each cell of the tile; and where it has a kind, which cells that are looked up by themselves lack, the
+-- number inside the tile does
 pub record Holds (s : List ℕ) (ci tile e : ℕ) (x : Held) (m : List ℕ) : Type 0 where
   pub each : (row column : ℕ) → inGrid s row column e ≡ true → cellTile s row column ≡ tile → heldCell s ci x m row column e ≡ meaning s ci row column e
-  pub tells : (heldKind x ≡ 0 → ⊥) → (row column : ℕ) → inGrid s row column e ≡ true → cellTile s row column ≡ tile → Tells s ci row column e x m
+  pub numbered :
+      (heldKind x ≡ 0 → ⊥) → (row column : ℕ) → inGrid s row column e ≡ true → cellTile s row column ≡ tile →
+      numberedCell s (element s e .kind) (element s e .fill) m (cellInside s row column) x ≡ meaning s ci row column e
 
 -- so on an accepted file, whatever memory is lent
 abbrev pub HoldsAccepted : Type 0

@@ -9,36 +9,49 @@ use answer::Held;
 use answer::Refusal;
 use geometry::sizes;
 use geometry::tiles;
+use header::entries;
 ghost use mathlib.Core.Path.{_≡_};
 ghost use mathlib.Core.Bool.{true};
-ghost use lib.ListN.{getD};
-ghost use Rattle.answer.specs.Values.{valueOf, valueBits};
-ghost use Rattle.answer.specs.declared.Cell.the-variants.{Unpacked};
-ghost use Rattle.header.specs.Element.{element};
-ghost use Rattle.geometry.specs.Tiles.{cellInside};
 ghost use Rattle.cells.specs.inner.Lookups.{sidesLawful};
-ghost use Rattle.cells.specs.Many.{storedFrom, toldBy, heldCell, bitsInside};
+ghost use Rattle.cells.specs.Many.{storedFrom, numberedCell, toldBy, heldCell};
 
-// A stored cell, by where its element's content starts: 9 where that is past the file.
-fn stored_from(s: &[u8], at: usize, row: u32, column: u32, e: u32) -> Cell
-    requires { ⌜ sidesLawful (now s) ≡ true ⌝ }
-    ensures { λ r. ⌜ r ≡ storedFrom (now (s .entry)) at row column e ⌝ }
+// A stored cell, by where its element's content starts and its number inside the tile: 9 where that start is past the file.
+fn stored_from(s: &[u8], kind: u32, at: usize, inside: u32) -> Cell
+    ensures { λ r. ⌜ r ≡ storedFrom (now (s .entry)) kind at inside ⌝ }
 {
     if at < s.len() {
-        let offset = tile_cells::offset_in(s, row, column, e) as usize;
-        return tile_cells::stored_at(s, e, at + offset);
+        let place = at + sizes::cell_offset(kind, inside) as usize;
+        return Cell::Stored {
+            value: answer::value_of(kind, tile_cells::bits_at(s, kind, place, 0)),
+            place,
+        };
     }
     Cell::Refused(Refusal::Directory)
 }
 
-// A cell whose bits stand in the memory, at its number inside the tile.
-fn unpacked_from(s: &[u8], memory: &[u32], at: usize, row: u32, column: u32, e: u32) -> Cell
-    ensures { λ r. ⌜ r ≡ Unpacked (valueOf (element (now (s .entry)) e .kind) (getD (now (memory .entry)) (cellInside (now (s .entry)) row column) 0)) at ⌝ }
+// The cell with a number inside its tile, of an element of a type code and a fill: in a step or two, without a look at the grid. 9 where
+// each is looked up by itself.
+pub fn numbered_cell(
+    s: &[u8],
+    kind: u32,
+    fill: u32,
+    held: Held,
+    memory: &[u32],
+    inside: u32,
+) -> Cell
+    ensures { λ r. ⌜ r ≡ numberedCell (now (s .entry)) kind fill (now (memory .entry)) inside held ⌝ }
 {
-    let inside = tiles::cell_inside(s, row, column) as usize;
-    Cell::Unpacked {
-        value: answer::value_of(tile_cells::kind_of(s, e), wire::number_in(memory, inside)),
-        place: at,
+    match held {
+        Held::Stored(at) => stored_from(s, kind, at, inside),
+        Held::Unpacked(at) => Cell::Unpacked {
+            value: answer::value_of(kind, wire::number_in(memory, inside as usize)),
+            place: at,
+        },
+        Held::Absent => Cell::Fill {
+            value: answer::value_of(kind, fill),
+        },
+        Held::Alone => Cell::Refused(Refusal::Directory),
+        Held::Refused(r) => Cell::Refused(r),
     }
 }
 
@@ -55,15 +68,12 @@ fn told_by(
     requires { ⌜ sidesLawful (now s) ≡ true ⌝ }
     ensures { λ r. ⌜ r ≡ toldBy (now (s .entry)) compressor (now (memory .entry)) row column e held ⌝ }
 {
-    match held {
-        Held::Stored(at) => stored_from(s, at, row, column, e),
-        Held::Unpacked(at) => unpacked_from(s, memory, at, row, column, e),
-        Held::Absent => tile_cells::fill_of(s, e),
-        Held::Alone => {
-            reads::cell_of_accepted(s, compressor, row as u64, column as u64, e as u64)
-        }
-        Held::Refused(r) => Cell::Refused(r),
+    if answer::held_kind(held) == 0 {
+        return reads::cell_of_accepted(s, compressor, row as u64, column as u64, e as u64);
     }
+    let x = entries::element(s, e as usize);
+    let inside = tiles::cell_inside(s, row, column) as u32;
+    numbered_cell(s, x.kind, x.fill, held, memory, inside)
 }
 
 // Any cell: 10 outside the grid, then 9 where the sides do not keep stages 3 and 4.
@@ -93,27 +103,4 @@ pub fn cell_held(
         return Cell::Refused(Refusal::Directory);
     }
     Cell::Refused(Refusal::OutsideGrid)
-}
-
-// The bits that a value of a type code keeps of a bit pattern.
-fn kept_bits(kind: u32, bits: u32) -> u32
-    ensures { λ r. ⌜ r ≡ valueBits (valueOf kind bits) ⌝ }
-{
-    answer::value_bits(answer::value_of(kind, bits))
-}
-
-// The bits of the cell with a number inside its tile, of an element of a type code and a fill: a step or two.
-pub fn bits_inside(s: &[u8], kind: u32, fill: u32, held: Held, memory: &[u32], inside: u32) -> u32
-    ensures { λ r. ⌜ r ≡ bitsInside (now (s .entry)) kind fill (now (memory .entry)) inside held ⌝ }
-{
-    match held {
-        Held::Stored(at) => {
-            let offset = sizes::cell_offset(kind, inside) as usize;
-            kept_bits(kind, tile_cells::bits_at(s, kind, at, offset))
-        }
-        Held::Unpacked(_) => kept_bits(kind, wire::number_in(memory, inside as usize)),
-        Held::Absent => kept_bits(kind, fill),
-        Held::Alone => 0,
-        Held::Refused(_) => 0,
-    }
 }

@@ -1,6 +1,6 @@
 -- Scores: their order, the lower of two, and what kinds of cells have one. Assumes nothing.
 use Prim.Native.Nat.{ℕ, _%_, _^_, _<_}
-use mathlib.Core.Path.{_≡_, refl, ap, _∙_}
+use mathlib.Core.Path.{_≡_, refl, sym, ap, _∙_}
 use mathlib.Core.List.{[], _∷_}
 use mathlib.Core.Bool.{Bool, true, false}
 use native.Mathlib.Omega.{arith}
@@ -11,7 +11,7 @@ use mir.Val.{toZ, ofZ, Fits, hbits}
 use mir.Facts.{toZ-ofZ}
 use borrow.Author.Tests.{leb-true, leb-false, le-leb, ne-eqb}
 use Rattle.wire.specs.Pick.{pick}
-use Rattle.wire.specs.Tests.{_≡?_, is, both}
+use Rattle.wire.specs.Tests.{_≡?_, is, both, passes}
 use Rattle.wire.proofs.TestLaws.{not-both, yes, no, either-way}
 use Rattle.answer.specs.declared.Cell.{Cell}
 use Rattle.answer.specs.Answers.{cellKind, cellBits}
@@ -161,19 +161,16 @@ module _ (rule : Rule) (x : Lowest) where
   unfolding scoreWithin
   within-none e = rw e
 
-  module _ (z : ℤ) (e : x ≡ Score z) (h : mag z < 2 ^ hbits w16) (m : mag (rule .mark) < 2 ^ hbits w16) where
-    pub within-low : leZ (toZ w16 (ofZ w16 (rule .mark))) (toZ w16 (ofZ w16 z)) ≡ false → false ≡ scoreWithin rule x
-    unfolding scoreWithin
-    within-low q = rw e (no (is (leZ (rule .mark) z) ∷ is (leZ z (rule .scale)) ∷ []) (λ y. not-both (y .0) (rw (kept z h, kept (rule .mark) m) at q)))
-
-    pub within-mark :
-        leZ (toZ w16 (ofZ w16 (rule .mark))) (toZ w16 (ofZ w16 z)) ≡ true → mag (rule .scale) < 2 ^ hbits w16 →
-        leZ (toZ w16 (ofZ w16 z)) (toZ w16 (ofZ w16 (rule .scale))) ≡ scoreWithin rule x
-    unfolding scoreWithin
-    within-mark q k =
-        let p : leZ (rule .mark) z ≡ true = rw (kept z h, kept (rule .mark) m) at q in
-        rw (e, kept z h, kept (rule .scale) k)
-        (either-way (is (leZ (rule .mark) z) ∷ is (leZ z (rule .scale)) ∷ []) (leZ z (rule .scale)) (λ y. (p, (y, tt))) (λ y w. not-both (w .1 .0) y))
+  pub within-is :
+      (z : ℤ) (b : Bool) → x ≡ Score z → mag z < 2 ^ hbits w16 → mag (rule .mark) < 2 ^ hbits w16 → mag (rule .scale) < 2 ^ hbits w16 →
+      b ≡ both (leZ (toZ w16 (ofZ w16 (rule .mark))) (toZ w16 (ofZ w16 z))) (leZ (toZ w16 (ofZ w16 z)) (toZ w16 (ofZ w16 (rule .scale)))) → b ≡ scoreWithin rule x
+  unfolding scoreWithin passes
+  within-is z b e h m k q = q ∙ rw (e, kept z h, kept (rule .mark) m, kept (rule .scale) k) (sym (tests (leZ (rule .mark) z) (leZ z (rule .scale))))
+    where
+      tests : (u v : Bool) → passes (is u ∷ is v ∷ []) ≡ both u v
+      tests true true = refl
+      tests true false = refl
+      tests false v = refl
 
 module _ (a b : Lowest) where
   pub lesser-first : a ≡ None → b ≡ lesser a b
@@ -185,11 +182,19 @@ module _ (a b : Lowest) where
     unfolding lesser
     lesser-alone f = rw (e, f)
 
-    module _ (y : ℤ) (f : b ≡ Score y) (h : mag x < 2 ^ hbits w16) (k : mag y < 2 ^ hbits w16) where
-      pub lesser-left : leZ (toZ w16 (ofZ w16 x)) (toZ w16 (ofZ w16 y)) ≡ true → Score x ≡ lesser a b
-      unfolding lesser
-      lesser-left q = rw (e, f, (rw (kept x h, kept y k) at q))
+    pub lesser-both :
+        (y r : ℤ) → b ≡ Score y → mag x < 2 ^ hbits w16 → mag y < 2 ^ hbits w16 →
+        r ≡ pick (leZ (toZ w16 (ofZ w16 x)) (toZ w16 (ofZ w16 y))) (toZ w16 (ofZ w16 x)) (toZ w16 (ofZ w16 y)) → Score (toZ w16 (ofZ w16 r)) ≡ lesser a b
+    unfolding lesser
+    lesser-both y r f h k q = rw (e, f, q, kept x h, kept y k) (go (leZ x y))
+      where
+        go : (u : Bool) → Score (toZ w16 (ofZ w16 (pick u x y))) ≡ pick u (Score x) (Score y)
+        go true = ap Score (kept x h)
+        go false = ap Score (kept y k)
 
-      pub lesser-right : leZ (toZ w16 (ofZ w16 x)) (toZ w16 (ofZ w16 y)) ≡ false → Score y ≡ lesser a b
-      unfolding lesser
-      lesser-right q = rw (e, f, (rw (kept x h, kept y k) at q))
+module _ (x y : ℤ) (h : mag x < 2 ^ hbits w16) (k : mag y < 2 ^ hbits w16) where
+  pub least-first : leZ (toZ w16 (ofZ w16 x)) (toZ w16 (ofZ w16 y)) ≡ true → toZ w16 (ofZ w16 x) ≡ pick (leZ x y) x y
+  least-first q = let p : leZ x y ≡ true = rw (kept x h, kept y k) at q in kept x h ∙ rw p
+
+  pub least-second : leZ (toZ w16 (ofZ w16 x)) (toZ w16 (ofZ w16 y)) ≡ false → toZ w16 (ofZ w16 y) ≡ pick (leZ x y) x y
+  least-second q = let p : leZ x y ≡ false = rw (kept x h, kept y k) at q in kept y k ∙ rw p

@@ -11,14 +11,16 @@ use Rattle.answer.specs.Answers.{cellKind}
 use Rattle.store.specs.Face.{mostGridSide}
 use Rattle.blocks.specs.Tables.{Inside}
 use Rattle.blocks.specs.Folds.{Joins}
+use Rattle.blocks.specs.Walks.{Begins, Follows, foldPassed}
 use Rattle.blocks.proofs.FoldLaws.{sums}
 use Rattle.blocks.proofs.InsideLaws.{inside-one, inside-none, inside-under, inside-beside, inside-both, inside-part, inside-ones}
+use Rattle.blocks.proofs.WalkLaws.{passed-none, passed-more, passed-all}
 use Rattle.deeds.specs.declared.Rule.{Rule}
 use Rattle.deeds.specs.declared.Lowest.{Lowest}
 use Rattle.deeds.specs.declared.Lowest.the-variants.{None}
 use Rattle.deeds.specs.declared.tally.Tally.{Tally}
 use Rattle.deeds.specs.Deeds.{isFill, scoreOf, fillsIn, lesser, lowestIn, scoreWithin, certainBy}
-use Rattle.deeds.specs.Tallies.{fillTally, cellTally, joinTally, tallyIn}
+use Rattle.deeds.specs.Tallies.{fillTally, cellTally, joinTally, tallyIn, tallyPassed}
 use Rattle.deeds.proofs.ScoreLaws.{scores, lesser-comm, truths, both-comm, kind-fill, fill-no-score}
 
 tally-same : (a b : Tally) → a .fills ≡ b .fills → a .certain ≡ b .certain → a .lowest ≡ b .lowest → a ≡ b
@@ -114,6 +116,33 @@ module _ (rule : Rule) (f : ℕ → ℕ → Cell) where
         v ≡ tallyIn rule top bottom left right f
     unfolding tallyIn
     tally-beside d e h k l = h ∙ rw (d, e) (sym (inside-beside joinTally (fillTally 0) tallies tally-comm top bottom left mid right (λ r c. cellTally rule (f r c)) k l))
+
+-- what a walk has counted: nothing, a piece more, all; and it fits
+
+module _ (rule : Rule) (f : ℕ → ℕ → Cell) (n : ℕ) where
+  pub tally-begins : {top left : ℕ} (bottom : ℕ) (t : Tally) → t ≡ fillTally 0 → Begins 0 n top left → t ≡ tallyPassed rule n top bottom left f
+  unfolding tallyPassed
+  tally-begins bottom t e b = e ∙ sym (passed-none joinTally (fillTally 0) tallies 0 n _ _ bottom _ b)
+
+  module _ (top bottom left : ℕ) (t : Tally) (e : t ≡ tallyPassed rule n top bottom left f) where
+    pub tally-walks :
+        {right top2 bottom2 left2 : ℕ} (u v : Tally) → Follows n top bottom left right top2 bottom2 left2 → u ≡ tallyIn rule top bottom left right f → v ≡ joinTally t u →
+        v ≡ tallyPassed rule n top2 bottom2 left2 f
+    unfolding tallyPassed tallyIn
+    tally-walks u v w d h = h ∙ rw (e, d) (passed-more joinTally (fillTally 0) tallies 0 n _ top bottom left tally-comm _ _ _ _ w (omega arith))
+
+    pub tally-all : (rows : ℕ) → top ≡ rows → left ≡ 0 → t ≡ tallyIn rule 0 rows 0 n f
+    unfolding tallyPassed tallyIn
+    tally-all rows h z = e ∙ passed-all joinTally (fillTally 0) tallies 0 n _ top bottom left rows h z
+
+    pub tally-room :
+        (right : ℕ) (u : Tally) → u ≡ tallyIn rule top bottom left right f → bottom ≤ mostGridSide → n ≤ mostGridSide → top ≤ bottom → left ≤ right → right ≤ n →
+        t .fills + u .fills < 18446744073709551616
+    unfolding tallyPassed foldPassed joinTally tallyIn
+    tally-room right u d h k l m b =
+        let x = tally-few rule 0 top 0 n f _ refl (omega arith) k in
+        let y = tally-few rule top bottom 0 left f _ refl h (omega arith) in
+        omega (arith, ap (λ (z : Tally). z .fills) e, x, y, tally-few rule top bottom left right f u d h (omega arith))
 
 -- an area of fills
 pub tally-all-fill :

@@ -1,17 +1,17 @@
 -- How the answer is made: what is counted over cells, a piece of the rectangle after the other. A piece is the part of it that lies in one
 -- tile; rows and columns count from the rectangle's first.
 use Prim.Native.Nat.{ℕ, _+_}
-use mathlib.Core.Path.{_≡_}
+use mathlib.Core.List.{List}
 use mathlib.Core.Bool.{true}
 use Rattle.wire.specs.Pick.{pick}
 use Rattle.wire.specs.Tests.{both}
 use Rattle.answer.specs.declared.Verdict.{Verdict}
-use Rattle.answer.specs.declared.Verdict.the-variants.{Accepted}
 use Rattle.answer.specs.declared.Cell.{Cell}
+use Rattle.answer.specs.declared.Held.{Held}
 use Rattle.answer.specs.Refusals.{unlessRefused}
-use Rattle.answer.specs.Answers.{cellVerdict}
-use Rattle.blocks.specs.Tables.{Inside}
+use Rattle.store.specs.Face.{numberedCell}
 use Rattle.blocks.specs.Folds.{foldInside}
+use Rattle.blocks.specs.Walks.{foldPassed}
 use Rattle.deeds.specs.declared.Rule.{Rule}
 use Rattle.deeds.specs.declared.Lowest.the-variants.{None}
 use Rattle.deeds.specs.declared.tally.Tally.{Tally}
@@ -40,6 +40,10 @@ joinTally a b =
 unfoldable pub tallyIn : Rule → ℕ → ℕ → ℕ → ℕ → (ℕ → ℕ → Cell) → Tally
 tallyIn rule top bottom left right f = foldInside joinTally (fillTally 0) top bottom left right (λ r c. cellTally rule (f r c))
 
+-- n cells by their numbers inside a tile, from `start` on (`numberedCell` of `cells`)
+unfoldable pub numberedTally : Rule → List ℕ → ℕ → ℕ → Held → List ℕ → ℕ → ℕ → Tally
+numberedTally rule s kind fill x m start n = tallyIn rule 0 1 0 n (λ r c. numberedCell s kind fill m (start + c) x)
+
 -- what is counted, unless it is refused
 unfoldable pub judgedBy : Verdict → Tally → Judged
 judgedBy v t = unlessRefused Refused v (Tallied t)
@@ -48,6 +52,6 @@ judgedBy v t = unlessRefused Refused v (Tallied t)
 unfoldable pub judgedIn : Rule → ℕ → ℕ → ℕ → ℕ → (ℕ → ℕ → Cell) → Judged
 judgedIn rule top bottom left right f = judgedBy (refusalIn top bottom left right f) (tallyIn rule top bottom left right f)
 
--- no cell of the area is refused
-pub record NoneRefused (f : ℕ → ℕ → Cell) (top bottom left right : ℕ) : Type 0 where
-  pub each : (r c : ℕ) → Inside top bottom left right r c → cellVerdict (f r c) ≡ Accepted
+-- the cells that a walk has passed, in a rectangle of n columns
+unfoldable pub tallyPassed : Rule → ℕ → ℕ → ℕ → ℕ → (ℕ → ℕ → Cell) → Tally
+tallyPassed rule n top bottom left f = foldPassed joinTally (fillTally 0) 0 n top bottom left (λ r c. cellTally rule (f r c))

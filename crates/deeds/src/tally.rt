@@ -4,6 +4,7 @@ use crate::Rule;
 use answer::Cell;
 ghost use mathlib.Core.Path.{_≡_};
 ghost use Prim.Native.Nat.{_+_, _%_, _<_};
+ghost use lib.Signed.{leZ};
 ghost use mir.Syntax.{w16};
 ghost use mir.Val.{toZ};
 ghost use Rattle.wire.specs.Pick.{pick};
@@ -60,6 +61,15 @@ fn fill_count(x: Cell) -> u64
     0
 }
 
+fn both(a: bool, b: bool) -> bool
+    ensures { λ r. ⌜ r ≡ tests.both a b ⌝ }
+{
+    if a {
+        return b;
+    }
+    false
+}
+
 // Whether a score, if there is one, is from the mark to the scale.
 fn score_within(rule: Rule, x: Lowest) -> bool
     ensures { λ r. ⌜ r ≡ scoreWithin rule x ⌝ }
@@ -67,10 +77,9 @@ fn score_within(rule: Rule, x: Lowest) -> bool
     match x {
         Lowest::None => true,
         Lowest::Score(z) => {
-            if rule.mark <= z {
-                return z <= rule.scale;
-            }
-            false
+            let low = rule.mark <= z;
+            let high = z <= rule.scale;
+            both(low, high)
         }
     }
 }
@@ -87,13 +96,13 @@ pub(crate) fn of_cell(rule: Rule, x: Cell) -> Tally
     }
 }
 
-fn both(a: bool, b: bool) -> bool
-    ensures { λ r. ⌜ r ≡ tests.both a b ⌝ }
+fn least(x: i16, y: i16) -> i16
+    ensures { λ r. ⌜ r ≡ pick (leZ x y) x y ⌝ }
 {
-    if a {
-        return b;
+    if x <= y {
+        return x;
     }
-    false
+    y
 }
 
 // The lower of two scores, by their signed numbers.
@@ -104,12 +113,7 @@ fn lesser(a: Lowest, b: Lowest) -> Lowest
         Lowest::None => b,
         Lowest::Score(x) => match b {
             Lowest::None => a,
-            Lowest::Score(y) => {
-                if x <= y {
-                    return a;
-                }
-                b
-            }
+            Lowest::Score(y) => Lowest::Score(least(x, y)),
         },
     }
 }

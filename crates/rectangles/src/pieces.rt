@@ -4,24 +4,15 @@ use answer::Held;
 use store::description;
 use store::many;
 use store::many::Rectangle;
+use store::pieces;
+use store::pieces::Piece;
 ghost use mathlib.Core.Path.{_≡_};
-ghost use Prim.Native.Nat.{_+_, _≤_, _<_};
+ghost use Prim.Native.Nat.{_+_, _-_, _*_, _≤_, _<_};
 ghost use lib.ListN.{length, set};
 ghost use Rattle.answer.specs.Answers.{cellKind, cellBits};
-ghost use Rattle.store.specs.Face.{tileRows, Accepts, OneTile, Counted, Answered};
-ghost use Rattle.blocks.specs.Blocks.{OneBlock};
+ghost use Rattle.store.specs.Face.{tileColumns, element, Accepts, AtPiece, Numbered, Answered};
 ghost use Rattle.blocks.specs.Tables.{Inside};
 ghost use Rattle.rectangles.specs.Pieces.{HasRoom, Told};
-
-// Two numbers, a cell's kind and its bits, in their places.
-fn put_numbers(kind: u32, pattern: u32, i: usize, kinds: &mut [u32], bits: &mut [u32])
-    requires { ⌜ (i < length (now kinds)) × (i < length (now bits)) ⌝ }
-    ensures kinds { λ _. ⌜ now (kinds .exit) ≡ set (now (kinds .entry)) i kind ⌝ }
-    ensures bits { λ _. ⌜ now (bits .exit) ≡ set (now (bits .entry)) i pattern ⌝ }
-{
-    kinds[i] = kind;
-    bits[i] = pattern;
-}
 
 // The kind and the bits of a cell in their places.
 fn put_cell(x: Cell, i: usize, kinds: &mut [u32], bits: &mut [u32])
@@ -29,7 +20,8 @@ fn put_cell(x: Cell, i: usize, kinds: &mut [u32], bits: &mut [u32])
     ensures kinds { λ _. ⌜ now (kinds .exit) ≡ set (now (kinds .entry)) i (cellKind x) ⌝ }
     ensures bits { λ _. ⌜ now (bits .exit) ≡ set (now (bits .entry)) i (cellBits x) ⌝ }
 {
-    put_numbers(answer::cell_kind(x), answer::cell_bits(x), i, kinds, bits);
+    kinds[i] = answer::cell_kind(x);
+    bits[i] = answer::cell_bits(x);
 }
 
 // The cells of one row of a piece, each by its row and column.
@@ -39,28 +31,28 @@ fn look_up_row(
     held: Held,
     memory: &[u32],
     a: Rectangle,
+    p: Piece,
     r: u64,
-    left: u64,
-    right: u64,
     kinds: &mut [u32],
     bits: &mut [u32],
 )
     requires fits { ⌜ HasRoom a (now kinds) (now bits) ⌝ }
-    requires inside { ⌜ (r < a .rows) × ((left ≤ right) × (right ≤ a .columns)) ⌝ }
-    requires answered { ⌜ Answered (now file) compressor a held (now memory) r (r + 1) left right ⌝ }
-    ensures { λ _. ⌜ Told (now (file .entry)) compressor a (Inside r (r + 1) left right) (now (kinds .entry)) (now (kinds .exit)) (now (bits .entry)) (now (bits .exit)) ⌝ }
+    requires at { ⌜ AtPiece (now file) a p ⌝ }
+    requires row { ⌜ (p .top ≤ r) × (r < p .bottom) ⌝ }
+    requires answered { ⌜ Answered (now file) compressor a p held (now memory) ⌝ }
+    ensures { λ _. ⌜ Told (now (file .entry)) compressor a (Inside r (r + 1) (p .left) (p .right)) (now (kinds .entry)) (now (kinds .exit)) (now (bits .entry)) (now (bits .exit)) ⌝ }
 {
     let first = r * a.columns;
     let row = a.row + r;
-    let mut c = left;
-    while c < right {
+    let mut c = p.left;
+    while c < p.right {
         let x = many::held_cell(file, compressor, held, memory, row, a.column + c, a.e);
         put_cell(x, (first + c) as usize, kinds, bits);
         c += 1;
     }
 }
 
-// The cells of one row of a piece, which have one kind, by the number inside the tile of the first.
+// The cells of one row of a piece, by the number inside the tile of the first.
 fn tell_row(
     file: &[u8],
     compressor: u32,
@@ -78,16 +70,14 @@ fn tell_row(
 )
     requires fits { ⌜ HasRoom a (now kinds) (now bits) ⌝ }
     requires inside { ⌜ (r < a .rows) × ((left ≤ right) × (right ≤ a .columns)) ⌝ }
-    requires counted { ⌜ Counted (now file) compressor a held (now memory) kind fill start r left right ⌝ }
+    requires numbered { ⌜ Numbered (now file) compressor a held (now memory) kind fill start r left right ⌝ }
     ensures { λ _. ⌜ Told (now (file .entry)) compressor a (Inside r (r + 1) left right) (now (kinds .entry)) (now (kinds .exit)) (now (bits .entry)) (now (bits .exit)) ⌝ }
 {
-    let said = answer::held_kind(held);
     let mut c = left;
     while c < right {
         let inside = (start + (c - left)) as u32;
-        let pattern = many::bits_inside(file, kind, fill, held, memory, inside);
-        let i = (r * a.columns + c) as usize;
-        put_numbers(said, pattern, i, kinds, bits);
+        let x = many::numbered_cell(file, kind, fill, held, memory, inside);
+        put_cell(x, (r * a.columns + c) as usize, kinds, bits);
         c += 1;
     }
 }
@@ -99,37 +89,26 @@ fn fill_row(
     held: Held,
     memory: &[u32],
     a: Rectangle,
+    kind: u32,
+    fill: u32,
+    start: u64,
+    p: Piece,
     r: u64,
-    left: u64,
-    right: u64,
     kinds: &mut [u32],
     bits: &mut [u32],
 )
     requires fits { ⌜ HasRoom a (now kinds) (now bits) ⌝ }
-    requires inside { ⌜ (r < a .rows) × ((left ≤ right) × (right ≤ a .columns)) ⌝ }
-    requires answered { ⌜ Answered (now file) compressor a held (now memory) r (r + 1) left right ⌝ }
-    ensures { λ _. ⌜ Told (now (file .entry)) compressor a (Inside r (r + 1) left right) (now (kinds .entry)) (now (kinds .exit)) (now (bits .entry)) (now (bits .exit)) ⌝ }
+    requires at { ⌜ AtPiece (now file) a p ⌝ }
+    requires row { ⌜ (p .top ≤ r) × (r < p .bottom) ⌝ }
+    requires start { ⌜ start ≡ p .inside + (r - p .top) * tileColumns (now file) ⌝ }
+    requires element { ⌜ (kind ≡ element (now file) (a .e) .kind) × (fill ≡ element (now file) (a .e) .fill) ⌝ }
+    requires answered { ⌜ Answered (now file) compressor a p held (now memory) ⌝ }
+    ensures { λ _. ⌜ Told (now (file .entry)) compressor a (Inside r (r + 1) (p .left) (p .right)) (now (kinds .entry)) (now (kinds .exit)) (now (bits .entry)) (now (bits .exit)) ⌝ }
 {
     if answer::held_kind(held) == 0 {
-        look_up_row(
-            file,
-            compressor,
-            held,
-            memory,
-            a,
-            r,
-            left,
-            right,
-            kinds,
-            bits,
-        );
+        look_up_row(file, compressor, held, memory, a, p, r, kinds, bits);
         return;
     }
-    let row = (a.row + r) as u32;
-    let column = (a.column + left) as u32;
-    let start = many::number_inside(file, row, column);
-    let kind = description::kind_of(file, a.e);
-    let fill = description::fill_pattern(file, a.e);
     tell_row(
         file,
         compressor,
@@ -140,8 +119,8 @@ fn fill_row(
         fill,
         start,
         r,
-        left,
-        right,
+        p.left,
+        p.right,
         kinds,
         bits,
     );
@@ -154,29 +133,34 @@ fn fill_piece(
     held: Held,
     memory: &[u32],
     a: Rectangle,
-    top: u64,
-    bottom: u64,
-    left: u64,
-    right: u64,
+    p: Piece,
     kinds: &mut [u32],
     bits: &mut [u32],
 )
+    requires accepts { ⌜ Accepts (now file) a ⌝ }
     requires fits { ⌜ HasRoom a (now kinds) (now bits) ⌝ }
-    requires inside { ⌜ (top ≤ bottom) × ((bottom ≤ a .rows) × ((left ≤ right) × (right ≤ a .columns))) ⌝ }
-    requires answered { ⌜ Answered (now file) compressor a held (now memory) top bottom left right ⌝ }
-    ensures { λ _. ⌜ Told (now (file .entry)) compressor a (Inside top bottom left right) (now (kinds .entry)) (now (kinds .exit)) (now (bits .entry)) (now (bits .exit)) ⌝ }
+    requires at { ⌜ AtPiece (now file) a p ⌝ }
+    requires answered { ⌜ Answered (now file) compressor a p held (now memory) ⌝ }
+    ensures { λ _. ⌜ Told (now (file .entry)) compressor a (Inside (p .top) (p .bottom) (p .left) (p .right)) (now (kinds .entry)) (now (kinds .exit)) (now (bits .entry)) (now (bits .exit)) ⌝ }
 {
-    let mut r = top;
-    while r < bottom {
+    let kind = description::kind_of(file, a.e);
+    let fill = description::fill_pattern(file, a.e);
+    let shape = description::shape_of(file);
+    let across = shape.tile_columns as u64;
+    let mut r = p.top;
+    while r < p.bottom {
+        let start = p.inside + (r - p.top) * across;
         fill_row(
             file,
             compressor,
             held,
             memory,
             a,
+            kind,
+            fill,
+            start,
+            p,
             r,
-            left,
-            right,
             kinds,
             bits,
         );
@@ -190,75 +174,20 @@ fn fill_tile(
     compressor: u32,
     memory: &mut [u32],
     a: Rectangle,
-    top: u64,
-    bottom: u64,
-    left: u64,
-    right: u64,
+    p: Piece,
     kinds: &mut [u32],
     bits: &mut [u32],
 )
     requires accepts { ⌜ Accepts (now file) a ⌝ }
     requires fits { ⌜ HasRoom a (now kinds) (now bits) ⌝ }
-    requires inside { ⌜ (top < bottom) × ((bottom ≤ a .rows) × ((left < right) × (right ≤ a .columns))) ⌝ }
-    requires one { ⌜ OneTile (now file) a top bottom left right ⌝ }
-    ensures { λ _. ⌜ Told (now (file .entry)) compressor a (Inside top bottom left right) (now (kinds .entry)) (now (kinds .exit)) (now (bits .entry)) (now (bits .exit)) ⌝ }
+    requires at { ⌜ AtPiece (now file) a p ⌝ }
+    ensures { λ _. ⌜ Told (now (file .entry)) compressor a (Inside (p .top) (p .bottom) (p .left) (p .right)) (now (kinds .entry)) (now (kinds .exit)) (now (bits .entry)) (now (bits .exit)) ⌝ }
 {
-    let tile = many::tile_holding(file, a.row + top, a.column + left);
-    let held = many::hold_accepted(file, compressor, tile, a.e, memory);
-    fill_piece(
-        file,
-        compressor,
-        held,
-        memory,
-        a,
-        top,
-        bottom,
-        left,
-        right,
-        kinds,
-        bits,
-    );
+    let held = many::hold_accepted(file, compressor, p.tile, a.e, memory);
+    fill_piece(file, compressor, held, memory, a, p, kinds, bits);
 }
 
-// The pieces in a row of tiles.
-fn fill_band(
-    file: &[u8],
-    compressor: u32,
-    memory: &mut [u32],
-    a: Rectangle,
-    top: u64,
-    bottom: u64,
-    kinds: &mut [u32],
-    bits: &mut [u32],
-)
-    requires accepts { ⌜ Accepts (now file) a ⌝ }
-    requires fits { ⌜ HasRoom a (now kinds) (now bits) ⌝ }
-    requires inside { ⌜ (top < bottom) × (bottom ≤ a .rows) ⌝ }
-    requires one { ⌜ OneBlock (a .row) top bottom (tileRows (now file)) ⌝ }
-    ensures { λ _. ⌜ Told (now (file .entry)) compressor a (Inside top bottom 0 (a .columns)) (now (kinds .entry)) (now (kinds .exit)) (now (bits .entry)) (now (bits .exit)) ⌝ }
-{
-    let shape = description::shape_of(file);
-    let side = shape.tile_columns as u64;
-    let mut left = 0;
-    while left < a.columns {
-        let right = blocks::block_end(a.column, left, side, a.columns);
-        fill_tile(
-            file,
-            compressor,
-            memory,
-            a,
-            top,
-            bottom,
-            left,
-            right,
-            kinds,
-            bits,
-        );
-        left = right;
-    }
-}
-
-// All rows of tiles.
+// All pieces.
 pub(crate) fn fill_all(
     file: &[u8],
     compressor: u32,
@@ -271,12 +200,9 @@ pub(crate) fn fill_all(
     requires fits { ⌜ HasRoom a (now kinds) (now bits) ⌝ }
     ensures { λ _. ⌜ Told (now (file .entry)) compressor a (Inside 0 (a .rows) 0 (a .columns)) (now (kinds .entry)) (now (kinds .exit)) (now (bits .entry)) (now (bits .exit)) ⌝ }
 {
-    let shape = description::shape_of(file);
-    let side = shape.tile_rows as u64;
-    let mut top = 0;
-    while top < a.rows {
-        let bottom = blocks::block_end(a.row, top, side, a.rows);
-        fill_band(file, compressor, memory, a, top, bottom, kinds, bits);
-        top = bottom;
+    let mut p = pieces::first_piece(file, a, 0);
+    while p.top < a.rows {
+        fill_tile(file, compressor, memory, a, p, kinds, bits);
+        p = pieces::next_piece(file, a, p);
     }
 }

@@ -1,9 +1,10 @@
 -- Many reads after one check: what the functions answer, and what a product needs of a rectangle and its tiles. Assumes nothing.
-use Prim.Native.Nat.{ℕ, _+_, _-_, _/_, _≤_, _<_}
-use mathlib.Core.Path.{_≡_, refl, sym, _∙_}
+use Prim.Native.Nat.{ℕ, _+_, _*_, _/_, _%_, _≤_, _<_}
+use mathlib.Core.Path.{_≡_, refl, sym, ap, _∙_}
 use mathlib.Core.List.{List, [], _∷_}
 use mathlib.Core.Bool.{Bool, true, false}
 use native.Mathlib.Omega.{arith}
+use native.Mathlib.Nat.{div-add-mod'}
 use lib.ListN.{length}
 use lib.Dec.{leb}
 use borrow.Author.Tests.{leb-true, leb-false}
@@ -12,13 +13,10 @@ use Rattle.wire.specs.Tests.{Test, _≤?_}
 use Rattle.wire.specs.Bytes.{put}
 use Rattle.wire.proofs.TestLaws.{means, yes, no, either-way}
 use Rattle.answer.specs.declared.Verdict.the-variants.{Accepted}
-use Rattle.answer.specs.declared.Cell.{Cell}
 use Rattle.answer.specs.declared.Held.{Held}
-use Rattle.answer.specs.Answers.{cellKind, cellBits, heldKind}
 use Rattle.header.specs.Fields.{gridRows, gridColumns, tileRows, tileColumns, elementCount}
-use Rattle.header.specs.Element.{element}
-use Rattle.geometry.specs.Tiles.{tileOf, tileIn, tileCount, cellTile, cellInside}
-use Rattle.geometry.proofs.GridLaws.{tile-less, inside-along}
+use Rattle.geometry.specs.Tiles.{tileOf, insideOf, tileIn, tileCount, cellTile, cellInside}
+use Rattle.geometry.proofs.GridLaws.{tile-less}
 use Rattle.check_header.specs.Passed.{Sides}
 use Rattle.bodies.specs.TileDirectory.{tileDirectoryAt}
 use Rattle.page_check.specs.Stages.{check}
@@ -26,13 +24,12 @@ use Rattle.cells.specs.declared.Route.the-variants.{Directory}
 use Rattle.cells.specs.Asked.{inGrid}
 use Rattle.cells.specs.TileCells.{unpackedBits}
 use Rattle.cells.specs.Routes.{foundBy}
-use Rattle.cells.specs.Meaning.{meaning}
 use Rattle.cells.specs.inner.Lookups.{lookedUpRoom}
-use Rattle.cells.specs.Many.{heldByDirectory, heldCell, bitsInside, Holds}
+use Rattle.cells.specs.Many.{heldByDirectory, Holds}
 use Rattle.cells.proofs.CellLaws.{grid-means, sides-mean, inside-small}
 use Rattle.cells.proofs.ReadLaws.{check-lawful}
 use Rattle.cells.proofs.ManyLaws.{holds-accepted}
-use Rattle.store.specs.Many.{rectangleInside, tileHolding}
+use Rattle.store.specs.Many.{rectangleInside, cellThere, tileHolding, numberHolding}
 
 -- what is held
 
@@ -82,28 +79,57 @@ module _ (s : List ℕ) (e row column rows columns : ℕ) where
     unfolding inGrid
     inside-cell r c h k = let y = inside-means in sym (yes _ (omega (arith, y .1 .0), (omega (arith, y .1 .1), (omega (arith, y .0), tt))))
 
--- a cell's tile
+-- a cell's tile, and its number inside that
+
+pub there-small :
+    (row column n k : ℕ) (b d : Bool) → b ≡ leb (row + 1) n → b ≡ true → d ≡ leb (column + 1) k → n < 4294967296 → k < 4294967296 → d ≡ true →
+    (row < 4294967296) × (column < 4294967296)
+there-small row column n k b d t f u h l z = (omega (arith, leb-true (row + 1) n (sym t ∙ f)), omega (arith, leb-true (column + 1) k (sym u ∙ z)))
 
 module _ (s : List ℕ) (row column : ℕ) where
   abbrev there : List Test
   there = (row + 1 ≤? gridRows s) ∷ (column + 1 ≤? gridColumns s) ∷ []
 
-  none-holds : (wire.Holds there → ⊥) → 0 ≡ tileHolding s row column
-  unfolding tileHolding
-  none-holds f = rw (← no there f)
+  pub there-past : (n : ℕ) (b : Bool) → n ≡ gridRows s → b ≡ leb (row + 1) n → b ≡ false → false ≡ cellThere s row column
+  unfolding cellThere
+  there-past n b p q f = no there (λ y. omega (arith, y .0, leb-false (row + 1) n (sym q ∙ f)))
 
-  pub no-row : (n : ℕ) → n ≡ gridRows s → n ≤ row → 0 ≡ tileHolding s row column
-  no-row n p h = none-holds (λ y. omega (arith, y .0))
+  pub there-is :
+      (n k : ℕ) (b d : Bool) → n ≡ gridRows s → k ≡ gridColumns s → b ≡ leb (row + 1) n → b ≡ true → d ≡ leb (column + 1) k → d ≡ cellThere s row column
+  unfolding cellThere
+  there-is n k b d p q t f u =
+      let h = leb-true (row + 1) n (sym t ∙ f) in
+      either-way there d (λ z. let l = leb-true (column + 1) k (sym u ∙ z) in (omega arith, (omega arith, tt))) (λ z y. omega (arith, y .1 .0, leb-false (column + 1) k (sym u ∙ z)))
 
-  pub no-column : (n : ℕ) → n ≡ gridColumns s → n ≤ column → 0 ≡ tileHolding s row column
-  no-column n p h = none-holds (λ y. omega (arith, y .1 .0))
-
-  pub one-holds : (n k t : ℕ) → n ≡ gridRows s → row < n → k ≡ gridColumns s → column < k → t ≡ cellTile s row column → t ≡ tileHolding s row column
-  unfolding tileHolding
-  one-holds n k t p h q l f = rw (← yes there (omega arith, (omega arith, tt))) f
+  in-there : (e : ℕ) → inGrid s row column e ≡ true → cellThere s row column ≡ true
+  unfolding cellThere
+  in-there e f = let g = grid-means s row column e f in sym (yes there (omega (arith, g .0), (omega (arith, g .1 .0), tt)))
 
   pub holding-is : (e : ℕ) → inGrid s row column e ≡ true → tileHolding s row column ≡ cellTile s row column
-  holding-is e f = let g = grid-means s row column e f in sym (one-holds _ _ _ refl (g .0) refl (g .1 .0) refl)
+  unfolding tileHolding
+  holding-is e f = rw (in-there e f)
+
+  pub number-is : (e : ℕ) → inGrid s row column e ≡ true → numberHolding s row column ≡ cellInside s row column
+  unfolding numberHolding
+  number-is e f = rw (in-there e f)
+
+  -- as the functions below give them
+  module _ (b : Bool) (q : b ≡ cellThere s row column) where
+    pub holds-tile : (t : ℕ) → b ≡ true → t ≡ cellTile s row column → t ≡ tileHolding s row column
+    unfolding tileHolding
+    holds-tile t f e = rw (← q, f) e
+
+    pub no-tile : b ≡ false → 0 ≡ tileHolding s row column
+    unfolding tileHolding
+    no-tile f = rw (← q, f)
+
+    pub holds-number : (t : ℕ) → b ≡ true → t ≡ cellInside s row column → t ≡ numberHolding s row column
+    unfolding numberHolding
+    holds-number t f e = rw (← q, f) e
+
+    pub no-number : b ≡ false → 0 ≡ numberHolding s row column
+    unfolding numberHolding
+    no-number f = rw (← q, f)
 
   pub same-tile : (r c : ℕ) → row / tileRows s ≡ r / tileRows s → column / tileColumns s ≡ c / tileColumns s → cellTile s row column ≡ cellTile s r c
   unfolding cellTile tileIn tileOf
@@ -118,25 +144,16 @@ tile-there s a row column e f =
     let g = grid-means s row column e f in
     (tile-less s row column (omega (arith, d .tile-rows .0)) (omega (arith, d .tile-columns .0)) (g .0) (g .1 .0), g .1 .1)
 
-pub told-cell :
-    (s : List ℕ) (ci tile e : ℕ) (x : Held) (m : List ℕ) (row column : ℕ) (r : Cell) → Holds s ci tile e x m → inGrid s row column e ≡ true → cellTile s row column ≡ tile →
-    r ≡ heldCell s ci x m row column e → r ≡ meaning s ci row column e
-told-cell s ci tile e x m row column r h g t p = p ∙ h .each row column g t
+-- numbers inside a tile: small, and rising from row to row by the tile's columns
 
--- along a row of a tile, from the cell in column x on
+pub inside-few : (s : List ℕ) → check s ≡ Accepted → (row column : ℕ) → cellInside s row column < 16777216
+inside-few s a row column = inside-small s row column (check-lawful s a)
 
-module _ (s : List ℕ) (a : check s ≡ Accepted) where
-  pub inside-few : (row column : ℕ) → cellInside s row column < 16777216
-  inside-few row column = inside-small s row column (check-lawful s a)
-
-  pub told-along :
-      (ci tile e : ℕ) (h : Held) (m : List ℕ) → Holds s ci tile e h m → (heldKind h ≡ 0 → ⊥) → (row x y n : ℕ) → x + n ≡ y → inGrid s row y e ≡ true → cellTile s row x ≡ tile →
-      cellTile s row y ≡ tile →
-      (cellKind (meaning s ci row y e) ≡ heldKind h)
-      × (cellBits (meaning s ci row y e) ≡ bitsInside s (element s e .kind) (element s e .fill) m (cellInside s row x + n) h)
-  told-along ci tile e h m o k row x y n q g t u =
-      let d = sides-accepted s a in
-      let z : cellInside s row y ≡ cellInside s row x + (y - x) = inside-along s row x y (omega (arith, d .tile-columns .0)) (omega arith) (grid-means s row y e g .1 .0) (u ∙ sym t) in
-      let w : cellInside s row x + n ≡ cellInside s row y = omega arith in
-      let v = o .tells k row y g u in
-      (v .kind, rw w (v .bits))
+pub inside-down :
+    (s : List ℕ) (row d column : ℕ) → (row + d) / tileRows s ≡ row / tileRows s → cellInside s (row + d) column ≡ cellInside s row column + d * tileColumns s
+unfolding cellInside insideOf
+inside-down s row d column e =
+    let h = tileRows s in
+    let m : (row + d) / h * h ≡ row / h * h = ap (λ (n : ℕ). n * h) e in
+    let r : (row + d) % h ≡ row % h + d = omega (arith, m, div-add-mod' row h, div-add-mod' (row + d) h) in
+    rw r (omega arith)

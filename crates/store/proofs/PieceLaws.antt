@@ -1,28 +1,37 @@
--- Pieces of a rectangle, and what is held of the tile of each. Assumes nothing.
-use Prim.Native.Nat.{ℕ, _+_, _-_, _≤_, _<_}
-use mathlib.Core.Path.{_≡_, sym, ap, _∙_}
-use mathlib.Core.List.{List}
+-- Pieces of a rectangle, the walk over them, and what is held of the tile of each. Assumes nothing.
+use Prim.Native.Nat.{ℕ, _+_, _-_, _*_, _≤_, _<_}
+use mathlib.Core.Path.{_≡_, refl, sym, ap, _∙_}
+use mathlib.Core.List.{List, [], _∷_}
 use mathlib.Core.Bool.{true}
+use mathlib.Core.Logic.{inl, inr, by-cases}
+use native.Mathlib.Decide.{decLe}
 use native.Mathlib.Omega.{arith}
-use Rattle.blocks.specs.Blocks.{OneBlock}
+use Rattle.wire.specs.Tests.{_≤?_}
+use Rattle.wire.proofs.TestLaws.{yes, no}
+use Rattle.blocks.specs.Blocks.{blockEnd, OneBlock}
 use Rattle.blocks.specs.Tables.{Inside}
+use Rattle.blocks.specs.Walks.{Begins, Follows}
+use Rattle.blocks.proofs.BlockLaws.{end-first, piece-next}
 use Rattle.answer.specs.declared.Verdict.the-variants.{Accepted}
 use Rattle.answer.specs.declared.Held.{Held}
-use Rattle.answer.specs.Answers.{cellKind, cellBits, heldKind, heldVerdict}
+use Rattle.answer.specs.Answers.{heldKind, heldVerdict}
 use Rattle.header.specs.Fields.{tileRows, tileColumns, elementCount}
 use Rattle.header.specs.Element.{element}
 use Rattle.geometry.specs.Tiles.{tileCount, cellTile, cellInside}
+use Rattle.geometry.proofs.GridLaws.{inside-along}
 use Rattle.check_header.specs.Ceilings.{mostGridSide}
 use Rattle.page_check.specs.Stages.{check}
 use Rattle.cells.specs.Asked.{inGrid}
 use Rattle.cells.specs.Meaning.{meaning, heldMeaning}
-use Rattle.cells.specs.Many.{bitsInside, Holds}
+use Rattle.cells.specs.Many.{Holds}
 use Rattle.cells.specs.Demand2.{ShortBits}
+use Rattle.cells.proofs.CellLaws.{grid-means}
 use Rattle.cells.proofs.DemandLaws.{held-each, short-bits}
 use Rattle.store.specs.declared.many.Rectangle.{Rectangle}
-use Rattle.store.specs.Many.{tileHolding, Alike, TileAlike}
-use Rattle.store.specs.Pieces.{Accepts, OneTile, Counted, Answered}
-use Rattle.store.proofs.ManyLaws.{inside-means, inside-cell, holding-is, same-tile, tile-there, sides-accepted, inside-few, told-along}
+use Rattle.store.specs.declared.pieces.Piece.{Piece}
+use Rattle.store.specs.Many.{Alike, TileAlike}
+use Rattle.store.specs.Pieces.{Accepts, bandEnd, pieceIn, firstPiece, nextPiece, OneTile, AtPiece, Walks, Numbered, Answered}
+use Rattle.store.proofs.ManyLaws.{means-inside, inside-means, inside-cell, holding-is, number-is, same-tile, tile-there, sides-accepted, inside-few, inside-down}
 
 -- cells of one tile
 pub tile-alike : TileAlike
@@ -51,55 +60,177 @@ module _ (s : List ℕ) (a : Rectangle) (g : Accepts s a) where
   pub in-grid : (r c : ℕ) → r < a .rows → c < a .columns → inGrid s (a .row + r) (a .column + c) (a .e) ≡ true
   in-grid r c h k = inside-cell s (a .e) (a .row) (a .column) (a .rows) (a .columns) (g .inside) r c h k
 
+  -- the rectangle cut at a row
+  pub accepts-cut : (n : ℕ) (b : Rectangle) → n ≤ a .rows → b ≡ record { e = a .e; row = a .row; column = a .column; rows = n; columns = a .columns } → Accepts s b
+  accepts-cut n b h e =
+      let m = inside-means s (a .e) (a .row) (a .column) (a .rows) (a .columns) (g .inside) in
+      rw e (record { accepted = g .accepted; inside = sym (means-inside s (a .e) (a .row) (a .column) n (a .columns) (m .0) (omega arith) (m .1 .1)) })
+
+-- the first piece and the next, as the functions below give them
+
+module _ (s : List ℕ) (a : Rectangle) where
+  module _ (top : ℕ) (p : Piece) where
+    pub none-first : p ≡ pieceIn s a (a .rows) (a .rows) 0 → a .columns ≡ 0 → p ≡ firstPiece s a top
+    unfolding firstPiece
+    none-first e z = e ∙ rw (← no ((1 ≤? a .columns) ∷ []) (λ y. omega (arith, y .0)))
+
+    pub some-first : (bottom : ℕ) → bottom ≡ bandEnd s a top → p ≡ pieceIn s a top bottom 0 → (a .columns ≡ 0 → ⊥) → p ≡ firstPiece s a top
+    unfolding firstPiece
+    some-first bottom b e z = e ∙ rw (b, ← yes ((1 ≤? a .columns) ∷ []) (omega arith, tt))
+
+  module _ (p q : Piece) where
+    pub beside-next : q ≡ pieceIn s a (p .top) (p .bottom) (p .right) → p .right < a .columns → q ≡ nextPiece s a p
+    unfolding nextPiece
+    beside-next e h = e ∙ rw (← yes ((p .right + 1 ≤? a .columns) ∷ []) (omega arith, tt))
+
+    pub under-next : q ≡ firstPiece s a (p .bottom) → a .columns ≤ p .right → q ≡ nextPiece s a p
+    unfolding nextPiece
+    under-next e h = e ∙ rw (← no ((p .right + 1 ≤? a .columns) ∷ []) (λ y. omega (arith, y .0)))
+
+-- a block of rows and a block of columns have one tile
+piece-tile :
+    (s : List ℕ) (a : Rectangle) (top bottom left right : ℕ) → OneBlock (a .row) top bottom (tileRows s) → OneBlock (a .column) left right (tileColumns s) →
+    OneTile s a top bottom left right
+piece-tile s a top bottom left right p q = record { each = λ r c k. same-tile s _ _ _ _ (p .each r (omega arith) (omega arith)) (q .each c (omega arith) (omega arith)) }
+
+-- the walk
+
+module _ (s : List ℕ) (a : Rectangle) (g : Accepts s a) where
+  -- the next block of rows
+  pub band-more : (top bottom : ℕ) → bottom ≡ bandEnd s a top → top < a .rows → (top < bottom) × ((bottom ≤ a .rows) × OneBlock (a .row) top bottom (tileRows s))
+  unfolding bandEnd
+  band-more top bottom e h = piece-next (a .row) top (tileRows s) (a .rows) bottom (tileRows s) e refl (sides-accepted s (g .accepted) .tile-rows .0) h
+
+  band-ended : (top : ℕ) → top ≡ a .rows → bandEnd s a top ≡ a .rows
+  unfolding bandEnd
+  band-ended top e = sym (end-first (a .row) top (tileRows s) (a .rows) (sides-accepted s (g .accepted) .tile-rows .0) (omega arith))
+
+  at-piece :
+      (top bottom left : ℕ) → top < bottom → bottom ≤ a .rows → left < a .columns → OneBlock (a .row) top bottom (tileRows s) → AtPiece s a (pieceIn s a top bottom left)
+  unfolding pieceIn
+  at-piece top bottom left h k l o =
+      let d = sides-accepted s (g .accepted) in
+      let right : ℕ = blockEnd (a .column) left (tileColumns s) (a .columns) in
+      let q : (left < right) × ((right ≤ a .columns) × OneBlock (a .column) left right (tileColumns s)) =
+      piece-next (a .column) left (tileColumns s) (a .columns) right (tileColumns s) refl refl (d .tile-columns .0) l in
+      let t : OneTile s a top bottom left right = piece-tile s a top bottom left right o (q .1 .1) in
+      let first = in-grid s a g top left (omega arith) l in
+      record {
+        sides = (h, (k, (q .0, q .1 .0)));
+        tile = refl;
+        one = t;
+        numbers = λ r c i.
+            let x : a .row + top + (r - top) ≡ a .row + r = omega arith in
+            let y : cellInside s (a .row + r) (a .column + left) ≡ cellInside s (a .row + top) (a .column + left) + (r - top) * tileColumns s =
+            rw x at (inside-down s (a .row + top) (r - top) (a .column + left) (rw x (o .each r (i .from-top) (i .to-bottom)))) in
+            let w = in-grid s a g r c (omega arith) (omega arith) in
+            let z : cellInside s (a .row + r) (a .column + c) ≡ cellInside s (a .row + r) (a .column + left) + (a .column + c - (a .column + left)) =
+            inside-along s (a .row + r) (a .column + left) (a .column + c) (omega (arith, d .tile-columns .0)) (omega arith) (grid-means s (a .row + r) (a .column + c) (a .e) w .1 .0)
+            (t .each r c i ∙ sym (t .each r left (omega arith))) in
+            omega (arith, y, z, number-is s (a .row + top) (a .column + left) (a .e) first);
+      }
+
+  walk-in :
+      (from top bottom left : ℕ) (p : Piece) → p ≡ pieceIn s a top bottom left → from ≤ top → top ≤ a .rows → top ≤ bottom → bottom ≤ a .rows →
+      (top < a .rows → (top < bottom) × (left < a .columns)) → (top ≡ a .rows → left ≡ 0) → OneBlock (a .row) top bottom (tileRows s) → Walks s a from p
+  unfolding pieceIn
+  walk-in from top bottom left p e d h k b f z o =
+      rw e (record { from-first = d; to-last = h; sides = k; ended = z; band = o; piece = λ l. at-piece top bottom left (f l .0) b (f l .1) o })
+
+  module _ (top : ℕ) (p : Piece) (e : p ≡ firstPiece s a top) where
+    -- with columns, and without
+
+    first-some : 1 ≤ a .columns → p ≡ pieceIn s a top (bandEnd s a top) 0
+    unfolding firstPiece
+    first-some c = e ∙ rw (← yes ((1 ≤? a .columns) ∷ []) (c, tt))
+
+    first-none : (1 ≤ a .columns → ⊥) → p ≡ pieceIn s a (a .rows) (a .rows) 0
+    unfolding firstPiece
+    first-none c = e ∙ rw (← no ((1 ≤? a .columns) ∷ []) (λ y. c (y .0)))
+
+    no-place : (x : ℕ) → OneBlock (a .row) x x (tileRows s)
+    no-place x = record { each = λ y h k. absurd (omega arith) }
+
+    walk-some : (from : ℕ) → from ≤ top → top ≤ a .rows → 1 ≤ a .columns → Walks s a from p
+    walk-some from d h c =
+        let q = first-some c in
+        by-cases (decLe (a .rows) top)
+        (λ k.
+        let z : top ≡ a .rows = omega arith in
+        let y : bandEnd s a top ≡ top = band-ended top z ∙ sym z in
+        walk-in from top (bandEnd s a top) 0 p q d h (omega arith) (omega arith) (λ l. absurd (omega arith)) (λ l. refl) (rw y (no-place top)))
+        (λ k.
+        let m = band-more top (bandEnd s a top) refl (omega arith) in
+        walk-in from top (bandEnd s a top) 0 p q d h (omega arith) (m .1 .0) (λ l. (m .0, c)) (λ l. refl) (m .1 .1))
+
+    -- where it starts
+    pub walk-first : top ≤ a .rows → Walks s a top p × Begins top (a .columns) (p .top) (p .left)
+    unfolding pieceIn
+    walk-first h =
+        by-cases (decLe 1 (a .columns)) (λ c. (walk-some top (omega arith) h c, rw (first-some c) (record { first = refl; at = λ l. refl })))
+        (λ c. (
+          walk-in top (a .rows) (a .rows) 0 p (first-none c) h (omega arith) (omega arith) (omega arith) (λ l. absurd (omega arith)) (λ l. refl) (no-place (a .rows)),
+          rw (first-none c) (record { first = refl; at = λ l. absurd (c l) }),
+        ))
+
+  -- and a piece more
+  module _ (from : ℕ) (p q : Piece) (w : Walks s a from p) (h : p .top < a .rows) (e : q ≡ nextPiece s a p) where
+    pub walk-next : Walks s a from q × Follows (a .columns) (p .top) (p .bottom) (p .left) (p .right) (q .top) (q .bottom) (q .left)
+    unfolding nextPiece pieceIn
+    walk-next =
+        let i = w .piece h .sides in
+        by-cases (decLe (p .right + 1) (a .columns))
+        (λ c.
+        let b : q ≡ pieceIn s a (p .top) (p .bottom) (p .right) = e ∙ rw (← yes ((p .right + 1 ≤? a .columns) ∷ []) (c, tt)) in (
+          walk-in from (p .top) (p .bottom) (p .right) q b (w .from-first) (w .to-last) (w .sides) (i .1 .0) (λ l. (i .0, omega arith)) (λ l. absurd (omega arith)) (w .band),
+          rw b (record { rows = w .sides; columns = omega arith; within = i .1 .1 .1; rows2 = w .sides; next = inl (refl, (refl, refl)) }),
+        ))
+        (λ c.
+        let b : q ≡ firstPiece s a (p .bottom) = e ∙ rw (← no ((p .right + 1 ≤? a .columns) ∷ []) (λ y. c (y .0))) in
+        let k = walk-some (p .bottom) q b from (omega (arith, w .from-first)) (i .1 .0) (omega arith) in
+        let f = first-some (p .bottom) q b (omega arith) in
+        (k, record { rows = w .sides; columns = omega arith; within = i .1 .1 .1; rows2 = k .sides; next = inr (omega arith, rw f (refl, refl)) }))
+
 -- the cells of a piece are alike
 pub piece-alike :
-    (s : List ℕ) (ci : ℕ) (a : Rectangle) (top bottom left right : ℕ) → Accepts s a → OneTile s a top bottom left right →
-    (top < bottom) × ((bottom ≤ a .rows) × ((left < right) × (right ≤ a .columns))) → (r c : ℕ) → Inside top bottom left right r c →
-    Alike (meaning s ci (a .row + r) (a .column + c) (a .e)) (meaning s ci (a .row + top) (a .column + left) (a .e))
-piece-alike s ci a top bottom left right g o i r c k =
-    tile-alike s (g .accepted) ci _ _ _ _ (a .e) (in-grid s a g r c (omega arith) (omega arith)) (in-grid s a g top left (omega arith) (omega arith)) (o .each r c k)
+    (s : List ℕ) (ci : ℕ) (a : Rectangle) (p : Piece) → Accepts s a → AtPiece s a p → (r c : ℕ) → Inside (p .top) (p .bottom) (p .left) (p .right) r c →
+    Alike (meaning s ci (a .row + r) (a .column + c) (a .e)) (meaning s ci (a .row + p .top) (a .column + p .left) (a .e))
+piece-alike s ci a p g o r c k =
+    let i = o .sides in
+    tile-alike s (g .accepted) ci _ _ _ _ (a .e) (in-grid s a g r c (omega arith) (omega arith)) (in-grid s a g (p .top) (p .left) (omega arith) (omega arith)) (o .one .each r c k)
 
--- what is held of the tile of a piece's first cell answers for the piece, and so for each row of it
+-- what is held of a piece's tile answers for the piece, and so for each row of it
 
-pub answered-tile :
-    (s : List ℕ) (ci : ℕ) (a : Rectangle) (top bottom left right tile : ℕ) (x : Held) (m : List ℕ) → tile ≡ tileHolding s (a .row + top) (a .column + left) →
-    (check s ≡ Accepted → tile < tileCount s → a .e < elementCount s → Holds s ci tile (a .e) x m) → Accepts s a → OneTile s a top bottom left right →
-    (top < bottom) × ((bottom ≤ a .rows) × ((left < right) × (right ≤ a .columns))) → Answered s ci a x m top bottom left right
-answered-tile s ci a top bottom left right tile x m q h g o i =
-    let n = in-grid s a g top left (omega arith) (omega arith) in
-    let e : tile ≡ cellTile s (a .row + top) (a .column + left) = q ∙ holding-is s _ _ (a .e) n in
+pub answered-piece :
+    (s : List ℕ) (ci : ℕ) (a : Rectangle) (p : Piece) (x : Held) (m : List ℕ) →
+    (check s ≡ Accepted → p .tile < tileCount s → a .e < elementCount s → Holds s ci (p .tile) (a .e) x m) → Accepts s a → AtPiece s a p → Answered s ci a p x m
+answered-piece s ci a p x m h g o =
+    let i = o .sides in
+    let n = in-grid s a g (p .top) (p .left) (omega arith) (omega arith) in
+    let e : p .tile ≡ cellTile s (a .row + p .top) (a .column + p .left) = o .tile ∙ holding-is s _ _ (a .e) n in
     let l = tile-there s (g .accepted) _ _ (a .e) n in
     let y = h (g .accepted) (omega arith) (l .1) in
     let w = inside-means s (a .e) (a .row) (a .column) (a .rows) (a .columns) (g .inside) in
     let d = sides-accepted s (g .accepted) in
-    let along : (heldKind x ≡ 0 → ⊥) → (r c : ℕ) → top ≤ r → r < bottom → left ≤ c → c < right →
-    (cellKind (meaning s ci (a .row + r) (a .column + c) (a .e)) ≡ heldKind x)
-    × (cellBits (meaning s ci (a .row + r) (a .column + c) (a .e)) ≡ bitsInside s (element s (a .e) .kind) (element s (a .e) .fill) m (cellInside s (a .row + r) (a .column + left) + (c - left)) x) =
-    λ z r c b u l v.
-    told-along s (g .accepted) ci tile (a .e) x m y z (a .row + r) (a .column + left) (a .column + c) (c - left) (omega arith) (in-grid s a g r c (omega arith) (omega arith))
-    (o .each r left (omega arith) ∙ sym e) (o .each r c (omega arith) ∙ sym e) in
     record {
-      each = λ r c k. y .each _ _ (in-grid s a g r c (omega arith) (omega arith)) (o .each r c k ∙ sym e);
-      counted = λ z r b u.
+      each = λ r c k. y .each _ _ (in-grid s a g r c (omega arith) (omega arith)) (o .one .each r c k ∙ sym e);
+      numbered = λ z r b u.
           record {
-            small = omega (arith, inside-few s (g .accepted) (a .row + r) (a .column + left), w .1 .1, d .columns .1);
-            kinds = λ c l v. along z r c b u l v .0;
-            bits = λ c l v. along z r c b u l v .1;
+            small = omega (arith, inside-few s (g .accepted) (a .row + r) (a .column + p .left), o .numbers r (p .left) (omega arith), w .1 .1, d .columns .1);
+            each = λ c v t.
+                rw (← o .numbers r c (omega arith)) (y .numbered z _ _ (in-grid s a g r c (omega arith) (omega arith)) (o .one .each r c (omega arith) ∙ sym e));
           };
     }
 
-pub answered-row :
-    {s : List ℕ} {ci : ℕ} {a : Rectangle} {x : Held} {m : List ℕ} {top bottom left right : ℕ} (r : ℕ) → Answered s ci a x m top bottom left right → top ≤ r → r < bottom →
-    Answered s ci a x m r (r + 1) left right
-answered-row r n h l = record { each = λ i c k. n .each i c (omega arith); counted = λ z i k u. n .counted z i (omega arith) (omega arith) }
+-- the number inside the tile of a row's first cell is small
+pub start-small :
+    (s : List ℕ) (a : Rectangle) (p : Piece) (r w : ℕ) → Accepts s a → AtPiece s a p → w ≡ tileColumns s → p .top ≤ r → r < p .bottom → p .inside + (r - p .top) * w < 16777216
+start-small s a p r w g o e h k =
+    let i = o .sides in
+    rw e (omega (arith, o .numbers r (p .left) (omega arith), inside-few s (g .accepted) (a .row + r) (a .column + p .left)))
 
-pub counted-row :
-    (s : List ℕ) (ci : ℕ) (a : Rectangle) (x : Held) (m : List ℕ) (r left right n kind fill start : ℕ) → Answered s ci a x m r (r + 1) left right → n ≡ heldKind x → (n ≡ 0 → ⊥) →
-    start ≡ cellInside s (a .row + r) (a .column + left) → kind ≡ element s (a .e) .kind → fill ≡ element s (a .e) .fill → Counted s ci a x m kind fill start r left right
-counted-row s ci a x m r left right n kind fill start w e f p q t = rw (p, q, t) (w .counted (λ z. f (e ∙ z)) r (omega arith) (omega arith))
-
--- a block of rows and a block of columns have one tile
-pub piece-tile :
-    (s : List ℕ) (a : Rectangle) (top bottom left right : ℕ) → OneBlock (a .row) top bottom (tileRows s) → OneBlock (a .column) left right (tileColumns s) →
-    OneTile s a top bottom left right
-piece-tile s a top bottom left right p q = record { each = λ r c k. same-tile s _ _ _ _ (p .each r (omega arith) (omega arith)) (q .each c (omega arith) (omega arith)) }
+pub numbered-row :
+    (s : List ℕ) (ci : ℕ) (a : Rectangle) (p : Piece) (x : Held) (m : List ℕ) (r n kind fill start : ℕ) → Answered s ci a p x m → n ≡ heldKind x → (n ≡ 0 → ⊥) →
+    start ≡ p .inside + (r - p .top) * tileColumns s → kind ≡ element s (a .e) .kind → fill ≡ element s (a .e) .fill → p .top ≤ r → r < p .bottom →
+    Numbered s ci a x m kind fill start r (p .left) (p .right)
+numbered-row s ci a p x m r n kind fill start w e f q k t b u = rw (q, k, t) (w .numbered (λ z. f (e ∙ z)) r b u)

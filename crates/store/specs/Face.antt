@@ -14,9 +14,9 @@ pub use Rattle.cells.specs.TileCells.{unpackedBits}
 pub use Rattle.cells.specs.Meaning.{meaning, contentMeaning}
 pub use Rattle.cells.specs.Demand2.{ShortBits}
 pub use Rattle.cells.specs.Reads.{readByDirectory, readByWalk, readMeaning, readContent}
-pub use Rattle.cells.specs.Many.{heldByDirectory, heldCell, bitsInside, Tells, Holds}
+pub use Rattle.cells.specs.Many.{heldByDirectory, heldCell, numberedCell, Holds}
 pub use Rattle.store.specs.Lookup.{readElementNamed, ByName, FoundByName}
 pub use Rattle.store.specs.Named.{idsNamed, asNamed, nameSaid, IdsDiffer}
 pub use Rattle.store.specs.Description.{shapeOf, numbersOfPage, described, describedNumber, specifiedBy, specified, specifiedNumber, DescribedInFile}
-pub use Rattle.store.specs.Many.{rectangleInside, tileHolding, Alike, TileAlike}
-pub use Rattle.store.specs.Pieces.{Accepts, OneTile, Counted, Answered}
+pub use Rattle.store.specs.Many.{rectangleInside, tileHolding, numberHolding, Alike, TileAlike}
+pub use Rattle.store.specs.Pieces.{Accepts, OneTile, bandEnd, firstPiece, nextPiece, AtPiece, Walks, Numbered, Answered}

@@ -10,7 +10,7 @@ use Rattle.answer.specs.declared.Verdict.the-variants.{Accepted}
 use Rattle.answer.specs.declared.Cell.{Cell}
 use Rattle.answer.specs.Answers.{cellKind, cellVerdict}
 use Rattle.header.specs.Fields.{gridRows, gridColumns, elementCount}
-use Rattle.geometry.specs.Tiles.{cellTile}
+use Rattle.geometry.specs.Tiles.{cellTile, cellInside}
 use Rattle.page_check.specs.Stages.{check}
 use Rattle.cells.specs.Asked.{inGrid}
 use Rattle.cells.specs.Meaning.{meaning}
@@ -21,9 +21,16 @@ unfoldable pub rectangleInside : List ℕ → ℕ → ℕ → ℕ → ℕ → �
 rectangleInside s e row column rows columns =
     passes ((e + 1 ≤? elementCount s) ∷ (row + rows ≤? gridRows s) ∷ (column + columns ≤? gridColumns s) ∷ [])
 
--- the tile of a cell of the grid; 0 where the grid has no such row or column
+-- the grid has the row and the column
+unfoldable pub cellThere : List ℕ → ℕ → ℕ → Bool
+cellThere s row column = passes ((row + 1 ≤? gridRows s) ∷ (column + 1 ≤? gridColumns s) ∷ [])
+
+-- the tile of a cell, and its number inside that; 0 and 0 where the grid has no such row or column
 unfoldable pub tileHolding : List ℕ → ℕ → ℕ → ℕ
-tileHolding s row column = pick (passes ((row + 1 ≤? gridRows s) ∷ (column + 1 ≤? gridColumns s) ∷ [])) (cellTile s row column) 0
+tileHolding s row column = pick (cellThere s row column) (cellTile s row column) 0
+
+unfoldable pub numberHolding : List ℕ → ℕ → ℕ → ℕ
+numberHolding s row column = pick (cellThere s row column) (cellInside s row column) 0
 
 -- two cells of an element in one tile of an accepted file are stored, unpacked, fill or refused alike: one that is absent, compressed or
 -- malformed shows that all are

@@ -17,6 +17,7 @@ pub mod description;
 mod elements;
 pub mod many;
 pub mod named;
+pub mod pieces;
 pub mod reads;
 
 use answer::Cell;

@@ -5,7 +5,6 @@ use answer::Held;
 use bodies::tile_directory;
 use cells::Route;
 use cells::lookups;
-use geometry::tiles;
 use header::fields;
 ghost use mathlib.Core.Path.{_≡_};
 ghost use Prim.Native.Nat.{_+_, _<_};
@@ -14,11 +13,11 @@ ghost use lib.Dec.{leb};
 ghost use Rattle.wire.specs.Bytes.{put};
 ghost use Rattle.answer.specs.declared.Verdict.the-variants.{Accepted};
 ghost use Rattle.header.specs.Fields.{elementCount};
-ghost use Rattle.geometry.specs.Tiles.{tileCount, cellInside};
+ghost use Rattle.geometry.specs.Tiles.{tileCount};
 ghost use Rattle.page_check.specs.Stages.{check};
 ghost use Rattle.cells.specs.TileCells.{unpackedBits};
-ghost use Rattle.cells.specs.Many.{heldByDirectory, heldCell, bitsInside, Holds};
-ghost use Rattle.store.specs.Many.{rectangleInside, tileHolding};
+ghost use Rattle.cells.specs.Many.{heldByDirectory, heldCell, numberedCell, Holds};
+ghost use Rattle.store.specs.Many.{rectangleInside};
 
 // An element, and a rectangle's first row and column and its sides.
 pub struct Rectangle {
@@ -56,26 +55,19 @@ pub fn held_cell(
     cells::many::cell_held(file, compressor, held, memory, row, column, e)
 }
 
-// A cell's number inside its tile.
-pub fn number_inside(file: &[u8], row: u32, column: u32) -> u64
-    ensures { λ r. ⌜ r ≡ cellInside (now (file .entry)) row column ⌝ }
-{
-    tiles::cell_inside(file, row, column)
-}
-
-// The bits of the cell with a number inside its tile, of an element of a type code and a fill, told from what is held and from the
-// memory: in a step or two, without a look at the grid.
-pub fn bits_inside(
+// The cell with a number inside its tile, of an element of a type code and a fill, told from what is held and from the memory: in a step
+// or two, without a look at the grid. 9 where each is looked up by itself.
+pub fn numbered_cell(
     file: &[u8],
     kind: u32,
     fill: u32,
     held: Held,
     memory: &[u32],
     inside: u32,
-) -> u32
-    ensures { λ r. ⌜ r ≡ bitsInside (now (file .entry)) kind fill (now (memory .entry)) inside held ⌝ }
+) -> Cell
+    ensures { λ r. ⌜ r ≡ numberedCell (now (file .entry)) kind fill (now (memory .entry)) inside held ⌝ }
 {
-    cells::many::bits_inside(file, kind, fill, held, memory, inside)
+    cells::many::numbered_cell(file, kind, fill, held, memory, inside)
 }
 
 // Whether n rows or columns from one on lie within a side of the grid, however large the sum.
@@ -102,17 +94,4 @@ pub fn rectangle_inside(file: &[u8], e: u64, row: u64, column: u64, rows: u64, c
         return within(column, columns, fields::grid_columns(file) as u64);
     }
     false
-}
-
-// The tile of a cell of the grid; 0 where the grid has no such row or column.
-pub fn tile_holding(file: &[u8], row: u64, column: u64) -> u64
-    ensures { λ r. ⌜ r ≡ tileHolding (now (file .entry)) row column ⌝ }
-{
-    if fields::grid_rows(file) as u64 <= row {
-        return 0;
-    }
-    if fields::grid_columns(file) as u64 <= column {
-        return 0;
-    }
-    tiles::cell_tile(file, row as u32, column as u32)
 }

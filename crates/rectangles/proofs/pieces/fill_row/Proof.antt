@@ -1,6 +1,7 @@
 -- `rectangles::pieces::fill_row` meets its contract. Assumes nothing.
 use borrow.Author.Needs.{needs}
-use Rattle.store.proofs.PieceLaws.{counted-row}
+use native.Mathlib.Omega.{arith}
+use Rattle.store.proofs.PieceLaws.{numbered-row}
 use Rattle.rectangles.proofs.pieces.fill_row.Statement.{statement}
 use Rattle.rectangles.proofs.pieces.fill_row.Tie as tie
 
@@ -9,18 +10,11 @@ fill-row-spec =
     tie.close
     (tie.spec
     (λ c κs. search needs)
-    (λ c κs. search needs)
+    (λ c κs. (c .before .before .before .before .before .before .before .before .pre .0, (c .before .before .before .before .before .before .before .before .pre .1 .0, (c .before .before .before .before .before .before .before .before .pre .1 .1 .0, c .before .before .before .before .before .before .before .before .pre .1 .1 .1 .1 .1))))
     (λ c. search needs)
     (λ c. search needs)
     (λ c. search needs)
-    (λ c. search needs)
-    (λ c. search needs)
-    (λ c. search needs)
-    (λ c. search needs)
-    (λ c κs. search needs)
-    (λ c κs. search needs)
-    (λ c κs. search needs)
-    (λ c κs. (c .before .before .before .before .before .before .before .before .before .before .before .before .before .pre .0, (c .before .before .before .before .before .before .before .before .before .before .before .before .before .pre .1 .0, counted-row _ _ _ _ _ _ _ _ _ _ _ _ (c .before .before .before .before .before .before .before .before .before .before .before .before .before .pre .1 .1) (c .before .before .before .before .before .before .before .before .held-kind .ensures) (c .before .before .before .before .before .before .before .if1 .left) (c .before .before .before .before .number-inside .ensures) (c .before .before .before .kind-of .ensures) (c .before .before .fill-pattern .ensures))))
+    (λ c κs. (c .before .before .before .before .before .before .before .before .pre .0, ((omega (arith, c .before .before .before .before .before .before .before .before .pre .1 .0 .sides, c .before .before .before .before .before .before .before .before .pre .1 .1 .0), (omega (arith, c .before .before .before .before .before .before .before .before .pre .1 .0 .sides), c .before .before .before .before .before .before .before .before .pre .1 .0 .sides .1 .1 .1)), numbered-row _ _ _ _ _ _ _ _ _ _ _ (c .before .before .before .before .before .before .before .before .pre .1 .1 .1 .1 .1) (c .before .before .before .held-kind .ensures) (c .before .before .if1 .left) (c .before .before .before .before .before .before .before .before .pre .1 .1 .1 .0) (c .before .before .before .before .before .before .before .before .pre .1 .1 .1 .1 .0 .0) (c .before .before .before .before .before .before .before .before .pre .1 .1 .1 .1 .0 .1) (c .before .before .before .before .before .before .before .before .pre .1 .1 .0 .0) (c .before .before .before .before .before .before .before .before .pre .1 .1 .0 .1))))
     (λ c. search needs)
     (λ c. search needs)
     (λ c. search needs))

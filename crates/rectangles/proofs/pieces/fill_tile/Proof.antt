@@ -1,7 +1,6 @@
 -- `rectangles::pieces::fill_tile` meets its contract. Assumes nothing.
-use native.Mathlib.Omega.{arith}
-use Rattle.store.proofs.PieceLaws.{answered-tile}
 use borrow.Author.Needs.{needs}
+use Rattle.store.proofs.PieceLaws.{answered-piece}
 use Rattle.rectangles.proofs.pieces.fill_tile.Statement.{statement}
 use Rattle.rectangles.proofs.pieces.fill_tile.Tie as tie
 
@@ -9,11 +8,8 @@ pub fill-tile-spec : {M : Type 1} → statement M
 fill-tile-spec =
     tie.close
     (tie.spec
-    (λ c. search needs)
-    (λ c. search needs)
     (λ c κs. search needs)
-    (λ c κs. search needs)
-    (λ c κs. (c .before .before .before .before .before .before .before .before .before .before .before .before .before .before .pre .1 .0, ((omega arith, (c .before .before .before .before .before .before .before .before .before .before .before .before .before .before .pre .1 .1 .0 .1 .0, (omega arith, c .before .before .before .before .before .before .before .before .before .before .before .before .before .before .pre .1 .1 .0 .1 .1 .1))), answered-tile _ _ _ _ _ _ _ _ _ _ (c .before .before .before .before .before .before .before .tile-holding .ensures) (c .before .before .before .before .before .hold-accepted .ensures .1 .1) (c .before .before .before .before .before .before .before .before .before .before .before .before .before .before .pre .0) (c .before .before .before .before .before .before .before .before .before .before .before .before .before .before .pre .1 .1 .1) (c .before .before .before .before .before .before .before .before .before .before .before .before .before .before .pre .1 .1 .0))))
+    (λ c κs. (c .before .before .before .before .before .before .before .before .before .before .before .pre .0, (c .before .before .before .before .before .before .before .before .before .before .before .pre .1 .0, (c .before .before .before .before .before .before .before .before .before .before .before .pre .1 .1, answered-piece _ _ _ _ _ _ (c .before .before .before .before .before .hold-accepted .ensures .1 .1) (c .before .before .before .before .before .before .before .before .before .before .before .pre .0) (c .before .before .before .before .before .before .before .before .before .before .before .pre .1 .1)))))
     (λ c. search needs)
     (λ c. search needs)
     (λ c. search needs)

@@ -1,6 +1,5 @@
 -- `rectangles::pieces::put_cell` meets its contract. Assumes nothing.
 use borrow.Author.Needs.{needs}
-use mathlib.Core.Path.{_∙_}
 use Rattle.rectangles.proofs.pieces.put_cell.Statement.{statement}
 use Rattle.rectangles.proofs.pieces.put_cell.Tie as tie
 
@@ -9,8 +8,11 @@ put-cell-spec =
     tie.close
     (tie.spec
     (λ c κs. search needs)
-    (λ c κs. search needs)
+    (λ c. search needs)
+    (λ c. search needs)
     (λ c κs. search needs)
     (λ c. search needs)
     (λ c. search needs)
-    (λ c. (c .before .before .before .before .put-numbers .ensures .0 ∙ rw (c .before .before .before .before .before .before .before .before .cell-kind .ensures), c .before .before .before .before .put-numbers .ensures .1 ∙ rw (c .before .before .before .before .before .before .before .cell-bits .ensures))))
+    (λ c. search needs)
+    (λ c. search needs)
+    (λ c. (rw (c .before .cell-kind .ensures), rw (c .cell-bits .ensures))))
