@@ -1,5 +1,6 @@
 //! Every cell of one element by `gvrs_cells`: of files of 16 MiB, against CRC32C of as many bytes,
-//! byte by byte; and of a packed tile, against its unpacking by `gvrs_unpack`.
+//! byte by byte; and of a packed tile, against its unpacking by `gvrs_unpack`. The scores of a
+//! rectangle judged by `gvrs_deed`, against its cells by `gvrs_cells`.
 
 use std::hint::black_box;
 
@@ -17,6 +18,9 @@ const BOUND: f64 = 4.0;
 /// The cells of a packed tile take at most so many times as long as its unpacking.
 const PACKED_BOUND: f64 = 1.3;
 
+/// The scores of a rectangle take at most so many times as long as its cells.
+const SCORES_BOUND: f64 = 1.5;
+
 /// Numbers of memory that let every tile be unpacked once.
 const MEMORY: usize = 524_288;
 
@@ -33,6 +37,10 @@ pub fn measure(pages: &[PackedPage]) -> bool {
     heading("every cell of a packed tile of 1 MiB", "gvrs_unpack");
     let ratios: Vec<f64> = pages.iter().map(measure_packed).collect();
     within &= judge("every cell of a packed tile", &ratios, PACKED_BOUND);
+    heading("scores of a rectangle judged", "gvrs_cells");
+    let file = shapes::few_large_tiles_of_shorts();
+    let ratios = [32_768, 61_440].map(|rows| measure_scores(&file, rows));
+    within &= judge("the scores of a rectangle", &ratios, SCORES_BOUND);
     within
 }
 
@@ -101,6 +109,28 @@ fn measure_packed(page: &PackedPage) -> f64 {
     assert!(unpacked && room.bits == page.bits, "{}: other cells", page.name);
     let of_unpacking = shortest(|| unpack_by_library(page, &mut room.bits));
     line(&page.name, page.bits.len(), [of_cells, of_unpacking], PACKED_BOUND)
+}
+
+/// Prints one line; the ratio. The library must give the second implementation's grade. The rows are
+/// of tiles that are all stored.
+fn measure_scores(file: &[u8], rows: u64) -> f64 {
+    let rectangle = Rectangle { rows, ..whole_grid(file) };
+    let mut room = Room::new(rectangle);
+    let of_cells = shortest(|| room.read(file, rectangle, NO_COMPRESSOR));
+    let (grade, numbers) = Opened::checked(file).deed(rectangle, NO_COMPRESSOR).as_numbers();
+    let of_scores = shortest(|| {
+        let mut out = [0; 3];
+        let number = library::deed_into(
+            black_box(file),
+            rectangle,
+            NO_COMPRESSOR,
+            &mut room.memory,
+            &mut out,
+        );
+        assert_eq!((number, out), (grade, numbers), "the library judges the scores");
+    });
+    let cells = room.kinds.len();
+    line("few large tiles of Shorts", cells, [of_scores, of_cells], SCORES_BOUND)
 }
 
 fn line(name: &str, cells: usize, times: [std::time::Duration; 2], bound: f64) -> f64 {

@@ -1,8 +1,9 @@
 //! Times the library's check, checksum, reads, lay-down and unpacking against the second
-//! implementation's, in one run, the cells of rectangles, a deed, a tile stored in an open page, and the
-//! check of hostile files. Fails where the check, unpacking, the cells of a rectangle, a deed or the
-//! storing of a tile take longer than their bounds. With the word `hostile` it measures the hostile
-//! files alone, with `corrections` the storing of tiles alone, with `deeds` deeds alone.
+//! implementation's, in one run, the cells and the scores of rectangles, a deed, a tile stored in an open
+//! page, and the check of hostile files. Fails where the check, unpacking, the cells or the scores of a
+//! rectangle, a deed or the storing of a tile take longer than their bounds. With the word `hostile` it
+//! measures the hostile files alone, with `corrections` the storing of tiles alone, with `deeds` deeds
+//! alone, with `cells` the cells and scores alone.
 
 mod cells;
 mod checksum;
@@ -36,6 +37,9 @@ fn main() -> ExitCode {
     }
     if env::args().any(|argument| argument == "deeds") {
         return exit_code(deeds::measure());
+    }
+    if env::args().any(|argument| argument == "cells") {
+        return exit_code(cells::measure(&packed::pages()));
     }
     let checks = measure_checks(units::measure);
     checksum::measure();
