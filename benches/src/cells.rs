@@ -119,7 +119,7 @@ fn measure_scores(file: &[u8], rows: u64) -> f64 {
     let of_cells = shortest(|| room.read(file, rectangle, NO_COMPRESSOR));
     let (grade, numbers) = Opened::checked(file).deed(rectangle, NO_COMPRESSOR).as_numbers();
     let of_scores = shortest(|| {
-        let mut out = [0; 3];
+        let mut out = [0; 4];
         let number = library::deed_into(
             black_box(file),
             rectangle,
