@@ -1,12 +1,12 @@
 /* Gridfour Virtual Raster Store files, version 1.4: the check of a file, whole or in two halves, what a page is, reads of its cells,
-   compressed ones too, whether its scores are certain, M32 codes, its elements by their names, the laying down of a new one, the
-   correcting of one where it lies, and the listing of a file.
+   compressed ones too, whether its scores are certain, in which cells two pages differ, M32 codes, its elements by their names, the
+   laying down of a new one, the correcting of one where it lies, and the listing of a file.
 
    Link with libgvrs_c.a, which `rt staticlib gvrs_c` writes to target/staticlib/. A file is the bytes of the whole file, n of
    them, but for gvrs_check_start. `out` takes the numbers that a function names, in their order; a shorter one takes those that
    fit, and the answer is the same. A lay-down also writes the buffer that it is given for the file, a correction the one that the page
-   lies in, a listing the buffer for its text, an unpacking that for the cells, gvrs_cells those for kinds and bits, M32 those for
-   bytes and numbers; gvrs_cells and gvrs_deed the memory lent to them. Nothing else is written.
+   lies in, a listing the buffer for its text, an unpacking that for the cells, gvrs_cells those for kinds and bits, gvrs_compare its
+   list, M32 those for bytes and numbers; gvrs_cells, gvrs_deed and gvrs_compare the memory lent to them. Nothing else is written.
 
    The caller sees to it that each pointer is that of as many elements as are named, and that none is null, also where it names
    none; that what is written (`out`, the buffers and the memory) overlaps nothing else that is passed; that numbers of 32 bits are
@@ -35,7 +35,8 @@ enum {
     GVRS_DIRECTORY = 9,    /* directory at fault */
     GVRS_OUTSIDE = 10,     /* row, column, element, tile or rectangle asked for, or tile to correct, not in the grid */
     GVRS_COMPRESSED = 11,  /* content asked for is compressed; of a cell: and not of the compressor index named, or of a Float */
-    GVRS_INPUT = 12,       /* input wrong: of a lay-down, a correction or a deed, or more first bytes than the stated length */
+    GVRS_INPUT = 12,       /* input wrong: of a lay-down, a correction or a deed, or more first bytes than the stated length; of a
+                              comparison, two pages that differ in grid, tile sides or element types */
     GVRS_ROOM = 13,        /* lay-down output, a page's buffer for a correction, or one for the cells of a rectangle, too short */
     GVRS_MALFORMED = 14,   /* compressed content malformed, or a Short in it out of range */
     GVRS_NOT_OPEN = 15,    /* no page that is open for writing */
@@ -155,6 +156,25 @@ uint32_t gvrs_cells(const uint8_t *file, uint64_t n, uint32_t compressor, uint64
    memory as for gvrs_cells: 524,288 numbers let every tile be unpacked once; fewer, or none, cost time and change no answer. */
 uint32_t gvrs_deed(const uint8_t *file, uint64_t n, uint32_t compressor, uint64_t element, uint64_t row, uint64_t column,
                    uint64_t rows, uint64_t columns, uint32_t *memory, uint64_t memory_n, uint64_t *out, uint64_t out_n);
+
+/* Compares two pages, each with the compressor index that gvrs_cell_with would be given for it: 0, and out[0] is the full number of
+   differing cells; else the refusal's number, out[0] is its place, and out[1] whose it is: 1 the first page's, 2 the second's; 0 where the
+   pages are unlike (12) and where nothing is refused. A cell is a row, a column and an element. Two cells differ in kind (stored or packed
+   against fill) or in bits; what they are in each page gvrs_cell_with says. The files may be the same bytes.
+
+   `list` takes the earliest entries that fit whole, list_n / 3 of them, each three numbers: row, column, element; by row, then column, then
+   element, each differing cell once. What stands behind them stays, and all of it on a refusal. A short list, or an empty one, is no refusal.
+
+   Refused, in this order: as by gvrs_check, the first page; the second page; 12, at 0, where grid rows or columns, tile rows or columns,
+   the number of elements or the type of one differ (names, fills and all else may); 11 or 14 where a cell has it in either page: at the
+   first such cell by row, column and element, the first page's where both have it. Pages swapped, where neither is refused, give the same
+   number and the same list.
+
+   memory as for gvrs_deed: 1,048,576 numbers let every tile be unpacked as seldom as can be, three times at most; fewer, or none, cost time
+   and change no answer. */
+uint32_t gvrs_compare(const uint8_t *first, uint64_t first_n, uint32_t first_compressor,
+                      const uint8_t *second, uint64_t second_n, uint32_t second_compressor,
+                      uint32_t *memory, uint64_t memory_n, uint32_t *list, uint64_t list_n, uint64_t *out, uint64_t out_n);
 
 /* The M32 codes of numbers, one behind the other: their length. `bytes` takes them where they fit, and what stands behind them stays;
    else it is as it was. A number is that of its 32 bits. */

@@ -1,6 +1,8 @@
 -- The end of a block, and what the places up to it share. Assumes nothing.
 use Prim.Native.Nat.{ℕ, _+_, _-_, _*_, _/_, _%_, _≤_, _<_}
-use mathlib.Core.Path.{_≡_, sym, _∙_}
+use mathlib.Core.Path.{_≡_, sym, ap, _∙_}
+use mathlib.Core.Logic.{by-cases}
+use native.Mathlib.Decide.{decLe}
 use native.Mathlib.Omega.{arith}
 use native.Mathlib.Nat.{add-mod, mod-eq-of-lt, mod-eq-sub-mod, div-add-mod', mod-lt, div-eq-of-lt-le}
 use Rattle.blocks.specs.Blocks.{blockEnd, OneBlock}
@@ -67,3 +69,14 @@ module _ (first at side end r t : ℕ) (e : r ≡ blockEnd first at side end) (q
   piece-next h =
       let l : 1 ≤ side = omega arith in
       rw (← q, e) (block-more first at side end l h, (block-within first at side end l, block-same first at side end l))
+
+-- a block has no more places than its length
+pub block-few : (first at next side : ℕ) → OneBlock first at next side → 1 ≤ side → next - at ≤ side
+block-few first at next side o p =
+    by-cases (decLe (at + 1) next)
+    (λ h.
+    let x : ℕ = next - 1 in
+    let e : (first + x) / side ≡ (first + at) / side = o .each x (omega arith) (omega arith) in
+    let m : (first + x) / side * side ≡ (first + at) / side * side = ap (λ (n : ℕ). n * side) e in
+    omega (arith, m, div-add-mod' (first + x) side, mod-lt (first + x) p, div-add-mod' (first + at) side))
+    (λ h. omega arith)

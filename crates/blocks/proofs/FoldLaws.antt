@@ -1,6 +1,7 @@
 -- What is joined over a rectangle: cut between rows or between columns, and by the first that counts. Assumes nothing.
 use Prim.Native.Nat.{ℕ, zero, suc, _+_, _*_, _≤_, _<_}
 use mathlib.Core.Path.{_≡_, refl, sym, ap, ap₂, _∙_}
+use mathlib.Core.List.{List, [], _∷_, _++_}
 use mathlib.Core.Logic.{_⊎_, ⊎-elim, by-cases}
 use native.Mathlib.Decide.{decLe}
 use native.Mathlib.Omega.{arith}
@@ -116,6 +117,18 @@ module _ {A B : Type 0} (op : A → A → A) (unit : A) (op2 : B → B → B) (u
   unfolding foldBelow
   fold-part q zero f = p
   fold-part q (suc n) f = q (foldBelow op unit n f) (f n) ∙ ap (λ (y : B). op2 y (part (f n))) (fold-part q n f)
+
+-- lists are put together
+pub lists : {A : Type 0} → Joins (_++_ {A = A}) []
+lists = record { unit-left = λ x. refl; unit-right = right; assoc = assoc }
+  where
+    right : {A : Type 0} (x : List A) → x ++ [] ≡ x
+    right [] = refl
+    right (y ∷ x) = ap (λ (l : List _). y ∷ l) (right x)
+
+    assoc : {A : Type 0} (x y z : List A) → (x ++ y) ++ z ≡ x ++ (y ++ z)
+    assoc [] y z = refl
+    assoc (w ∷ x) y z = ap (λ (l : List _). w ∷ l) (assoc x y z)
 
 -- a sum is such a fold
 pub sums : Joins _+_ 0

@@ -1,11 +1,11 @@
 -- What is joined over the rows from one to below another and such columns, as a walk over them comes by it. Assumes nothing.
 use Prim.Native.Nat.{ℕ, _+_, _-_, _*_, _≤_, _<_}
-use mathlib.Core.Path.{_≡_, sym, ap, _∙_}
+use mathlib.Core.Path.{_≡_, refl, sym, ap, _∙_}
 use mathlib.Core.Logic.{_⊎_}
 use native.Mathlib.Omega.{arith}
 use Rattle.blocks.specs.Tables.{Inside}
 use Rattle.blocks.specs.Folds.{foldBelow, foldRectangle, foldInside, Joins}
-use Rattle.blocks.proofs.FoldLaws.{fold-same, fold-each, fold-found, fold-part, fold-both, fold-absorbs, fold-alike, sum-some, rows-cut, columns-cut, cells-none, cell-first}
+use Rattle.blocks.proofs.FoldLaws.{fold-same, fold-cut, fold-each, fold-found, fold-part, fold-both, fold-absorbs, fold-alike, sum-some, rows-cut, columns-cut, cells-none, cell-first}
 
 -- where two count for nothing together, each does, and so each cell
 pub inside-each :
@@ -37,6 +37,13 @@ pub inside-moved :
 unfolding foldInside foldRectangle
 inside-moved op unit top bottom left right top2 bottom2 left2 right2 f g p q e =
     rw (← p, ← q) (fold-same op unit (bottom - top) _ _ (λ i h. fold-same op unit (right - left) _ _ (λ k l. e i k h l)))
+
+-- other cells that are the same
+pub inside-same :
+    {A : Type 0} (op : A → A → A) (unit : A) (top bottom left right : ℕ) (f g : ℕ → ℕ → A) → ((r c : ℕ) → Inside top bottom left right r c → f r c ≡ g r c) →
+    foldInside op unit top bottom left right f ≡ foldInside op unit top bottom left right g
+inside-same op unit top bottom left right f g e =
+    inside-moved op unit top bottom left right top bottom left right f g refl refl (λ i k h l. e (top + i) (left + k) (omega arith))
 
 module _ {A : Type 0} (op : A → A → A) (unit : A) (j : Joins op unit) where
   -- one cell
@@ -80,6 +87,26 @@ module _ {A : Type 0} (op : A → A → A) (unit : A) (j : Joins op unit) where
       let a : bottom - top ≡ (mid - top) + (bottom - mid) = omega arith in
       let b : top + (mid - top) ≡ mid = omega arith in
       rw a (rows-cut op unit j top (mid - top) (bottom - mid) left (right - left) f ∙ rw b)
+
+  -- one row, cut between columns: no order is changed
+  module _ (r : ℕ) (f : ℕ → ℕ → A) where
+    pub one-row : (left right : ℕ) → foldInside op unit r (r + 1) left right f ≡ foldBelow op unit (right - left) (λ k. f r (left + k))
+    unfolding foldInside foldRectangle foldBelow
+    one-row left right =
+        let a : r + 1 - r ≡ 1 = omega arith in
+        let z : r + 0 ≡ r = omega arith in
+        rw (a, z) (j .unit-left (foldBelow op unit (right - left) (λ k. f r (left + k))))
+
+    pub row-beside :
+        (left mid right : ℕ) → left ≤ mid → mid ≤ right →
+        foldInside op unit r (r + 1) left right f ≡ op (foldInside op unit r (r + 1) left mid f) (foldInside op unit r (r + 1) mid right f)
+    row-beside left mid right h k =
+        let b : right - left ≡ (mid - left) + (right - mid) = omega arith in
+        let c : foldBelow op unit (right - left) (λ i. f r (left + i)) ≡ op (foldBelow op unit (mid - left) (λ i. f r (left + i))) (foldBelow op unit (right - mid) (λ i. f r (left + ((mid - left) + i)))) =
+        rw b (fold-cut op unit j (mid - left) (right - mid) (λ i. f r (left + i))) in
+        let d : foldBelow op unit (right - mid) (λ i. f r (left + ((mid - left) + i))) ≡ foldBelow op unit (right - mid) (λ i. f r (mid + i)) =
+        fold-same op unit (right - mid) _ _ (λ i l. let z : left + ((mid - left) + i) ≡ mid + i = omega arith in rw z) in
+        rw (one-row left right, one-row left mid, one-row mid right) (c ∙ rw d)
 
   module _ (comm : (x y : A) → op x y ≡ op y x) (top bottom left : ℕ) where
     -- and between columns

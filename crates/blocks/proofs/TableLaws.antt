@@ -73,6 +73,10 @@ module _ {n : ℕ} {g : ℕ → ℕ → ℕ} where
         outside = λ i f. getD-set-other l (r * n + c) i v 0 (λ z. f r c (omega arith) z);
       }
 
+  -- with other numbers that are the same there
+  pub filled-as : {g2 : ℕ → ℕ → ℕ} {area : ℕ → ℕ → Type 0} {old now : List ℕ} → Filled n g area old now → ((r c : ℕ) → area r c → g r c ≡ g2 r c) → Filled n g2 area old now
+  filled-as f e = record { long = f .long; in-area = λ r c a. f .in-area r c a ∙ e r c a; outside = f .outside }
+
   -- where each number of the whole is among the second, or among the first and not the second
   pub filled-join :
       {first second whole : ℕ → ℕ → Type 0} {old mid now : List ℕ} → Filled n g first old mid → Filled n g second mid now →

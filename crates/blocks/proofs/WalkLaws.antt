@@ -8,7 +8,7 @@ use native.Mathlib.Omega.{arith}
 use native.Mathlib.Nat.{mul-le-mul-right}
 use Rattle.blocks.specs.Tables.{Inside, Filled}
 use Rattle.blocks.specs.Folds.{foldInside, Joins}
-use Rattle.blocks.specs.Walks.{Passed, Begins, Follows, foldPassed, Clear, walkLeft}
+use Rattle.blocks.specs.Walks.{Passed, Begins, Follows, OnBand, foldPassed, Clear, walkLeft}
 use Rattle.blocks.proofs.TableLaws.{filled-none, filled-join}
 use Rattle.blocks.proofs.InsideLaws.{inside-none, inside-first-at, inside-under, inside-beside}
 
@@ -137,3 +137,21 @@ pub walk-less :
 walk-less rows {n} {top} {bottom} {left} w h k l =
     ⊎-elim (λ e. rw (e .0, e .1 .1) (omega (arith, w .within)))
     (λ e. let m : (rows - bottom + 1) * (n + 1) ≤ (rows - top) * (n + 1) = mul-le-mul-right (n + 1) (omega arith) in rw (e .1 .0, e .1 .1) (omega arith)) (w .next)
+
+-- a walk over one row of blocks: its start, a piece of it and a piece more, and its end
+
+module _ {n top bottom : ℕ} (f : ℕ → Type 0) where
+  pub band-first : {top2 bottom2 left2 : ℕ} → top2 ≡ top → bottom2 ≡ bottom → left2 ≡ 0 → f 0 → OnBand n top bottom top2 bottom2 left2 f
+  band-first a b c g = inl ((a, b), rw c g)
+
+  pub band-in : {top2 bottom2 left2 : ℕ} → OnBand n top bottom top2 bottom2 left2 f → top2 < bottom → ((top2 ≡ top) × (bottom2 ≡ bottom)) × f left2
+  band-in o h = ⊎-elim (λ e. e) (λ e. absurd (omega arith)) o
+
+  pub band-next :
+      {top1 bottom1 left1 right1 top2 bottom2 left2 : ℕ} → Follows n top1 bottom1 left1 right1 top2 bottom2 left2 → top1 ≡ top → bottom1 ≡ bottom → f right1 →
+      OnBand n top bottom top2 bottom2 left2 f
+  band-next w a b g =
+      ⊎-elim (λ e. inl ((e .0 ∙ a, e .1 .0 ∙ b), rw (e .1 .1) g)) (λ e. inr ((e .1 .0 ∙ b, e .1 .1), rw (← e .0) g)) (w .next)
+
+  pub band-out : {top2 bottom2 left2 : ℕ} → OnBand n top bottom top2 bottom2 left2 f → bottom ≤ top2 → top < bottom → ((top2 ≡ bottom) × (left2 ≡ 0)) × f n
+  band-out o h k = ⊎-elim (λ e. absurd (omega arith)) (λ e. e) o

@@ -27,6 +27,11 @@ pub record Follows (n top bottom left right top2 bottom2 left2 : ℕ) : Type 0 w
   pub rows2 : top2 ≤ bottom2
   pub next : ((top2 ≡ top) × ((bottom2 ≡ bottom) × (left2 ≡ right))) ⊎ ((right ≡ n) × ((top2 ≡ bottom) × (left2 ≡ 0)))
 
+-- a walk over one row of blocks: it stands in it, and something holds up to its column, or where the next one begins, and it holds up to
+-- the last
+abbrev pub OnBand : ℕ → ℕ → ℕ → ℕ → ℕ → ℕ → (ℕ → Type 0) → Type 0
+OnBand n top bottom top2 bottom2 left2 f = (((top2 ≡ top) × (bottom2 ≡ bottom)) × f left2) ⊎ (((top2 ≡ bottom) × (left2 ≡ 0)) × f n)
+
 -- f of each cell passed, joined: where the order does not count
 unfoldable pub foldPassed : {A : Type 0} → (A → A → A) → A → ℕ → ℕ → ℕ → ℕ → ℕ → (ℕ → ℕ → A) → A
 foldPassed op unit from n top bottom left f = op (foldInside op unit from top 0 n f) (foldInside op unit top bottom 0 left f)

@@ -1,3 +1,4 @@
 pub mod ReportLaws
 pub mod DescriptionLaws
 pub mod RectangleLaws
+pub mod CompareLaws

@@ -11,6 +11,8 @@ use Rattle.answer.specs.Answers.{cellType, cellBits, cellPlace, contentPlace, c
 use Rattle.deeds.specs.declared.Deed.{Deed}
 use Rattle.deeds.specs.declared.Deed.the-variants as deeds
 use Rattle.deeds.specs.Deeds.{deedHasLowest, deedLowestBits, deedScale}
+use Rattle.comparisons.specs.declared.Comparison.{Comparison}
+use Rattle.comparisons.specs.Comparisons.{comparisonPage, comparisonCount}
 use lib.Dec.{eqb}
 use Rattle.wire.specs.Pick.{pick}
 use Rattle.check_header.specs.Start.{checkStart, needed}
@@ -49,3 +51,7 @@ deedReport (deeds.Refused r) = refusalPlace r
 
 abbrev pub deedNumbers : Deed → List ℕ
 deedNumbers x = deedReport x ∷ deedHasLowest x ∷ deedLowestBits x ∷ deedScale x ∷ []
+
+-- a comparison's: the number of differing cells, or the refusal's place, and whose page it is
+abbrev pub comparisonNumbers : Comparison → List ℕ
+comparisonNumbers x = comparisonCount x ∷ comparisonPage x ∷ []

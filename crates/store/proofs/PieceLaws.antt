@@ -11,26 +11,33 @@ use Rattle.wire.proofs.TestLaws.{yes, no}
 use Rattle.blocks.specs.Blocks.{blockEnd, OneBlock}
 use Rattle.blocks.specs.Tables.{Inside}
 use Rattle.blocks.specs.Walks.{Begins, Follows}
-use Rattle.blocks.proofs.BlockLaws.{end-first, piece-next}
+use Rattle.blocks.proofs.BlockLaws.{end-first, piece-next, block-few}
+use Rattle.answer.specs.declared.Refusal.{Refusal}
+use Rattle.answer.specs.declared.Refusal.the-variants as refusal
 use Rattle.answer.specs.declared.Verdict.the-variants.{Accepted}
 use Rattle.answer.specs.declared.Held.{Held}
+use Rattle.answer.specs.declared.Held.the-variants as held
+use Rattle.answer.specs.Refusals.{refusalNumber}
 use Rattle.answer.specs.Answers.{heldKind, heldVerdict}
-use Rattle.header.specs.Fields.{tileRows, tileColumns, elementCount}
-use Rattle.header.specs.Element.{element}
+use Rattle.record.specs.Chain.{records}
+use Rattle.header.specs.Fields.{gridRows, gridColumns, tileRows, tileColumns, elementCount}
+use Rattle.header.specs.Element.{mostElements, element}
 use Rattle.geometry.specs.Tiles.{tileCount, cellTile, cellInside}
 use Rattle.geometry.proofs.GridLaws.{inside-along}
 use Rattle.check_header.specs.Ceilings.{mostGridSide}
 use Rattle.page_check.specs.Stages.{check}
+use Rattle.page_check.proofs.AcceptedLaws.{accepted-sound}
+use Rattle.page_check.proofs.GivenLaws.{sound-range}
 use Rattle.cells.specs.Asked.{inGrid}
 use Rattle.cells.specs.Meaning.{meaning, heldMeaning}
-use Rattle.cells.specs.Many.{Holds}
+use Rattle.cells.specs.Many.{numberedCell, Holds}
 use Rattle.cells.specs.Demand2.{ShortBits}
 use Rattle.cells.proofs.CellLaws.{grid-means}
 use Rattle.cells.proofs.DemandLaws.{held-each, short-bits}
 use Rattle.store.specs.declared.many.Rectangle.{Rectangle}
 use Rattle.store.specs.declared.pieces.Piece.{Piece}
-use Rattle.store.specs.Many.{Alike, TileAlike}
-use Rattle.store.specs.Pieces.{Accepts, bandEnd, pieceIn, firstPiece, nextPiece, OneTile, AtPiece, Walks, Numbered, Answered}
+use Rattle.store.specs.Many.{cellThere, tileHolding, Alike, TileAlike}
+use Rattle.store.specs.Pieces.{Accepts, ofElement, wholeGrid, SameGrid, bandEnd, pieceIn, firstPiece, nextPiece, OneTile, AtPiece, Walks, Numbered, Answered}
 use Rattle.store.proofs.ManyLaws.{means-inside, inside-means, inside-cell, holding-is, number-is, same-tile, tile-there, sides-accepted, inside-few, inside-down}
 
 -- cells of one tile
@@ -87,6 +94,58 @@ module _ (s : List ℕ) (a : Rectangle) where
     unfolding nextPiece
     under-next e h = e ∙ rw (← no ((p .right + 1 ≤? a .columns) ∷ []) (λ y. omega (arith, y .0)))
 
+-- the whole grid, each element of it, and the number of elements
+
+pub elements-accepted : (s : List ℕ) → check s ≡ Accepted → (1 ≤ elementCount s) × (elementCount s ≤ mostElements)
+elements-accepted s a = sound-range s (records s) (accepted-sound s a) .elements
+
+pub accepts-grid : (s : List ℕ) → check s ≡ Accepted → Accepts s (wholeGrid s)
+accepts-grid s a =
+    record { accepted = a; inside = sym (means-inside s 0 0 0 (gridRows s) (gridColumns s) (omega (arith, elements-accepted s a .0)) (omega arith) (omega arith)) }
+
+pub accepts-element : (s : List ℕ) (a : Rectangle) (e : ℕ) → Accepts s a → e < elementCount s → Accepts s (ofElement a e)
+accepts-element s a e g h =
+    let m = inside-means s (a .e) (a .row) (a .column) (a .rows) (a .columns) (g .inside) in
+    record { accepted = g .accepted; inside = sym (means-inside s e (a .row) (a .column) (a .rows) (a .columns) h (m .1 .0) (m .1 .1)) }
+
+pub piece-element : (s : List ℕ) (a : Rectangle) (p : Piece) (e : ℕ) → AtPiece s a p → AtPiece s (ofElement a e) p
+piece-element s a p e o =
+    record { sides = o .sides; low = o .low; narrow = o .narrow; tile = o .tile; one = record { each = λ r c k. o .one .each r c k }; numbers = λ r c k. o .numbers r c k }
+
+-- the same of a file with the same grid
+
+module _ (s t : List ℕ) (g : SameGrid s t) where
+  same-cell : (r c : ℕ) → cellTile s r c ≡ cellTile t r c
+  unfolding cellTile
+  same-cell r c = rw (g .columns, g .tile-rows, g .tile-columns)
+
+  same-inside : (r c : ℕ) → cellInside s r c ≡ cellInside t r c
+  unfolding cellInside
+  same-inside r c = rw (g .tile-rows, g .tile-columns)
+
+  same-holding : (r c : ℕ) → tileHolding s r c ≡ tileHolding t r c
+  unfolding tileHolding cellThere
+  same-holding r c = rw (g .rows, g .columns, same-cell r c)
+
+  pub accepts-same : (a : Rectangle) → a .e ≡ 0 → check t ≡ Accepted → Accepts s a → Accepts t a
+  accepts-same a z h k =
+      let m = inside-means s (a .e) (a .row) (a .column) (a .rows) (a .columns) (k .inside) in
+      record {
+        accepted = h;
+        inside = sym (means-inside t (a .e) (a .row) (a .column) (a .rows) (a .columns) (omega (arith, elements-accepted t h .0)) (omega (arith, g .rows)) (omega (arith, g .columns)));
+      }
+
+  pub piece-same : (a : Rectangle) (p : Piece) → AtPiece s a p → AtPiece t a p
+  piece-same a p o =
+      record {
+        sides = o .sides;
+        low = omega (arith, o .low, g .tile-rows);
+        narrow = omega (arith, o .narrow, g .tile-columns);
+        tile = o .tile ∙ same-holding _ _;
+        one = record { each = λ r c k. sym (same-cell _ _) ∙ o .one .each r c k ∙ same-cell _ _ };
+        numbers = λ r c k. sym (same-inside _ _) ∙ o .numbers r c k ∙ rw (g .tile-columns);
+      }
+
 -- a block of rows and a block of columns have one tile
 piece-tile :
     (s : List ℕ) (a : Rectangle) (top bottom left right : ℕ) → OneBlock (a .row) top bottom (tileRows s) → OneBlock (a .column) left right (tileColumns s) →
@@ -117,6 +176,8 @@ module _ (s : List ℕ) (a : Rectangle) (g : Accepts s a) where
       let first = in-grid s a g top left (omega arith) l in
       record {
         sides = (h, (k, (q .0, q .1 .0)));
+        low = block-few (a .row) top bottom (tileRows s) o (d .tile-rows .0);
+        narrow = block-few (a .column) left right (tileColumns s) (q .1 .1) (d .tile-columns .0);
         tile = refl;
         one = t;
         numbers = λ r c i.
@@ -228,6 +289,44 @@ pub start-small :
 start-small s a p r w g o e h k =
     let i = o .sides in
     rw e (omega (arith, o .numbers r (p .left) (omega arith), inside-few s (g .accepted) (a .row + r) (a .column + p .left)))
+
+-- the cells of an absent tile are one fill
+
+refusal-few : (r : Refusal) → refusalNumber r ≤ 16
+refusal-few refusal.Identification = omega arith
+refusal-few refusal.Version = omega arith
+refusal-few refusal.Header = omega arith
+refusal-few refusal.Ceiling = omega arith
+refusal-few refusal.Opened = omega arith
+refusal-few (refusal.Chain at) = omega arith
+refusal-few (refusal.Checksum at) = omega arith
+refusal-few (refusal.Body at) = omega arith
+refusal-few refusal.Directory = omega arith
+refusal-few refusal.OutsideGrid = omega arith
+refusal-few (refusal.Compressed at) = omega arith
+refusal-few refusal.Input = omega arith
+refusal-few refusal.Room = omega arith
+refusal-few (refusal.Malformed at) = omega arith
+refusal-few refusal.NotOpen = omega arith
+refusal-few refusal.Incomplete = omega arith
+
+absent-same : (s : List ℕ) (kind fill : ℕ) (m : List ℕ) (i k : ℕ) (x : Held) → heldKind x ≡ 33 → numberedCell s kind fill m i x ≡ numberedCell s kind fill m k x
+unfolding numberedCell
+absent-same s kind fill m i k (held.Stored at) h = absurd (omega arith)
+absent-same s kind fill m i k (held.Unpacked at) h = absurd (omega arith)
+absent-same s kind fill m i k held.Absent h = refl
+absent-same s kind fill m i k held.Alone h = absurd (omega arith)
+absent-same s kind fill m i k (held.Refused r) h = absurd (omega (arith, refusal-few r))
+
+pub piece-absent :
+    (s : List ℕ) (ci : ℕ) (a : Rectangle) (p : Piece) (x : Held) (m : List ℕ) → Answered s ci a p x m → AtPiece s a p → heldKind x ≡ 33 →
+    (r c : ℕ) → Inside (p .top) (p .bottom) (p .left) (p .right) r c →
+    meaning s ci (a .row + r) (a .column + c) (a .e) ≡ meaning s ci (a .row + p .top) (a .column + p .left) (a .e)
+piece-absent s ci a p x m n o h r c i =
+    let d = o .sides in
+    let z : heldKind x ≡ 0 → ⊥ = λ y. omega arith in
+    sym (n .numbered z r (i .from-top) (i .to-bottom) .each c (i .from-left) (i .to-right)) ∙ absent-same s _ _ m _ _ x h
+    ∙ n .numbered z (p .top) (omega arith) (omega arith) .each (p .left) (omega arith) (omega arith)
 
 pub numbered-row :
     (s : List ℕ) (ci : ℕ) (a : Rectangle) (p : Piece) (x : Held) (m : List ℕ) (r n kind fill start : ℕ) → Answered s ci a p x m → n ≡ heldKind x → (n ≡ 0 → ⊥) →

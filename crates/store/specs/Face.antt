@@ -19,4 +19,4 @@ pub use Rattle.store.specs.Lookup.{readElementNamed, ByName, FoundByName
 pub use Rattle.store.specs.Named.{idsNamed, asNamed, nameSaid, IdsDiffer}
 pub use Rattle.store.specs.Description.{shapeOf, numbersOfPage, described, describedNumber, specifiedBy, specified, specifiedNumber, DescribedInFile}
 pub use Rattle.store.specs.Many.{rectangleInside, tileHolding, numberHolding, Alike, TileAlike}
-pub use Rattle.store.specs.Pieces.{Accepts, OneTile, bandEnd, firstPiece, nextPiece, AtPiece, Walks, Numbered, Answered}
+pub use Rattle.store.specs.Pieces.{Accepts, ofElement, wholeGrid, SameGrid, OneTile, bandEnd, firstPiece, nextPiece, AtPiece, Walks, Numbered, Answered}

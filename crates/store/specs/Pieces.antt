@@ -11,7 +11,7 @@ use Rattle.blocks.specs.Tables.{Inside}
 use Rattle.answer.specs.declared.Verdict.the-variants.{Accepted}
 use Rattle.answer.specs.declared.Held.{Held}
 use Rattle.answer.specs.Answers.{heldKind}
-use Rattle.header.specs.Fields.{tileRows, tileColumns}
+use Rattle.header.specs.Fields.{gridRows, gridColumns, tileRows, tileColumns}
 use Rattle.header.specs.Element.{element}
 use Rattle.geometry.specs.Tiles.{cellTile, cellInside}
 use Rattle.check_header.specs.Ceilings.{mostGridSide}
@@ -26,6 +26,21 @@ use Rattle.store.specs.Many.{rectangleInside, tileHolding, numberHolding
 pub record Accepts (s : List ℕ) (a : Rectangle) : Type 0 where
   pub accepted : check s ≡ Accepted
   pub inside : rectangleInside s (a .e) (a .row) (a .column) (a .rows) (a .columns) ≡ true
+
+-- the same rectangle of another element
+abbrev pub ofElement : Rectangle → ℕ → Rectangle
+ofElement a e = record { e = e; row = a .row; column = a .column; rows = a .rows; columns = a .columns }
+
+-- the whole grid
+abbrev pub wholeGrid : List ℕ → Rectangle
+wholeGrid s = record { e = 0; row = 0; column = 0; rows = gridRows s; columns = gridColumns s }
+
+-- two files with one grid, cut into tiles alike
+pub record SameGrid (s t : List ℕ) : Type 0 where
+  pub rows : gridRows s ≡ gridRows t
+  pub columns : gridColumns s ≡ gridColumns t
+  pub tile-rows : tileRows s ≡ tileRows t
+  pub tile-columns : tileColumns s ≡ tileColumns t
 
 -- where the row of tiles that holds row `top` ends, or the rectangle where that comes first
 unfoldable pub bandEnd : List ℕ → Rectangle → ℕ → ℕ
@@ -61,6 +76,8 @@ pub record OneTile (s : List ℕ) (a : Rectangle) (top bottom left right : ℕ) 
 -- by one
 pub record AtPiece (s : List ℕ) (a : Rectangle) (p : Piece) : Type 0 where
   pub sides : (p .top < p .bottom) × ((p .bottom ≤ a .rows) × ((p .left < p .right) × (p .right ≤ a .columns)))
+  pub low : p .bottom - p .top ≤ tileRows s
+  pub narrow : p .right - p .left ≤ tileColumns s
   pub tile : p .tile ≡ tileHolding s (a .row + p .top) (a .column + p .left)
   pub one : OneTile s a (p .top) (p .bottom) (p .left) (p .right)
   pub numbers :

@@ -1,0 +1,4 @@
+pub mod CellLaws
+pub mod PageLaws
+pub mod SoundLaws
+pub mod Samples
