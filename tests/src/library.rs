@@ -88,6 +88,20 @@ extern "C" {
         out: *mut u64,
         out_n: u64,
     ) -> u32;
+    fn gvrs_compare(
+        first: *const u8,
+        first_n: u64,
+        first_compressor: u32,
+        second: *const u8,
+        second_n: u64,
+        second_compressor: u32,
+        memory: *mut u32,
+        memory_n: u64,
+        list: *mut u32,
+        list_n: u64,
+        out: *mut u64,
+        out_n: u64,
+    ) -> u32;
     fn gvrs_page(file: *const u8, n: u64, out: *mut u64, out_n: u64) -> u32;
     fn gvrs_element(file: *const u8, n: u64, element: u64, out: *mut u64, out_n: u64) -> u32;
     fn gvrs_m32_write(numbers: *const u32, numbers_n: u64, bytes: *mut u8, bytes_n: u64) -> u64;
@@ -379,6 +393,36 @@ pub fn deed_into(
             columns,
             memory.as_mut_ptr(),
             memory.len() as u64,
+            out.as_mut_ptr(),
+            out.len() as u64,
+        )
+    }
+}
+
+/// A file and the compressor index that is named for it.
+pub type WithIndex<'a> = (&'a [u8], u32);
+
+/// The number. Two pages are compared with a memory, a list and an `out`, each of any length.
+pub fn compare_into(
+    (first, first_compressor): WithIndex,
+    (second, second_compressor): WithIndex,
+    memory: &mut [u32],
+    list: &mut [u32],
+    out: &mut [u64],
+) -> u32 {
+    // All slices are alive for the whole call; what is written overlaps nothing else.
+    unsafe {
+        gvrs_compare(
+            first.as_ptr(),
+            first.len() as u64,
+            first_compressor,
+            second.as_ptr(),
+            second.len() as u64,
+            second_compressor,
+            memory.as_mut_ptr(),
+            memory.len() as u64,
+            list.as_mut_ptr(),
+            list.len() as u64,
             out.as_mut_ptr(),
             out.len() as u64,
         )

@@ -57,6 +57,8 @@ fn files() -> Vec<(&'static str, Vec<u8>)> {
         ("packed", packed()),
         ("second-rule", by_rule(&[2])),
         ("no-rule", by_rule(&[1, 2])),
+        ("other-type", none_stored_of(&[INTEGER])),
+        ("more-elements", none_stored_of(&[SHORT, SHORT])),
         ("wide", wide()),
         ("large-tiles", bytes_of(&Page::of_sides([4096, 4096], [512, 512]))),
         ("65535-bytes", of_length(65_536)[..65_535].to_vec()),
@@ -71,6 +73,14 @@ fn sample() -> Page {
     let mut page = Page::of_sides([3, 3], [2, 2]);
     page.insert(0, tile(2, 16));
     page
+}
+
+/// The sample's sides, elements of these types, and no tile record.
+fn none_stored_of(types: &[u8]) -> Vec<u8> {
+    let mut page = Page::of_sides([3, 3], [2, 2]);
+    let named = |(number, type_code): (u8, &u8)| Element::new(*type_code, &[b'a' + number]);
+    page.elements = (0..).zip(types).map(named).collect();
+    bytes_of(&page)
 }
 
 fn tile(index: u32, length: usize) -> Body {

@@ -5,6 +5,7 @@ pub mod cells;
 pub mod chain;
 pub mod check;
 pub mod checksums;
+pub mod compare;
 pub mod correct;
 pub mod crc32c;
 pub mod deeds;

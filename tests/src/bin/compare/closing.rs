@@ -90,6 +90,7 @@ impl Run {
             Function::new("gvrs_unpack", self.packed.unpack_answers()),
             Function::new("gvrs_cells", self.face.area_answers()),
             Function::new("gvrs_deed", self.deeds.answers()),
+            Function::new("gvrs_compare", self.comparisons.answers()),
             Function::new("gvrs_page", self.face.page_answers()),
             Function::new("gvrs_element", self.face.element_answers()),
             Function::new("gvrs_m32_write", [(0, self.packed.written)].into_iter()),

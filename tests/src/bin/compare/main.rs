@@ -9,6 +9,7 @@ mod aims;
 mod allowed;
 mod bytes_changed;
 mod closing;
+mod comparisons;
 mod corrections;
 mod damage;
 mod deeds;
@@ -63,7 +64,7 @@ fn main() -> ExitCode {
 
 /// Every section. Each has a generator of its own, so that one can change without the others.
 fn whole_run(seed: u64, small: bool) -> bool {
-    let sections: [fn(&mut Run, &mut Prng); 22] = [
+    let sections: [fn(&mut Run, &mut Prng); 23] = [
         sample_sums::section,
         made::section,
         allowed::section,
@@ -86,6 +87,7 @@ fn whole_run(seed: u64, small: bool) -> bool {
         deeds::section,
         keys::section,
         corrections::section,
+        comparisons::section,
     ];
     let mut run = Run::new(small);
     for (number, section) in sections.into_iter().enumerate() {

@@ -7,6 +7,7 @@ use gvrs_tests::library;
 use gvrs_tests::second::check::{check, Answer};
 
 use crate::closing;
+use crate::comparisons;
 use crate::corrections;
 use crate::deeds;
 use crate::face;
@@ -38,6 +39,7 @@ pub struct Run {
     pub face: face::tally::Tally,
     pub deeds: deeds::tally::Tally,
     pub corrections: corrections::tally::Tally,
+    pub comparisons: comparisons::tally::Tally,
     /// Names asked about.
     pub names: usize,
     /// Texts asked about.
@@ -80,6 +82,7 @@ impl Run {
             face: face::tally::Tally::new(),
             deeds: deeds::tally::Tally::new(),
             corrections: corrections::tally::Tally::new(),
+            comparisons: comparisons::tally::Tally::new(),
             names: 0,
             texts: 0,
             name_pairs: 0,
@@ -215,6 +218,7 @@ impl Run {
         self.face.report();
         self.deeds.report();
         self.corrections.report();
+        self.comparisons.report();
         closing::report(&self.functions());
         if !self.small {
             self.missed();
@@ -290,6 +294,10 @@ impl Run {
         }
         for thing in self.corrections.missed() {
             println!("FAULT: corrections: never or wrongly reached: {thing}");
+            self.faults += 1;
+        }
+        for thing in self.comparisons.missed() {
+            println!("FAULT: comparisons: never or wrongly reached: {thing}");
             self.faults += 1;
         }
         for number in self.look_ups_missed() {

@@ -8,8 +8,9 @@ use gvrs_tests::library::{self, Lent, DIRECTORY, WALK, WALK_WITHOUT_STAGE_9};
 use gvrs_tests::page::SHORT;
 use gvrs_tests::prng::Prng;
 use gvrs_tests::random_page::random_page;
-use gvrs_tests::second::cells::{Spot, UNPACKED};
+use gvrs_tests::second::cells::{Opened, Spot, UNPACKED};
 use gvrs_tests::second::check::check;
+use gvrs_tests::second::compare::{compare, Named};
 use gvrs_tests::second::correct::Call;
 use gvrs_tests::second::deeds::DOUBTFUL;
 use gvrs_tests::second::lay_down::Given;
@@ -18,6 +19,7 @@ use gvrs_tests::second::rectangles::Rectangle;
 use crate::lay_downs::draft::Draft;
 use crate::packed::holder::Holder;
 use crate::packed::trees::deep_comb;
+use crate::reads::described::fill;
 use crate::run::Run;
 
 /// What the header asks for, and what the thread and the calls before the library's take.
@@ -26,28 +28,36 @@ const AROUND: usize = 16 * 1024;
 
 pub fn section(run: &mut Run, random: &mut Prng) {
     for _ in 0..run.times(200) {
-        let file = build(&random_page(random)).bytes;
+        let mut page = random_page(random);
+        let file = build(&page).bytes;
         run.compare("little stack", &file);
+        for element in &mut page.elements {
+            element.set_range_and_fill(0, 1, !fill(element));
+        }
+        let other = build(&page).bytes;
         let (lent, given) = (file.clone(), Draft::at_random(random).given);
         let comb = deep_comb(random).0;
         let deed = if comb.type_code() == SHORT { DOUBTFUL } else { 12 };
         let spot = comb.spots(random)[0].1;
+        let compared = compared(&comb);
         let asked = move || {
             let unpacked = ask_packed(&comb, spot);
-            (ask(&lent, &given), unpacked)
+            (ask(&lent, &other, &given), unpacked)
         };
         let thread = thread::Builder::new().stack_size(ASKED + AROUND).spawn(asked);
         let answer = thread.expect("a thread is started").join().expect("the thread returns");
-        if answer != (check(&file).0, [UNPACKED, UNPACKED, UNPACKED, deed, deed]) {
+        if answer
+            != (check(&file).0, [UNPACKED, UNPACKED, UNPACKED, deed, deed, compared, compared])
+        {
             run.fault("little stack: another answer", &file);
         }
     }
 }
 
 /// A content whose tree is a comb of depth 255: the number of the whole tile, the kind of a cell of
-/// it in a rectangle and the deed of that cell, each of these two with memory to unpack the tile and
-/// without. A cell by each route too.
-fn ask_packed(comb: &Holder, spot: Spot) -> [u32; 5] {
+/// it in a rectangle, the deed of that cell and the comparison of its page with itself, each of these
+/// three with memory to unpack the tile and without. A cell by each route too.
+fn ask_packed(comb: &Holder, spot: Spot) -> [u32; 7] {
     let (file, compressor) = (comb.file(), comb.index());
     for route in [DIRECTORY, WALK, WALK_WITHOUT_STAGE_9] {
         library::cell_with(file, spot, route, compressor);
@@ -56,7 +66,9 @@ fn ask_packed(comb: &Holder, spot: Spot) -> [u32; 5] {
     let whole = library::unpack_into(file, comb.place(), compressor, &mut cells, &mut [0; 2]);
     let kind = |memory: &mut [u32]| in_rectangle(file, spot, compressor, memory);
     let deed = |memory: &mut [u32]| deed_of(file, spot, compressor, memory);
-    [whole, kind(&mut cells), kind(&mut []), deed(&mut cells), deed(&mut [])]
+    let [short, long] =
+        [&mut [][..], &mut [0; 2000][..]].map(|memory| same(file, compressor, memory));
+    [whole, kind(&mut cells), kind(&mut []), deed(&mut cells), deed(&mut []), short, long]
 }
 
 /// The kind of a cell.
@@ -70,6 +82,19 @@ fn in_rectangle(file: &[u8], spot: Spot, compressor: u32, memory: &mut [u32]) ->
 /// The deed's number of a cell.
 fn deed_of(file: &[u8], spot: Spot, compressor: u32, memory: &mut [u32]) -> u32 {
     library::deed_into(file, Rectangle::of_one(spot), compressor, memory, &mut [0; 3])
+}
+
+/// The second implementation's number for the page compared with itself.
+fn compared(comb: &Holder) -> u32 {
+    let opened = Opened::checked(comb.file());
+    let named = Named { opened: &opened, compressor: comb.index() };
+    compare(named, named).as_numbers().0
+}
+
+/// The library's, with a memory of any length.
+fn same(file: &[u8], compressor: u32, memory: &mut [u32]) -> u32 {
+    let page = (file, compressor);
+    library::compare_into(page, page, memory, &mut [0; 7], &mut [0; 2])
 }
 
 /// All four calls of a correction, on a page that they can be done on, as far as its room goes.
@@ -89,8 +114,9 @@ fn correct_and_close(file: &[u8]) {
     }
 }
 
-/// Asks all others, and those with a compressor once more; the check's number.
-fn ask(file: &[u8], given: &Given) -> u32 {
+/// Asks all others, and those with a compressor once more; the check's number. The other page has other
+/// fills.
+fn ask(file: &[u8], other: &[u8], given: &Given) -> u32 {
     for route in [DIRECTORY, WALK, WALK_WITHOUT_STAGE_9] {
         library::cell(file, Spot { row: 0, column: 0, element: 0 }, route);
     }
@@ -100,6 +126,8 @@ fn ask(file: &[u8], given: &Given) -> u32 {
     library::unpack_into(file, (0, 0), compressor, &mut [0; 64], &mut [0; 2]);
     in_rectangle(file, Spot { row: 0, column: 0, element: 0 }, compressor, &mut [0; 64]);
     deed_of(file, Spot { row: 0, column: 0, element: 0 }, compressor, &mut [0; 64]);
+    let [first, second] = [file, other].map(|file| (file, compressor));
+    library::compare_into(first, second, &mut [0; 64], &mut [0; 300], &mut [0; 2]);
     library::page_into(file, &mut [0; 13]);
     library::element_into(file, 0, &mut [0; 4]);
     library::m32_write_into(&[u32::MAX, 1 << 31, 1 << 30], &mut [0; 18]);

@@ -8,7 +8,7 @@ mod outside;
 mod refused;
 mod rule;
 mod sample_sums;
-mod scored;
+pub mod scored;
 pub mod tally;
 mod threads;
 
