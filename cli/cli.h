@@ -5,8 +5,8 @@
 #include <inttypes.h>
 #include "gvrs.h"
 
-/* Exit status. Of a deed DONE is certain. */
-enum { DONE = 0, REFUSED = 1, FAILED = 2, DOUBTFUL = 3, UNREAD = 4 };
+/* Exit status. Of a deed DONE is certain; of a comparison it is that no cell differs. */
+enum { DONE = 0, REFUSED = 1, FAILED = 2, DOUBTFUL = 3, UNREAD = 4, DIFFERENT = 5 };
 
 /* The longest file that the store takes, the most cells of a tile, and a compressor index that no content has. */
 enum { LONGEST = 16777216, TILE_CELLS = 524288, NO_COMPRESSOR = 256 };
@@ -15,19 +15,23 @@ enum { LONGEST = 16777216, TILE_CELLS = 524288, NO_COMPRESSOR = 256 };
 struct request {
     char *words[6];       /* FILE and the others, as they stand */
     uint32_t compressor;  /* NO_COMPRESSOR where none is named */
+    int has_second;       /* whether the second page of a comparison has a compressor index of its own */
+    uint32_t second;      /* which */
+    uint64_t most;        /* cells that are shown; UINT64_MAX where none are named */
     int has_time;         /* whether a time is given */
     uint64_t time;        /* milliseconds since 1970 */
     uint64_t wait;        /* seconds; 0 where none are given */
     int quiet;
 };
 
-/* The file that the command is about: room for the longest and a byte more, so that a longer one is refused too. */
+/* The file that the command is about, and the second of a comparison: room for the longest and a byte more, so that a longer one is
+   refused too. */
 struct page {
     const char *name;
     uint64_t n;
     uint8_t bytes[LONGEST + 1];
 };
-extern struct page page;
+extern struct page page, second_page;
 
 /* Says on standard error what went wrong, or which refusal was given of the page, with a note behind it where there is one: the exit
    status. The words of a refusal are those of gvrs_refusal, unless others are given. */
@@ -45,9 +49,16 @@ int number_given(const char *what, const char *text, uint64_t most, uint64_t *nu
 int read_stream(int stream, const char *name, uint8_t *bytes, uint64_t room, uint64_t *n);
 int read_file(const char *name, uint8_t *bytes, uint64_t room, uint64_t *n);
 int read_page(const char *name);
+int read_second_page(const char *name);
 
 /* The element that an argument names by its number or its name: DONE, REFUSED or FAILED. */
 int element_given(const char *text, uint64_t *element);
+
+/* Prints a cell by its kind: its value; of a fill its value behind a word, of a refusal the number. */
+void print_kind(uint32_t kind, uint64_t type, uint32_t pattern);
+
+/* What is said of compressed content where no index is named. */
+extern const char *const COMPRESSOR_NOTE;
 
 /* The commands. Each gives the exit status. */
 int run_check(const struct request *request);
@@ -56,6 +67,7 @@ int run_cell(const struct request *request);
 int run_tile(const struct request *request);
 int run_cells(const struct request *request);
 int run_deed(const struct request *request);
+int run_compare(const struct request *request);
 int run_store(const struct request *request);
 int run_remove(const struct request *request);
 

@@ -8,7 +8,7 @@
 #include <unistd.h>
 #include "cli.h"
 
-struct page page;
+struct page page, second_page;
 
 int failed(const char *format, ...) {
     va_list arguments;
@@ -80,9 +80,17 @@ int read_file(const char *name, uint8_t *bytes, uint64_t room, uint64_t *n) {
     return status;
 }
 
+static int read_whole(const char *name, struct page *whole) {
+    whole->name = name;
+    return read_file(name, whole->bytes, sizeof whole->bytes, &whole->n);
+}
+
 int read_page(const char *name) {
-    page.name = name;
-    return read_file(name, page.bytes, sizeof page.bytes, &page.n);
+    return read_whole(name, &page);
+}
+
+int read_second_page(const char *name) {
+    return read_whole(name, &second_page);
 }
 
 /* A name begins with a letter, so that none is a number too. */

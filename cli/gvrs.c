@@ -5,7 +5,7 @@
 #include "cli.h"
 
 /* The options that a command takes, each with the name and the most of the number behind it; -q has none. */
-enum { COMPRESSOR = 1, TIME = 2, WAIT = 4, QUIET = 8 };
+enum { COMPRESSOR = 1, TIME = 2, WAIT = 4, QUIET = 8, SECOND = 16, MOST = 32 };
 
 struct option {
     int option;
@@ -18,6 +18,8 @@ struct option {
 static const struct option OPTIONS[] = {
     {COMPRESSOR, "--compressor", "N", 255,
      "--compressor N unpacks content of the compressor index N, 0 to 255, but no Float's; other is refused (11).\n"},
+    {SECOND, "--second-compressor", "N", 255, "--second-compressor N is the compressor index of SECOND, where that is another.\n"},
+    {MOST, "--most", "N", UINT64_MAX, "--most N shows the earliest N cells that differ, at most; without it, all.\n"},
     {TIME, "--time", "MS", UINT64_MAX,
      "--time MS is the time modified, in milliseconds since 1970; without it, the clock's.\n"},
     {WAIT, "--wait", "SECONDS", UINT32_MAX,
@@ -54,6 +56,11 @@ static const struct command COMMANDS[] = {
      "where a cell is fill, else doubtful; with the number of fills, the lowest score and the scale. A page\n"
      "with a metadata record named score_rule, ID 2, has the scale 10000: 9500 to 10000 is certain there.\n"
      "Exit status: 0 certain, 3 doubtful, 4 unread, 1 refused, 2 failed.\n"},
+    {"compare", "FIRST SECOND", 2, COMPRESSOR | SECOND | MOST, run_compare,
+     "Compares two pages with equal grid, tile sides and element types; others are refused (12). Shows each cell\n"
+     "that differs, stored against fill or in bits: row, column and element, and what it is in FIRST and in\n"
+     "SECOND, `0 2 score 5 fill(5)`; by row, then column, then element. Then always how many differ.\n"
+     "Exit status: 0 none differs, 5 some do, 1 refused, 2 failed.\n"},
     {"store", "FILE INDEX CELLS", 3, TIME | WAIT, run_store,
      "Stores a tile: CELLS is a file with its bytes, all elements in order, little-endian, by rows. The page\n"
      "is written to a copy beside FILE, which then takes its name; where anything fails FILE stays as it is.\n"},
@@ -83,7 +90,8 @@ static int print_help(void) {
         print_usage(stdout, &COMMANDS[i]);
     }
     printf("\n%s%s`gvrs COMMAND --help` says more of a command.\n"
-           "Exit status: 0 done, 1 refused, 2 failed; of a deed 0 certain, 3 doubtful, 4 unread.\n", NUMBERS, ELEMENT);
+           "Exit status: 0 done, 1 refused, 2 failed; of a deed 0 certain, 3 doubtful, 4 unread;\n"
+           "of a comparison 0 no cell differs, 5 some do.\n", NUMBERS, ELEMENT);
     return DONE;
 }
 
@@ -112,6 +120,8 @@ static int is_option(const struct option *option, char ***at, const char **value
 static void set_option(struct request *request, int option, uint64_t number) {
     switch (option) {
     case COMPRESSOR: request->compressor = (uint32_t)number; break;
+    case SECOND: request->second = (uint32_t)number, request->has_second = 1; break;
+    case MOST: request->most = number; break;
     case TIME: request->time = number, request->has_time = 1; break;
     case WAIT: request->wait = number; break;
     case QUIET: request->quiet = 1; break;
@@ -134,7 +144,7 @@ static int read_option(const struct command *command, char ***at, struct request
 }
 
 static int run_command(const struct command *command, char **at) {
-    struct request request = {.compressor = NO_COMPRESSOR};
+    struct request request = {.compressor = NO_COMPRESSOR, .most = UINT64_MAX};
     int count = 0, options = 1;
     for (; *at != NULL; at++) {
         if (options && strcmp(*at, "--help") == 0)

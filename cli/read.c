@@ -38,7 +38,7 @@ static void print_marked(const char *word, uint64_t type, uint32_t pattern) {
     printf(")");
 }
 
-static void print_kind(uint32_t kind, uint64_t type, uint32_t pattern) {
+void print_kind(uint32_t kind, uint64_t type, uint32_t pattern) {
     if (kind == GVRS_FILL)
         print_marked("fill", type, pattern);
     else if (kind < GVRS_STORED)
@@ -47,10 +47,12 @@ static void print_kind(uint32_t kind, uint64_t type, uint32_t pattern) {
         print_value(type, pattern);
 }
 
+const char *const COMPRESSOR_NOTE = "--compressor N unpacks that of the index N, but for Floats";
+
 /* A refusal of cells. Compressed content can be asked for by its index. */
 static int refused_cells(const struct request *request, uint32_t number, uint64_t place) {
     int unnamed = number == GVRS_COMPRESSED && request->compressor == NO_COMPRESSOR;
-    return refused(number, place, unnamed ? "--compressor N unpacks that of the index N, but for Floats" : NULL);
+    return refused(number, place, unnamed ? COMPRESSOR_NOTE : NULL);
 }
 
 /* The numbers in the words from `first` on, `count` of them, by the names of the arguments. */

@@ -1,4 +1,4 @@
-"""Pages of an archive, GVRS files of version 1.4, checked, read and laid down by the proved page store (libgvrs.so).
+"""Pages of an archive, GVRS files of version 1.4, checked, read, compared and laid down by the proved page store (libgvrs.so).
 
     import gvrs
     page = gvrs.Page("page.gvrs")
@@ -10,6 +10,8 @@
     front = gvrs.front(3, 3, 2, 2, [("z", "Short", 7)])
     tiles = gvrs.pack(front, {2: {"z": [[11, 12], [13, 14]]}})
     file = gvrs.lay_down(front, tiles, time=1)
+
+    gvrs.compare(page, gvrs.Page.of_bytes(file))  # Comparison(number=0, spots=[])
 
 Rows, columns, elements and tiles count from 0. An element is named by its number or its name, to pack by its name. What the store
 refuses raises Refused; a number that does not fit the C type of its argument raises ValueError before anything is called. The library is
@@ -29,7 +31,22 @@ import sys
 from typing import NamedTuple
 from uuid import uuid4
 
-__all__ = ["Cell", "Deed", "Element", "Fill", "Outside", "Page", "Refused", "Shape", "front", "lay_down", "pack"]
+__all__ = [
+    "Cell",
+    "Comparison",
+    "Deed",
+    "Element",
+    "Fill",
+    "Outside",
+    "Page",
+    "Refused",
+    "Shape",
+    "Spot",
+    "compare",
+    "front",
+    "lay_down",
+    "pack",
+]
 
 LONGEST = 16_777_216  # bytes of a file
 _TILE_CELLS = 524_288  # the most cells of a tile
@@ -55,6 +72,7 @@ _FUNCTIONS = {
     "gvrs_unpack": _FILE + [_U64, _U64, _U32, _LIST32, _U64],
     "gvrs_cells": _FILE + [_U32, _U64, _U64, _U64, _U64, _U64] + [_LIST32, _U64] * 3,
     "gvrs_deed": _FILE + [_U32, _U64, _U64, _U64, _U64, _U64, _LIST32, _U64],
+    "gvrs_compare": (_FILE + [_U32]) * 2 + [_LIST32, _U64] * 2,
     "gvrs_lay_down": _FILE + [_U64, _LIST32, _U64, _BYTES, _U64, _BYTES, _U64],
 }
 
@@ -188,6 +206,25 @@ class Deed(NamedTuple):
 
     def __bool__(self):
         raise TypeError(f"a deed is neither true nor false: its grade is {self.grade!r}")
+
+
+class Spot(NamedTuple):
+    """Where a cell is: its row, its column and its element's number, as Page.cell takes them: page.cell(*spot)."""
+
+    row: int
+    column: int
+    element: int
+
+
+class Comparison(NamedTuple):
+    """In which cells two pages differ: their full number, and the Spots of the earliest of them, by row, then column, then element. It has
+    no truth: ask for the number."""
+
+    number: int
+    spots: list
+
+    def __bool__(self):
+        raise TypeError(f"a comparison is neither true nor false: its number is {self.number}")
 
 
 def _number(value, most, what):
@@ -371,6 +408,41 @@ class Page:
 
     def __repr__(self):
         return f"<gvrs.Page of {len(self._file)} bytes>"
+
+
+def _unlike(first, second):
+    """In what two accepted pages are unlike."""
+    for name in ("rows", "columns", "tile_rows", "tile_columns", "elements"):
+        sides = getattr(first.shape, name), getattr(second.shape, name)
+        if sides[0] != sides[1]:
+            return "the pages differ in {}: {} and {}".format(name, *sides)
+    types = [(one.type, other.type) for one, other in zip(first.elements, second.elements)]
+    number = next(number for number, (one, other) in enumerate(types) if one != other)
+    return "the pages differ in the type of element {}: {} and {}".format(number, *types[number])
+
+
+def compare(first, second, most=None):
+    """In which cells two pages differ, a Comparison: stored against fill, or in bits; a packed cell and a stored one of the same bits do
+    not differ. `spots` has the earliest `most` of them, or all. What the cells are, `first.cell(*spot)` and `second.cell(*spot)` say.
+    Raises Refused, with the page that it is about in `note`: as check does, the first page before the second; 12 where they differ in
+    grid, tile sides or element types; 11 or 14 at the first cell that cannot be read in one of them."""
+    for page in (first, second):
+        if not isinstance(page, Page):
+            raise TypeError(f"compare wants two Pages, and not {type(page).__name__}")
+    most = None if most is None else _number64(most, "most")
+    memory = (_U32 * (2 * _TILE_CELLS))()
+
+    def ask(count):
+        list_ = (_U32 * (3 * count))()
+        pages = [argument for page in (first, second) for argument in (page._file, len(page._file), page._compressor)]
+        number, [out, whose] = _ask("gvrs_compare", 2, *pages, memory, 2 * _TILE_CELLS, list_, 3 * count)
+        if number != _DONE:
+            raise Refused(number, out, ("", "the first page", "the second page")[whose] or _unlike(first, second))
+        return out, list_
+
+    number, _ = ask(0)
+    _, list_ = ask(number if most is None else min(number, most))
+    return Comparison(number, [Spot(*list_[at : at + 3]) for at in range(0, len(list_), 3)])
 
 
 def _packed(type_, value):

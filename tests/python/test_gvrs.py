@@ -20,7 +20,7 @@ import unittest
 from pathlib import Path
 
 import gvrs
-from gvrs import Cell, Deed, Fill, Outside, Page, Refused
+from gvrs import Cell, Comparison, Deed, Fill, Outside, Page, Refused, Spot
 
 try:
     import numpy
@@ -194,6 +194,82 @@ class Deeds(Tests):
         for position in range(5):
             for wrong, error in ((-1, ValueError), (2**64, ValueError), (1.0, TypeError), (None, TypeError)):
                 self.assertRaises(error, z.deed, *[wrong if i == position else 0 for i in range(5)])
+
+
+class Comparisons(Tests):
+    """In which cells two pages differ."""
+
+    ELEMENTS = [("z", "Short", 5)]
+
+    def laid(self, tiles, elements=ELEMENTS, sides=(2, 3, 2, 2)):
+        front = gvrs.front(*sides, elements, uuid=bytes(16))
+        tiles = {index: {name: cells for name, _, _ in elements} for index, cells in tiles.items()}
+        return Page.of_bytes(gvrs.lay_down(front, gvrs.pack(front, tiles), time=1))
+
+    def test_sample_sums(self):
+        first = self.laid({0: [1, 2, 3, 4], 1: [5, 9, 6, 9]})
+        second = self.laid({0: [1, 0, 3, 0]})
+        spots = [(0, 1, 0), (0, 2, 0), (1, 1, 0), (1, 2, 0)]
+        for pages in ((first, second), (second, first)):
+            self.assertEqual(gvrs.compare(*pages), Comparison(4, spots))
+            self.assertEqual(gvrs.compare(*pages, most=1), (4, spots[:1]))
+            self.assertEqual(gvrs.compare(*pages, most=0), (4, []))
+            self.assertEqual(gvrs.compare(*pages, most=2**64 - 1), (4, spots))
+        self.assertEqual(gvrs.compare(first, first), (0, []))
+        spot = gvrs.compare(first, second).spots[1]
+        self.assertIsInstance(spot, Spot)
+        self.assertEqual((first.cell(*spot).value, second.cell(*spot).value), (5, Fill(5)))
+
+    def test_other_fills_and_names(self):
+        first, second = self.laid({0: [1, 2, 3, 4]}), self.laid({0: [1, 2, 3, 4]}, [("other", "Short", 6)])
+        self.assertEqual(gvrs.compare(first, second), (2, [(0, 2, 0), (1, 2, 0)]))
+
+    def test_bits_are_compared(self):
+        cells = [[math.nan, 0.0, 1.0, 2.0], [math.nan, -0.0, 1.0, 2.0]]
+        pages = [self.laid({0: of_one}, [("z", "Float", 0.0)]) for of_one in cells]
+        self.assertEqual(gvrs.compare(*pages), (1, [(0, 1, 0)]))
+
+    def test_unreadable_cells(self):
+        packed = page("packed", 3)
+        none = self.laid({}, sides=(2, 15, 2, 4))
+        self.assertRefused(14, 512, lambda: gvrs.compare(packed, packed), "the first page")
+        self.assertRefused(14, 512, lambda: gvrs.compare(none, packed), "the second page")
+        self.assertRefused(11, 472, lambda: gvrs.compare(page("packed", 4), packed), "the first page")
+        self.assertRefused(11, 472, lambda: gvrs.compare(packed, page("packed")), "the second page")
+
+    def test_refusals(self):
+        good, worse = page("page"), page("refused-9")
+        for number in range(1, 10):
+            refused = page(f"refused-{number}")
+            place = self.assertRaisesRefused(refused.check)
+            self.assertRefused(number, place, lambda: gvrs.compare(refused, worse), "the first page")
+            self.assertRefused(number, place, lambda: gvrs.compare(good, refused), "the second page")
+
+    def assertRaisesRefused(self, ask):
+        with self.assertRaises(Refused) as caught:
+            ask()
+        return caught.exception.place
+
+    def test_unlike_pages(self):
+        first, two = self.laid({}), [("z", "Short", 5), ("y", "Short", 5)]
+        others = {
+            "rows: 2 and 3": self.laid({}, sides=(3, 3, 2, 2)),
+            "columns: 3 and 4": self.laid({}, sides=(2, 4, 2, 2)),
+            "tile_rows: 2 and 1": self.laid({}, sides=(2, 3, 1, 2)),
+            "tile_columns: 2 and 3": self.laid({}, sides=(2, 3, 2, 3)),
+            "elements: 1 and 2": self.laid({}, two),
+            "the type of element 0: Short and Integer": self.laid({}, [("z", "Integer", 5)]),
+        }
+        for note, other in others.items():
+            self.assertRefused(12, 0, lambda: gvrs.compare(first, other), f"the pages differ in {note}")
+
+    def test_wrong_arguments(self):
+        good = page("page")
+        self.assertSays(TypeError, "two Pages", gvrs.compare, good, good.file)
+        self.assertSays(TypeError, "two Pages", gvrs.compare, None, good)
+        self.assertSays(ValueError, "most is -1", gvrs.compare, good, good, most=-1)
+        self.assertSays(TypeError, "most is 1.0", gvrs.compare, good, good, most=1.0)
+        self.assertSays(TypeError, "its number is 0", bool, gvrs.compare(good, good))
 
 
 class Numbers(Tests):
