@@ -1,12 +1,14 @@
 //! Times the library's check, checksum, reads, lay-down and unpacking against the second
-//! implementation's, in one run, the cells and the scores of rectangles, a deed, a tile stored in an open
-//! page, and the check of hostile files. Fails where the check, unpacking, the cells or the scores of a
-//! rectangle, a deed or the storing of a tile take longer than their bounds. With the word `hostile` it
-//! measures the hostile files alone, with `corrections` the storing of tiles alone, with `deeds` deeds
-//! alone, with `cells` the cells and scores alone.
+//! implementation's, in one run, the cells and the scores of rectangles, a deed, two pages compared, a tile
+//! stored in an open page, and the check of hostile files. Fails where the check, unpacking, the cells or
+//! the scores of a rectangle, a deed, a comparison or the storing of a tile take longer than their bounds.
+//! With the word `hostile` it measures the hostile files alone, with `corrections` the storing of tiles
+//! alone, with `deeds` deeds alone, with `cells` the cells and scores alone, with `compare` comparisons
+//! alone.
 
 mod cells;
 mod checksum;
+mod compare;
 mod corrections;
 mod deeds;
 mod hostile;
@@ -41,6 +43,9 @@ fn main() -> ExitCode {
     if env::args().any(|argument| argument == "cells") {
         return exit_code(cells::measure(&packed::pages()));
     }
+    if env::args().any(|argument| argument == "compare") {
+        return exit_code(compare::measure(&packed::pages()));
+    }
     let checks = measure_checks(units::measure);
     checksum::measure();
     reads::measure();
@@ -50,8 +55,9 @@ fn main() -> ExitCode {
     let unpacking = unpack::measure(&pages);
     let cells = cells::measure(&pages);
     let deeds = deeds::measure();
+    let compared = compare::measure(&pages);
     let corrections = corrections::measure();
-    exit_code(checks && unpacking && cells && deeds && corrections)
+    exit_code(checks && unpacking && cells && deeds && compared && corrections)
 }
 
 /// The check of some files, and of hostile ones.

@@ -46,20 +46,25 @@ const FORMS: [(&str, Form); 2] = [
 
 /// One of each.
 pub fn pages() -> Vec<PackedPage> {
+    raised_pages(0)
+}
+
+/// The same, with so much more in each cell.
+pub fn raised_pages(more: i32) -> Vec<PackedPage> {
     let mut pages = Vec::new();
     for shape in &SHAPES {
         for predictor in PREDICTORS {
             for (form, tree) in FORMS {
                 let name = format!("{}, {predictor:?}, {form}", shape.name);
-                pages.push(page(name, shape, predictor, tree));
+                pages.push(page(name, shape, predictor, tree, more));
             }
         }
     }
     pages
 }
 
-fn page(name: String, shape: &Shape, predictor: Predictor, tree: Form) -> PackedPage {
-    let (values, content, symbols) = packed(shape, predictor, tree);
+fn page(name: String, shape: &Shape, predictor: Predictor, tree: Form, more: i32) -> PackedPage {
+    let (values, content, symbols) = packed(shape, predictor, tree, more);
     let bits_a_symbol = 8.0 * content.len() as f64 / symbols as f64;
     let mask = if shape.type_code == SHORT { 0xffff } else { u32::MAX };
     let bits = values.iter().map(|value| *value as u32 & mask).collect();
@@ -67,10 +72,15 @@ fn page(name: String, shape: &Shape, predictor: Predictor, tree: Form) -> Packed
 }
 
 /// A hilly tile with noise, its content, shorter than its cells, and the number of its M32 bytes.
-fn packed(shape: &Shape, predictor: Predictor, tree: Form) -> (Vec<i32>, Vec<u8>, usize) {
+fn packed(
+    shape: &Shape,
+    predictor: Predictor,
+    tree: Form,
+    more: i32,
+) -> (Vec<i32>, Vec<u8>, usize) {
     let columns = shape.tile[1] as usize;
     for noise in NOISE {
-        let cells = hilly(shape.tile, noise);
+        let cells: Vec<i32> = hilly(shape.tile, noise).iter().map(|cell| cell + more).collect();
         let mut packed = Packed::new(&cells, columns, predictor, tree);
         packed.index = INDEX as u8;
         let content = packed.bytes();
