@@ -105,13 +105,17 @@ uint32_t gvrs_check_rest(const uint8_t *file, uint64_t n, uint64_t *out, uint64_
 uint32_t gvrs_page(const uint8_t *file, uint64_t n, uint64_t *out, uint64_t out_n);
 
 /* What an element is, by its number, counted from 0: 0, and out[0] is its type code (0 Integer, 1 integer-coded, 2 Float, 3 Short), out[1]
-   the bits of its fill (16 of a Short), out[2] where its name starts in the file and out[3] the name's length, 1 to 32. Else the
-   refusal's number, 10 where the page has no such element, out[0] is its place, and the others are 0. */
+   the bits of its fill (16 of a Short), out[2] where its name starts in the file and out[3] the name's length, 1 to 32, out[4] and
+   out[5] place and length of its unit of measure, in UTF-8: the place is just behind the unit's length field, also where the length
+   is 0. Else the refusal's number, 10 where the page has no such element, out[0] is its place, and the others are 0. An `out` of more
+   than 4 numbers took 4 before the unit was told. */
 uint32_t gvrs_element(const uint8_t *file, uint64_t n, uint64_t element, uint64_t *out, uint64_t out_n);
 
 /* A cell, by row, column and element number, each counted from 0: 32 stored, 33 fill, else the refusal's number. out[0] is the
    type code (0 Integer, 1 integer-coded, 2 Float, 3 Short), out[1] the bits of the value, out[2] the place of a stored cell's
-   first byte, 0 of a fill; on a refusal they are 0, 0 and its place. */
+   first byte, 0 of a fill, out[3] the index of the cell's tile and out[4] the cell's number inside the tile, by rows, of a fill as
+   of a stored cell; on a refusal out[2] is its place, and the others are 0. An `out` of more than 3 numbers took 3 before tile and
+   number were told. */
 uint32_t gvrs_cell(const uint8_t *file, uint64_t n, uint64_t row, uint64_t column, uint64_t element, uint32_t route,
                    uint64_t *out, uint64_t out_n);
 
@@ -162,8 +166,9 @@ uint32_t gvrs_deed(const uint8_t *file, uint64_t n, uint32_t compressor, uint64_
    pages are unlike (12) and where nothing is refused. A cell is a row, a column and an element. Two cells differ in kind (stored or packed
    against fill) or in bits; what they are in each page gvrs_cell_with says. The files may be the same bytes.
 
-   `list` takes the earliest entries that fit whole, list_n / 3 of them, each three numbers: row, column, element; by row, then column, then
-   element, each differing cell once. What stands behind them stays, and all of it on a refusal. A short list, or an empty one, is no refusal.
+   `list` takes the earliest entries that fit whole, list_n / 5 of them, each five numbers: row, column, element, index of the tile, number
+   inside the tile; by row, then column, then element, each differing cell once. What stands behind them stays, and all of it on a
+   refusal. A short list, or an empty one, is no refusal.
 
    Refused, in this order: as by gvrs_check, the first page; the second page; 12, at 0, where grid rows or columns, tile rows or columns,
    the number of elements or the type of one differ (names, fills and all else may); 11 or 14 where a cell has it in either page: at the

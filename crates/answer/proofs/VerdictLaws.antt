@@ -32,9 +32,9 @@ behind-passed (Refused r) w e = refused-not e
 
 -- a cell that is not refused is stored, a fill or unpacked
 pub cell-kinds : (x : Cell) → cellVerdict x ≡ Accepted → (cellKind x ≡ 32) ⊎ ((cellKind x ≡ 33) ⊎ (cellKind x ≡ 34))
-cell-kinds (cell.Stored v at) e = inl refl
-cell-kinds (cell.Fill v) e = inr (inl refl)
-cell-kinds (cell.Unpacked v at) e = inr (inr refl)
+cell-kinds (cell.Stored v at w) e = inl refl
+cell-kinds (cell.Fill v w) e = inr (inl refl)
+cell-kinds (cell.Unpacked v at w) e = inr (inr refl)
 cell-kinds (cell.Refused r) e = refused-not e
 
 -- a function that asks a check and hands its refusal on

@@ -19,36 +19,49 @@ use Rattle.answer.specs.Refusals.{refusalNumber, refusalPlace}
 use Rattle.answer.specs.Values.{valueType, valueBits}
 
 abbrev pub cellKind : Cell → ℕ
-cellKind (cell.Stored v at) = 32
-cellKind (cell.Fill v) = 33
-cellKind (cell.Unpacked v at) = 34
+cellKind (cell.Stored v at w) = 32
+cellKind (cell.Fill v w) = 33
+cellKind (cell.Unpacked v at w) = 34
 cellKind (cell.Refused r) = refusalNumber r
 
 -- the value's type code and bits, 0 and 0 of a refusal
 abbrev pub cellType : Cell → ℕ
-cellType (cell.Stored v at) = valueType v
-cellType (cell.Fill v) = valueType v
-cellType (cell.Unpacked v at) = valueType v
+cellType (cell.Stored v at w) = valueType v
+cellType (cell.Fill v w) = valueType v
+cellType (cell.Unpacked v at w) = valueType v
 cellType (cell.Refused r) = 0
 
 abbrev pub cellBits : Cell → ℕ
-cellBits (cell.Stored v at) = valueBits v
-cellBits (cell.Fill v) = valueBits v
-cellBits (cell.Unpacked v at) = valueBits v
+cellBits (cell.Stored v at w) = valueBits v
+cellBits (cell.Fill v w) = valueBits v
+cellBits (cell.Unpacked v at w) = valueBits v
 cellBits (cell.Refused r) = 0
 
 abbrev pub cellPlace : Cell → ℕ
-cellPlace (cell.Stored v at) = at
-cellPlace (cell.Fill v) = 0
-cellPlace (cell.Unpacked v at) = at
+cellPlace (cell.Stored v at w) = at
+cellPlace (cell.Fill v w) = 0
+cellPlace (cell.Unpacked v at w) = at
 cellPlace (cell.Refused r) = refusalPlace r
 
 -- its refusal as a check's; accepted where it is none
 abbrev pub cellVerdict : Cell → Verdict
-cellVerdict (cell.Stored v at) = verdict.Accepted
-cellVerdict (cell.Fill v) = verdict.Accepted
-cellVerdict (cell.Unpacked v at) = verdict.Accepted
+cellVerdict (cell.Stored v at w) = verdict.Accepted
+cellVerdict (cell.Fill v w) = verdict.Accepted
+cellVerdict (cell.Unpacked v at w) = verdict.Accepted
 cellVerdict (cell.Refused r) = verdict.Refused r
+
+-- Req 10: the index of its tile and its number inside the tile; 0 and 0 of a refusal
+abbrev pub answerTile : Cell → ℕ
+answerTile (cell.Stored v at w) = w .tile
+answerTile (cell.Fill v w) = w .tile
+answerTile (cell.Unpacked v at w) = w .tile
+answerTile (cell.Refused r) = 0
+
+abbrev pub answerInside : Cell → ℕ
+answerInside (cell.Stored v at w) = w .inside
+answerInside (cell.Fill v w) = w .inside
+answerInside (cell.Unpacked v at w) = w .inside
+answerInside (cell.Refused r) = 0
 
 abbrev pub contentKind : Content → ℕ
 contentKind (content.Present at n) = 32

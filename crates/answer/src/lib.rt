@@ -7,7 +7,7 @@ ghost use mir.Syntax.{w16, w32};
 ghost use mir.Val.{toZ, ofZ};
 ghost use Rattle.answer.specs.Refusals.{refusalNumber, refusalPlace, verdictNumber, verdictPlace};
 ghost use Rattle.answer.specs.Values.{valueOf, valueType, valueBits};
-ghost use Rattle.answer.specs.Answers.{cellKind, cellType, cellBits, cellPlace, cellVerdict, contentKind, contentPlace, contentLength, heldKind, heldPlace, lookupKind, lookupNumber, laidNumber};
+ghost use Rattle.answer.specs.Answers.{cellKind, cellType, cellBits, cellPlace, cellVerdict, answerTile, answerInside, contentKind, contentPlace, contentLength, heldKind, heldPlace, lookupKind, lookupNumber, laidNumber};
 
 // Document 01's thirteen refusals, in their order, with a place where it gives one that varies; then document 02's:
 // compressed content is malformed, a page is not open for writing, and a byte that a stage needs is not given.
@@ -45,11 +45,28 @@ pub enum Value {
     Short(i16),
 }
 
+// Where a cell lies: the index of its tile, and its number inside the tile.
+pub struct Location {
+    pub tile: u64,
+    pub inside: u64,
+}
+
 // What a cell read answers.
 pub enum Cell {
-    Stored { value: Value, place: usize },
-    Fill { value: Value },
-    Unpacked { value: Value, place: usize },
+    Stored {
+        value: Value,
+        place: usize,
+        location: Location,
+    },
+    Fill {
+        value: Value,
+        location: Location,
+    },
+    Unpacked {
+        value: Value,
+        place: usize,
+        location: Location,
+    },
     Refused(Refusal),
 }
 
@@ -245,9 +262,9 @@ pub fn cell_kind(x: Cell) -> u32
     ensures { λ r. ⌜ r ≡ cellKind x ⌝ }
 {
     match x {
-        Cell::Stored { value: _, place: _ } => 32,
-        Cell::Fill { value: _ } => 33,
-        Cell::Unpacked { value: _, place: _ } => 34,
+        Cell::Stored { .. } => 32,
+        Cell::Fill { .. } => 33,
+        Cell::Unpacked { .. } => 34,
         Cell::Refused(r) => refusal_number(r),
     }
 }
@@ -256,9 +273,9 @@ pub fn cell_type(x: Cell) -> u32
     ensures { λ r. ⌜ r ≡ cellType x ⌝ }
 {
     match x {
-        Cell::Stored { value, place: _ } => value_type(value),
-        Cell::Fill { value } => value_type(value),
-        Cell::Unpacked { value, place: _ } => value_type(value),
+        Cell::Stored { value, .. } => value_type(value),
+        Cell::Fill { value, .. } => value_type(value),
+        Cell::Unpacked { value, .. } => value_type(value),
         Cell::Refused(_) => 0,
     }
 }
@@ -267,9 +284,9 @@ pub fn cell_bits(x: Cell) -> u32
     ensures { λ r. ⌜ r ≡ cellBits x ⌝ }
 {
     match x {
-        Cell::Stored { value, place: _ } => value_bits(value),
-        Cell::Fill { value } => value_bits(value),
-        Cell::Unpacked { value, place: _ } => value_bits(value),
+        Cell::Stored { value, .. } => value_bits(value),
+        Cell::Fill { value, .. } => value_bits(value),
+        Cell::Unpacked { value, .. } => value_bits(value),
         Cell::Refused(_) => 0,
     }
 }
@@ -278,9 +295,9 @@ pub fn cell_place(x: Cell) -> usize
     ensures { λ r. ⌜ r ≡ cellPlace x ⌝ }
 {
     match x {
-        Cell::Stored { value: _, place } => place,
-        Cell::Fill { value: _ } => 0,
-        Cell::Unpacked { value: _, place } => place,
+        Cell::Stored { place, .. } => place,
+        Cell::Fill { .. } => 0,
+        Cell::Unpacked { place, .. } => place,
         Cell::Refused(r) => refusal_place(r),
     }
 }
@@ -290,10 +307,33 @@ pub fn cell_verdict(x: Cell) -> Verdict
     ensures { λ r. ⌜ r ≡ cellVerdict x ⌝ }
 {
     match x {
-        Cell::Stored { value: _, place: _ } => Verdict::Accepted,
-        Cell::Fill { value: _ } => Verdict::Accepted,
-        Cell::Unpacked { value: _, place: _ } => Verdict::Accepted,
+        Cell::Stored { .. } => Verdict::Accepted,
+        Cell::Fill { .. } => Verdict::Accepted,
+        Cell::Unpacked { .. } => Verdict::Accepted,
         Cell::Refused(r) => Verdict::Refused(r),
+    }
+}
+
+// The index of a cell's tile and its number inside the tile; 0 and 0 of a refusal.
+pub fn cell_tile(x: Cell) -> u64
+    ensures { λ r. ⌜ r ≡ answerTile x ⌝ }
+{
+    match x {
+        Cell::Stored { location, .. } => location.tile,
+        Cell::Fill { location, .. } => location.tile,
+        Cell::Unpacked { location, .. } => location.tile,
+        Cell::Refused(_) => 0,
+    }
+}
+
+pub fn cell_inside(x: Cell) -> u64
+    ensures { λ r. ⌜ r ≡ answerInside x ⌝ }
+{
+    match x {
+        Cell::Stored { location, .. } => location.inside,
+        Cell::Fill { location, .. } => location.inside,
+        Cell::Unpacked { location, .. } => location.inside,
+        Cell::Refused(_) => 0,
     }
 }
 

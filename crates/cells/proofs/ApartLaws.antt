@@ -10,19 +10,20 @@ use Rattle.wire.proofs.TestLaws.{fails}
 use Rattle.wire.proofs.ItemLaws.{item-within, items-apart}
 use Rattle.answer.specs.declared.Refusal.{Refusal}
 use Rattle.answer.specs.declared.Value.{Value}
+use Rattle.answer.specs.declared.Location.{Location}
 use Rattle.answer.specs.declared.Cell.the-variants.{Stored, Fill, Unpacked, Refused}
 use Rattle.answer.specs.Answers.{cellPlace}
 use Rattle.header.specs.Fields.{gridColumns, tileRows, tileColumns, elementCount}
 use Rattle.record.specs.Chain.{headerEnd, records, recordsOf}
 use Rattle.header.specs.Element.{cellSize, element}
-use Rattle.record.specs.Record.{lengthAt}
+use Rattle.record.specs.Record.{lengthAt, recordLimit}
 use Rattle.record.proofs.ChainLaws.{whole-apart}
 use Rattle.geometry.specs.Tiles.{cellTile, cellInside}
 use Rattle.geometry.specs.Sizes.{uncompressed, cellOffset, elementBytes}
 use Rattle.geometry.proofs.GridLaws.{inside-less, one-cell}
 use Rattle.check_records.specs.TileBody.{tileRight}
 use Rattle.bodies.specs.TileRecord.{tileIndex, sectionAt, sectionLength, elementContentAt}
-use Rattle.bodies.proofs.SectionLaws.{section-least, section-holds, section-mono, section-next, limit-inside}
+use Rattle.bodies.proofs.SectionLaws.{section-least, section-holds, section-mono, section-next}
 use Rattle.check_records.proofs.SectionLaws.{sections-end}
 use Rattle.record.proofs.FindLaws.{of-type}
 use Rattle.record.specs.declared.Found.{Found}
@@ -47,13 +48,12 @@ pub record ContentExtent (s : List ℕ) (at e : ℕ) : Type 0 where
   pub behind : at ≤ elementContentAt s at e
   pub own : sectionAt s at e ≤ elementContentAt s at e
   pub next : elementContentAt s at e + sectionLength s at e ≤ sectionAt s at (e + 1)
-  pub inside : sectionAt s at (e + 1) ≤ at + lengthAt s at
+  pub inside : sectionAt s at (e + 1) < at + lengthAt s at
 
 pub content-extent : (s : List ℕ) (at e : ℕ) → tileRight s at ≡ true → e < elementCount s → ContentExtent s at e
-unfolding elementContentAt sectionLength
+unfolding elementContentAt sectionLength recordLimit
 content-extent s at e t h =
     let z = sections-end s at t in
-    let l = limit-inside s at in
     let a = section-mono s at e (elementCount s) (omega arith) in
     let b = section-mono s at (e + 1) (elementCount s) (omega arith) in
     let n = section-next s at e (omega arith) in
@@ -72,35 +72,35 @@ pub record StoredAs (s : List ℕ) (row column e place : ℕ) : Type 0 where
   pub column-in : column < gridColumns s
   pub element-in : e < elementCount s
 
-refused-not-stored : {C : Type 0} {r : Refusal} {v : Value} {p : ℕ} → Refused r ≡ Stored v p → C
+refused-not-stored : {C : Type 0} {r : Refusal} {v : Value} {p : ℕ} {t : Location} → Refused r ≡ Stored v p t → C
 refused-not-stored q = let z : _≡_ {A = ℕ} 0 1 = cc in absurd (omega arith)
 
-fill-not-stored : {C : Type 0} {w v : Value} {p : ℕ} → Fill w ≡ Stored v p → C
+fill-not-stored : {C : Type 0} {w v : Value} {p : ℕ} {t u : Location} → Fill w u ≡ Stored v p t → C
 fill-not-stored q = let z : _≡_ {A = ℕ} 0 1 = cc in absurd (omega arith)
 
-unpacked-not-stored : {C : Type 0} {w v : Value} {a p : ℕ} → Unpacked w a ≡ Stored v p → C
+unpacked-not-stored : {C : Type 0} {w v : Value} {a p : ℕ} {t u : Location} → Unpacked w a u ≡ Stored v p t → C
 unpacked-not-stored q = let z : _≡_ {A = ℕ} 0 1 = cc in absurd (omega arith)
 
-packed-not-stored : {C : Type 0} (s : List ℕ) (ci x row column e : ℕ) (v : Value) (p : ℕ) → packedCell s ci x row column e ≡ Stored v p → C
+packed-not-stored : {C : Type 0} (s : List ℕ) (ci x row column e : ℕ) (v : Value) (p : ℕ) (t : Location) → packedCell s ci x row column e ≡ Stored v p t → C
 unfolding packedCell
-packed-not-stored {C = C} s ci x row column e v p q = go (unpackable s ci x e) refl (cellAt (unpackedIn s x e) (cellInside s row column)) refl
+packed-not-stored {C = C} s ci x row column e v p t q = go (unpackable s ci x e) refl (cellAt (unpackedIn s x e) (cellInside s row column)) refl
   where
     go : (b : Bool) → unpackable s ci x e ≡ b → (r : out.Unpacked) → cellAt (unpackedIn s x e) (cellInside s row column) ≡ r → C
     go false i r j = refused-not-stored (rw i at q)
     go true i (variant.Cell bits) j = unpacked-not-stored (rw (i, j) at q)
     go true i variant.Malformed j = refused-not-stored (rw (i, j) at q)
 
-stored-in : (s : List ℕ) (ci x row column e place : ℕ) (v : Value) → cellIn s ci x row column e ≡ Stored v place → (packed s x e ≡ false) × (place ≡ placeIn s x row column e)
+stored-in : (s : List ℕ) (ci x row column e place : ℕ) (v : Value) (t : Location) → cellIn s ci x row column e ≡ Stored v place t → (packed s x e ≡ false) × (place ≡ placeIn s x row column e)
 unfolding cellIn storedAt
-stored-in s ci x row column e place v q = go (packed s x e) refl
+stored-in s ci x row column e place v t q = go (packed s x e) refl
   where
     go : (b : Bool) → packed s x e ≡ b → (packed s x e ≡ false) × (place ≡ placeIn s x row column e)
-    go true i = packed-not-stored s ci x row column e v place (rw i at q)
+    go true i = packed-not-stored s ci x row column e v place t (rw i at q)
     go false i = (i, sym (ap cellPlace (rw i at q)))
 
-pub stored-as : (s : List ℕ) (ci row column e place : ℕ) (v : Value) → meaning s ci row column e ≡ Stored v place → StoredAs s row column e place
+pub stored-as : (s : List ℕ) (ci row column e place : ℕ) (v : Value) (w : Location) → meaning s ci row column e ≡ Stored v place w → StoredAs s row column e place
 unfolding meaning cellBy fillOf
-stored-as s ci row column e place v q = go (inGrid s row column e) refl (meant s (cellTile s row column)) refl
+stored-as s ci row column e place v w q = go (inGrid s row column e) refl (meant s (cellTile s row column)) refl
   where
     go : (b : Bool) → inGrid s row column e ≡ b → (f : Found) → meant s (cellTile s row column) ≡ f → StoredAs s row column e place
     go false i f j = refused-not-stored (rw i at q)
@@ -108,7 +108,7 @@ stored-as s ci row column e place v q = go (inGrid s row column e) refl (meant s
     go true i (At x) j =
         let g = grid-means s row column e i in
         let t = meant-is s (cellTile s row column) x j in
-        let c = stored-in s ci x row column e place v (rw (i, j) at q) in
+        let c = stored-in s ci x row column e place v w (rw (i, j) at q) in
         record { start = x; among = t .among; index = t .index; whole = c .0; here = c .1; column-in = g .1 .0; element-in = g .1 .1 }
 
 -- its bytes lie in its element's uncompressed content
@@ -193,8 +193,8 @@ module _ (s : List ℕ) (o : Sound s) (row column e place : ℕ) (c : StoredAs s
       (whole-apart s (headerEnd s) (records s) (o .chain) (of-type s 2 (c .among) .0) (of-type s 2 (d .among) .0))
 
 pub cells-apart :
-    (s : List ℕ) → Sound s → (ci row column e place : ℕ) (v : Value) (row2 column2 e2 place2 : ℕ) (v2 : Value) →
-    meaning s ci row column e ≡ Stored v place → meaning s ci row2 column2 e2 ≡ Stored v2 place2 →
+    (s : List ℕ) → Sound s → (ci row column e place : ℕ) (v : Value) (w : Location) (row2 column2 e2 place2 : ℕ) (v2 : Value) (w2 : Location) →
+    meaning s ci row column e ≡ Stored v place w → meaning s ci row2 column2 e2 ≡ Stored v2 place2 w2 →
     ((row ≡ row2) × ((column ≡ column2) × (e ≡ e2))) ⊎ ((place + bytesOfCell s e ≤ place2) ⊎ (place2 + bytesOfCell s e2 ≤ place))
-cells-apart s o ci row column e place v row2 column2 e2 place2 v2 p q =
-    stored-apart s o row column e place (stored-as s ci row column e place v p) row2 column2 e2 place2 (stored-as s ci row2 column2 e2 place2 v2 q)
+cells-apart s o ci row column e place v w row2 column2 e2 place2 v2 w2 p q =
+    stored-apart s o row column e place (stored-as s ci row column e place v w p) row2 column2 e2 place2 (stored-as s ci row2 column2 e2 place2 v2 w2 q)

@@ -15,6 +15,7 @@ use Rattle.wire.proofs.TestLaws.{means, yes, no, fails, not-both, either-way}
 use Rattle.answer.specs.declared.Value.{Value}
 use Rattle.answer.specs.declared.Refusal.{Refusal}
 use Rattle.answer.specs.declared.Refusal.the-variants as refusal
+use Rattle.answer.specs.declared.Location.{Location}
 use Rattle.answer.specs.declared.Cell.{Cell}
 use Rattle.answer.specs.declared.Cell.the-variants as cell
 use Rattle.answer.specs.declared.Content.the-variants as content
@@ -41,7 +42,7 @@ use Rattle.unpack.specs.declared.Unpacked.the-variants as out
 use Rattle.unpack.specs.Unpack.{unpacked, cellAt}
 use Rattle.cells.specs.Asked.{inGrid, inTiles}
 use Rattle.cells.specs.inner.Lookups.{sidesLawful, reachedBy, cellReached, contentReached, roomReached}
-use Rattle.cells.specs.TileCells.{offsetIn, packed, placeIn, storedAt, fillOf, unpackable, unpackedIn, packedCell, cellIn, contentIn, cellOf, contentOf, roomOf}
+use Rattle.cells.specs.TileCells.{offsetIn, packed, placeIn, storedAt, fillOf, unpackable, unpackedIn, packedCell, cellIn, contentIn, cellOf, contentOf, roomOf, locationOf}
 
 -- what is asked for
 
@@ -189,13 +190,21 @@ unfolding cellSize
 bits-other s k at r h e = rw (ne-eqb k 3 h) e
 
 pub stored-is :
-    (s : List ℕ) (e at k b : ℕ) (v : Value) → k ≡ element s e .kind → b ≡ numberAt (cellSize k) s (at + 0) → v ≡ valueOf k b → cell.Stored v at ≡ storedAt s e at
+    (s : List ℕ) (w : Location) (e at k b : ℕ) (v : Value) → k ≡ element s e .kind → b ≡ numberAt (cellSize k) s (at + 0) → v ≡ valueOf k b → cell.Stored v at w ≡ storedAt s w e at
 unfolding storedAt
-stored-is s e at k b v p q f = let z : at + 0 ≡ at = omega arith in ap (λ (x : Value). cell.Stored x at) (f ∙ rw (q, p, z))
+stored-is s w e at k b v p q f = let z : at + 0 ≡ at = omega arith in ap (λ (x : Value). cell.Stored x at w) (f ∙ rw (q, p, z))
 
-pub fill-is : (s : List ℕ) (e : ℕ) (x : Element) (v : Value) → x ≡ element s e → v ≡ valueOf (x .kind) (x .fill) → cell.Fill v ≡ fillOf s e
+pub location-is : (s : List ℕ) (row column t i : ℕ) → t ≡ cellTile s row column → i ≡ cellInside s row column → _≡_ {A = Location} (record { tile = t; inside = i }) (locationOf s row column)
+unfolding locationOf
+location-is s row column t i p q = rw (p, q)
+
+pub fill-is : (s : List ℕ) (w : Location) (e : ℕ) (x : Element) (v : Value) → x ≡ element s e → v ≡ valueOf (x .kind) (x .fill) → cell.Fill v w ≡ fillOf s w e
 unfolding fillOf
-fill-is s e x v p f = ap (λ (y : Value). cell.Fill y) (f ∙ rw p)
+fill-is s w e x v p f = ap (λ (y : Value). cell.Fill y w) (f ∙ rw p)
+
+-- a fill, by where the cell lies
+pub fill-located : (s : List ℕ) (row column e : ℕ) (w : Location) (r : Cell) → w ≡ locationOf s row column → r ≡ fillOf s w e → r ≡ fillOf s (locationOf s row column) e
+fill-located s row column e w r p q = rw p at q
 
 -- a cell of compressed content
 
@@ -238,10 +247,10 @@ module _ (s : List ℕ) (ci x row column e : ℕ) (b : Bool) (p : b ≡ unpackab
     cell-malformed g = rw (← p, f, ← q, g)
 
     pub cell-unpacked :
-        (v k at : ℕ) (y : Value) → r ≡ out.Cell v → k ≡ element s e .kind → y ≡ valueOf k v → at ≡ sectionAt s x e →
-        cell.Unpacked y (at + 4) ≡ packedCell s ci x row column e
+        (v k at : ℕ) (y : Value) (w : Location) → r ≡ out.Cell v → k ≡ element s e .kind → y ≡ valueOf k v → at ≡ sectionAt s x e → w ≡ locationOf s row column →
+        cell.Unpacked y (at + 4) w ≡ packedCell s ci x row column e
     unfolding packedCell elementContentAt
-    cell-unpacked v k at y g t m n = rw (← p, f, ← q, g, m, t, n)
+    cell-unpacked v k at y w g t m n z = rw (← p, f, ← q, g, m, t, n, z)
 
 -- a cell and an element's content in a tile record
 
@@ -250,9 +259,9 @@ module _ (s : List ℕ) (x e : ℕ) (b : Bool) (p : b ≡ packed s x e) where
   unfolding cellIn
   cell-packed ci row column r f q = rw (← p, f) q
 
-  pub cell-whole : (ci row column at : ℕ) (r : Cell) → b ≡ false → at ≡ placeIn s x row column e → r ≡ storedAt s e at → r ≡ cellIn s ci x row column e
+  pub cell-whole : (ci row column at : ℕ) (w : Location) (r : Cell) → b ≡ false → w ≡ locationOf s row column → at ≡ placeIn s x row column e → r ≡ storedAt s w e at → r ≡ cellIn s ci x row column e
   unfolding cellIn
-  cell-whole ci row column at r f q t = rw (← p, f) (t ∙ rw q)
+  cell-whole ci row column at w r f z q t = rw (← p, f) (t ∙ rw (z, q))
 
   pub content-packed : b ≡ true → content.Refused (refusal.Compressed x) ≡ contentIn s x e
   unfolding contentIn

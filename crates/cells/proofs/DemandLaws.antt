@@ -1,6 +1,6 @@
 -- Demand 3, and the bits of demand 2. Assumes nothing.
 use borrow.Author.Tests.{eqb-true, eqb-false}
-use Prim.Native.Nat.{ℕ, _+_, _-_, _*_, _≤_, _<_}
+use Prim.Native.Nat.{ℕ, _+_, _-_, _*_, _/_, _%_, _≤_, _<_}
 use mathlib.Core.Path.{_≡_, refl, sym, ap, _∙_}
 use mathlib.Core.List.{List}
 use mathlib.Core.Bool.{Bool, true, false}
@@ -13,10 +13,13 @@ use Rattle.wire.specs.Bytes.{Bytes, part, u32At, numberAt}
 use Rattle.wire.proofs.ByteLaws.{number-small}
 use Rattle.answer.specs.declared.Refusal.the-variants.{Compressed, OutsideGrid}
 use Rattle.answer.specs.declared.Value.{Value}
+use Rattle.answer.specs.declared.Location.{Location}
 use Rattle.answer.specs.declared.Cell.the-variants as cell
 use Rattle.answer.specs.declared.Content.the-variants as content
 use Rattle.answer.specs.Values.{valueBits, valueOf}
-use Rattle.answer.specs.Answers.{cellKind, cellBits, cellPlace}
+use Rattle.answer.specs.declared.Verdict.the-variants.{Accepted}
+use Rattle.answer.specs.Answers.{cellKind, cellBits, cellPlace, cellVerdict, answerTile, answerInside}
+use Rattle.answer.proofs.VerdictLaws.{refused-not}
 use Rattle.answer.specs.Refusals.{unlessRefused}
 use Rattle.answer.proofs.ValueLaws.{short-bits-kept, short-small, bits-kept}
 use Rattle.record.specs.declared.Found.{Found}
@@ -25,10 +28,10 @@ use Rattle.record.specs.Chain.{headerEnd, records}
 use Rattle.record.proofs.ChainLaws.{whole-extent}
 use Rattle.record.proofs.FindLaws.{of-type}
 use Rattle.header.specs.Fields.{gridRows, gridColumns, tileRows, tileColumns, elementCount}
-use Rattle.geometry.proofs.GridLaws.{tile-less, inside-less}
+use Rattle.geometry.proofs.GridLaws.{tile-less, inside-less, found-again}
 use Rattle.check_header.specs.Passed.{Sides}
 use Rattle.wire.proofs.TestLaws.{not-both}
-use Rattle.geometry.specs.Tiles.{cellTile, cellInside}
+use Rattle.geometry.specs.Tiles.{tilesAcross, tileCount, cellTile, cellInside}
 use Rattle.geometry.specs.Sizes.{elementBytes}
 use Rattle.bodies.specs.TileRecord.{sectionAt, sectionLength, elementContentAt}
 use Rattle.unpack.specs.declared.Unpacked.{Unpacked}
@@ -41,23 +44,23 @@ use Rattle.page_check.proofs.GivenLaws.{sound-tile}
 use Rattle.header.specs.Element.{cellSize, element, entryAt, fillBits}
 use Rattle.cells.specs.Asked.{inGrid, inTiles}
 use Rattle.cells.specs.Routes.{meant, tileBy, cellBy}
-use Rattle.cells.specs.Demand3.{bytesOfCell, Demand3, ContentInside}
+use Rattle.cells.specs.Demand3.{bytesOfCell, InRecord, Demand3, ContentInside}
 use Rattle.cells.specs.Meaning.{meaning, contentMeaning, heldMeaning}
-use Rattle.cells.specs.TileCells.{contentIn, packed, fillOf, unpackable, unpackedIn, unpackedAt, packedCell, cellIn, storedAt, offsetIn, placeIn, heldIn, heldBits, heldCount}
+use Rattle.cells.specs.TileCells.{contentIn, packed, fillOf, unpackable, unpackedIn, unpackedAt, packedCell, cellIn, storedAt, offsetIn, placeIn, heldIn, heldBits, heldCount, locationOf}
 use Rattle.cells.specs.Reads.{readByDirectory, readByWalk, readByRecords}
 use Rattle.cells.specs.Demand2.{Demand2Bits, RightBits, ShortBits}
 use Rattle.cells.specs.Compressor.{OldReads, ContentStays, OnlyPacked, UnpackedWhere, EachCell, HeldEach, HeldCounted}
 use Rattle.cells.proofs.CellLaws.{grid-means, tiles-mean, tiles-in, sides-mean, above-bytes}
 use Rattle.cells.proofs.HeldLaws.{stored-cell, stored-long, in-at}
 use Rattle.cells.proofs.RouteLaws.{meant-is}
-use Rattle.cells.proofs.ApartLaws.{content-extent, stored-as, cell-extent, cells-apart, whole-least}
+use Rattle.cells.proofs.ApartLaws.{content-extent, stored-as, cell-extent, cells-apart, offset-within, whole-least}
 use Rattle.cells.proofs.ReadLaws.{sound-lawful, sound-cells, passed-bodies}
 
 -- what is stored lies in the file
 
-pub stored-inside : (s : List ℕ) → Sound s → (ci row column e place : ℕ) (v : Value) → meaning s ci row column e ≡ cell.Stored v place → place + bytesOfCell s e ≤ length s
-stored-inside s o ci row column e place v q =
-    let c = stored-as s ci row column e place v q in
+pub stored-inside : (s : List ℕ) → Sound s → (ci row column e place : ℕ) (v : Value) (w : Location) → meaning s ci row column e ≡ cell.Stored v place w → place + bytesOfCell s e ≤ length s
+stored-inside s o ci row column e place v w q =
+    let c = stored-as s ci row column e place v w q in
     let x = cell-extent s o row column e place c in
     let w = whole-extent s (headerEnd s) (records s) (o .chain) (of-type s 2 (c .among) .0) in
     omega (arith, x .inside, w .inside)
@@ -89,6 +92,91 @@ sound-inside s o tile e at n q = go (inTiles s tile e) refl (meant s tile) refl
 pub content-inside : ContentInside
 content-inside s a = sound-inside s (accepted-sound s a)
 
+-- where a cell lies
+located :
+    (s : List ℕ) (ci row column e : ℕ) → cellVerdict (meaning s ci row column e) ≡ Accepted →
+    (answerTile (meaning s ci row column e) ≡ cellTile s row column) × (answerInside (meaning s ci row column e) ≡ cellInside s row column)
+unfolding meaning cellBy fillOf cellIn packedCell storedAt locationOf
+located s ci row column e h = go (inGrid s row column e) refl (meant s (cellTile s row column)) refl
+  where
+    Said : Type 0
+    Said = (answerTile (meaning s ci row column e) ≡ cellTile s row column) × (answerInside (meaning s ci row column e) ≡ cellInside s row column)
+
+    go : (c : Bool) → inGrid s row column e ≡ c → (f : Found) → meant s (cellTile s row column) ≡ f → Said
+    go false i f j = refused-not (rw i at h)
+    go true i Nothing j = rw (i, j) (refl, refl)
+    go true i (At x) j = by (packed s x e) refl (unpackable s ci x e) refl (cellAt (unpackedIn s x e) (cellInside s row column)) refl
+      where
+        by : (d : Bool) → packed s x e ≡ d → (g : Bool) → unpackable s ci x e ≡ g → (r : Unpacked) → cellAt (unpackedIn s x e) (cellInside s row column) ≡ r → Said
+        by false k g l r m = rw (i, j, k) (refl, refl)
+        by true k false l r m = refused-not (rw (i, j, k, l) at h)
+        by true k true l out.Malformed m = refused-not (rw (i, j, k, l, m) at h)
+        by true k true l (out.Cell v) m = rw (i, j, k, l, m) (refl, refl)
+
+in-grid : (s : List ℕ) (ci row column e : ℕ) → cellVerdict (meaning s ci row column e) ≡ Accepted → inGrid s row column e ≡ true
+unfolding meaning cellBy
+in-grid s ci row column e h = go (inGrid s row column e) refl
+  where
+    go : (c : Bool) → inGrid s row column e ≡ c → inGrid s row column e ≡ true
+    go true i = i
+    go false i = refused-not (rw i at h)
+
+module _ (s : List ℕ) (o : Sound s) (ci row column e : ℕ) where
+  module _ (h : cellVerdict (meaning s ci row column e) ≡ Accepted) where
+    asked : (row < gridRows s) × ((column < gridColumns s) × (e < elementCount s))
+    asked = grid-means s row column e (in-grid s ci row column e h)
+
+    sides : Sides s
+    sides = sides-mean s (sound-lawful s o)
+
+    numbered : (answerTile (meaning s ci row column e) < tileCount s) × (answerInside (meaning s ci row column e) < tileRows s * tileColumns s)
+    unfolding cellInside
+    numbered =
+        let l = located s ci row column e h in
+        let a : 0 < tileRows s = omega (arith, sides .tile-rows .0) in
+        let b : 0 < tileColumns s = omega (arith, sides .tile-columns .0) in
+        rw (l .0, l .1) (tile-less s row column a b (asked .0) (asked .1 .0), inside-less (tileRows s) (tileColumns s) row column a b)
+
+    found :
+        (row ≡ answerTile (meaning s ci row column e) / tilesAcross s * tileRows s + answerInside (meaning s ci row column e) / tileColumns s)
+        × (column ≡ answerTile (meaning s ci row column e) % tilesAcross s * tileColumns s + answerInside (meaning s ci row column e) % tileColumns s)
+    unfolding cellTile cellInside tilesAcross
+    found =
+        let l = located s ci row column e h in
+        rw (l .0, l .1) (found-again (gridColumns s) (tileRows s) (tileColumns s) row column (omega (arith, sides .tile-columns .0)) (asked .1 .0))
+
+  in-record :
+      (cellKind (meaning s ci row column e) ≡ 32) ⊎ (cellKind (meaning s ci row column e) ≡ 34) →
+      InRecord s (answerTile (meaning s ci row column e)) (cellPlace (meaning s ci row column e))
+  unfolding meaning cellBy fillOf cellIn packedCell storedAt locationOf placeIn
+  in-record h = go (inGrid s row column e) refl (meant s (cellTile s row column)) refl
+    where
+      Said : Type 0
+      Said = InRecord s (answerTile (meaning s ci row column e)) (cellPlace (meaning s ci row column e))
+
+      neither : (m : ℕ) → (m ≡ 32 → ⊥) → (m ≡ 34 → ⊥) → (m ≡ 32) ⊎ (m ≡ 34) → Said
+      neither m f k = ⊎-elim (λ x. absurd (f x)) (λ x. absurd (k x))
+
+      go : (c : Bool) → inGrid s row column e ≡ c → (f : Found) → meant s (cellTile s row column) ≡ f → Said
+      go false i f j = neither 10 (λ x. omega arith) (λ x. omega arith) (rw i at h)
+      go true i Nothing j = neither 33 (λ x. omega arith) (λ x. omega arith) (rw (i, j) at h)
+      go true i (At x) j = by (packed s x e) refl (unpackable s ci x e) refl (cellAt (unpackedIn s x e) (cellInside s row column)) refl
+        where
+          here : (at : ℕ) → elementContentAt s x e ≤ at → at ≤ elementContentAt s x e + sectionLength s x e → InRecord s (cellTile s row column) at
+          here at a b =
+              let t = meant-is s (cellTile s row column) x j in
+              let c = content-extent s x e (sound-tile s o (t .among)) (grid-means s row column e i .1 .1) in
+              record { start = x; among = t .among; index = t .index; behind = omega (arith, c .behind); inside = omega (arith, c .next, c .inside) }
+
+          by : (d : Bool) → packed s x e ≡ d → (g : Bool) → unpackable s ci x e ≡ g → (r : Unpacked) → cellAt (unpackedIn s x e) (cellInside s row column) ≡ r → Said
+          by false k g l r m =
+              let d = sides-mean s (sound-lawful s o) in
+              let w = offset-within s row column e (omega (arith, d .tile-rows .0)) (omega (arith, d .tile-columns .0)) in
+              rw (i, j, k) (here (placeIn s x row column e) (omega arith) (omega (arith, whole-least s x e k)))
+          by true k false l r m = neither 11 (λ x. omega arith) (λ x. omega arith) (rw (i, j, k, l) at h)
+          by true k true l out.Malformed m = neither 14 (λ x. omega arith) (λ x. omega arith) (rw (i, j, k, l, m) at h)
+          by true k true l (out.Cell v) m = rw (i, j, k, l, m) (here (elementContentAt s x e) (omega arith) (omega arith))
+
 -- demand 3
 
 pub demand-3 : Demand3
@@ -98,6 +186,10 @@ demand-3 s a ci =
       by-directory = λ row column e. rw a (sound-cells s (accepted-sound s a) ci .through-directory row column e);
       by-walk = λ row column e. rw a (sound-cells s (accepted-sound s a) ci .along-records row column e);
       by-records = λ row column e. rw (passed-bodies s a) (sound-cells s (accepted-sound s a) ci .along-records row column e);
+      located = located s ci;
+      numbered = numbered s (accepted-sound s a) ci;
+      found-again = found s (accepted-sound s a) ci;
+      in-record = in-record s (accepted-sound s a) ci;
       inside = stored-inside s (accepted-sound s a) ci;
       apart = cells-apart s (accepted-sound s a) ci;
     }
@@ -209,22 +301,22 @@ unpacked-where s ci x row column e = go (packed s x e) refl (unpackable s ci x e
         OnlyPacked s ci x row column e
     go false k g l r m =
         record {
-          unpacked = λ v place h. absurd (omega (arith, ap cellKind (rw k at h)));
+          unpacked = λ v place y h. absurd (omega (arith, ap cellKind (rw k at h)));
           malformed = λ y h. absurd (omega (arith, ap cellKind (rw k at h)));
         }
     go true k false l r m =
         record {
-          unpacked = λ v place h. absurd (omega (arith, ap cellKind (rw (k, l) at h)));
+          unpacked = λ v place y h. absurd (omega (arith, ap cellKind (rw (k, l) at h)));
           malformed = λ y h. absurd (omega (arith, ap cellKind (rw (k, l) at h)));
         }
     go true k true l out.Malformed m =
         record {
-          unpacked = λ v place h. absurd (omega (arith, ap cellKind (rw (k, l, m) at h)));
+          unpacked = λ v place y h. absurd (omega (arith, ap cellKind (rw (k, l, m) at h)));
           malformed = λ y h. (k, sym (ap cellPlace (rw (k, l, m) at h)));
         }
     go true k true l (out.Cell v) m =
         record {
-          unpacked = λ w place h. (k, sym (ap cellPlace (rw (k, l, m) at h)));
+          unpacked = λ w place y h. (k, sym (ap cellPlace (rw (k, l, m) at h)));
           malformed = λ y h. absurd (omega (arith, ap cellKind (rw (k, l, m) at h)));
         }
 

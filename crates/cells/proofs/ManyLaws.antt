@@ -16,6 +16,7 @@ use Rattle.wire.proofs.PutLaws.{put-each}
 use Rattle.answer.specs.declared.Refusal.{Refusal}
 use Rattle.answer.specs.declared.Refusal.the-variants.{Directory}
 use Rattle.answer.specs.declared.Value.{Value}
+use Rattle.answer.specs.declared.Location.{Location}
 use Rattle.answer.specs.declared.Cell.{Cell}
 use Rattle.answer.specs.declared.Cell.the-variants as cell
 use Rattle.answer.specs.declared.Held.{Held}
@@ -37,7 +38,7 @@ use Rattle.unpack.proofs.AnswerLaws.{whole-cell}
 use Rattle.page_check.specs.Accepted.{Sound}
 use Rattle.page_check.proofs.AcceptedLaws.{accepted-sound}
 use Rattle.cells.specs.Asked.{inGrid}
-use Rattle.cells.specs.TileCells.{fillOf, packed, unpackable, unpackedIn, unpackedAt, offsetIn, placeIn, storedAt, packedCell, cellIn, cellOf, heldRoom, roomOf, unpackedBits}
+use Rattle.cells.specs.TileCells.{fillOf, packed, unpackable, unpackedIn, unpackedAt, offsetIn, placeIn, storedAt, packedCell, cellIn, cellOf, heldRoom, roomOf, unpackedBits, locationOf}
 use Rattle.cells.specs.Routes.{meant, cellBy, tileBy, referredTo}
 use Rattle.cells.specs.Meaning.{meaning}
 use Rattle.cells.specs.inner.Lookups.{guarded, lookedUp}
@@ -49,37 +50,41 @@ use Rattle.cells.proofs.DemandLaws.{stored-inside, not-whole-cell, cont
 
 -- a cell told from what is held, as the functions below answer
 
-module _ (s : List ℕ) (k at i : ℕ) where
+module _ (s : List ℕ) (k at t i : ℕ) where
   pub stored-in :
-      (o p n : ℕ) (v : Value) → at < length s → o ≡ cellOffset k i → p ≡ at + o → n ≡ numberAt (cellSize k) s (p + 0) → v ≡ valueOf k n → cell.Stored v p ≡ storedFrom s k at i
+      (o p n : ℕ) (v : Value) → at < length s → o ≡ cellOffset k i → p ≡ at + o → n ≡ numberAt (cellSize k) s (p + 0) → v ≡ valueOf k n →
+      cell.Stored v p (record { tile = t; inside = i }) ≡ storedFrom s k at t i
   unfolding storedFrom
-  stored-in o p n v h q t e f =
+  stored-in o p n v h q u e f =
       let z : p + 0 ≡ p = omega arith in
-      let w : p ≡ at + cellOffset k i = t ∙ ap (λ (x : ℕ). at + x) q in
+      let w : p ≡ at + cellOffset k i = u ∙ ap (λ (x : ℕ). at + x) q in
       rw (← yes ((at + 1 ≤? length s) ∷ []) (omega arith, tt), f, e, z, w)
 
-  pub stored-past : length s ≤ at → cell.Refused Directory ≡ storedFrom s k at i
+  pub stored-past : length s ≤ at → cell.Refused Directory ≡ storedFrom s k at t i
   unfolding storedFrom
   stored-past h = rw (← no ((at + 1 ≤? length s) ∷ []) (λ y. omega (arith, y .0)))
 
-module _ (s m : List ℕ) (k f i : ℕ) (x : Held) where
-  pub numbered-stored : {at : ℕ} (r : Cell) → x ≡ held.Stored at → r ≡ storedFrom s k at i → r ≡ numberedCell s k f m i x
+module _ (s m : List ℕ) (k f t i : ℕ) (x : Held) where
+  abbrev here : Location
+  here = record { tile = t; inside = i }
+
+  pub numbered-stored : {at : ℕ} (r : Cell) → x ≡ held.Stored at → r ≡ storedFrom s k at t i → r ≡ numberedCell s k f m t i x
   unfolding numberedCell
   numbered-stored r p e = e ∙ rw p
 
-  pub numbered-unpacked : {at : ℕ} (n : ℕ) (v : Value) → x ≡ held.Unpacked at → n ≡ getD m i 0 → v ≡ valueOf k n → cell.Unpacked v at ≡ numberedCell s k f m i x
+  pub numbered-unpacked : {at : ℕ} (n : ℕ) (v : Value) → x ≡ held.Unpacked at → n ≡ getD m i 0 → v ≡ valueOf k n → cell.Unpacked v at here ≡ numberedCell s k f m t i x
   unfolding numberedCell
-  numbered-unpacked n v p t e = rw (e, t, p)
+  numbered-unpacked n v p q e = rw (e, q, p)
 
-  pub numbered-absent : (v : Value) → x ≡ held.Absent → v ≡ valueOf k f → cell.Fill v ≡ numberedCell s k f m i x
+  pub numbered-absent : (v : Value) → x ≡ held.Absent → v ≡ valueOf k f → cell.Fill v here ≡ numberedCell s k f m t i x
   unfolding numberedCell
   numbered-absent v p e = rw (e, p)
 
-  pub numbered-alone : x ≡ held.Alone → cell.Refused Directory ≡ numberedCell s k f m i x
+  pub numbered-alone : x ≡ held.Alone → cell.Refused Directory ≡ numberedCell s k f m t i x
   unfolding numberedCell
   numbered-alone p = rw p
 
-  pub numbered-refused : {r : Refusal} → x ≡ held.Refused r → cell.Refused r ≡ numberedCell s k f m i x
+  pub numbered-refused : {r : Refusal} → x ≡ held.Refused r → cell.Refused r ≡ numberedCell s k f m t i x
   unfolding numberedCell
   numbered-refused p = rw p
 
@@ -89,9 +94,10 @@ module _ (s : List ℕ) (ci : ℕ) (m : List ℕ) (row column e n : ℕ) (x : He
   told-alone h f = f ∙ rw (eq-eqb (heldKind x) 0 (sym q ∙ h))
 
   pub told-numbered :
-      (k f i : ℕ) → (n ≡ 0 → ⊥) → k ≡ element s e .kind → f ≡ element s e .fill → i ≡ cellInside s row column → r ≡ numberedCell s k f m i x → r ≡ toldBy s ci m row column e x
+      (k f t i : ℕ) → (n ≡ 0 → ⊥) → k ≡ element s e .kind → f ≡ element s e .fill → t ≡ cellTile s row column → i ≡ cellInside s row column →
+      r ≡ numberedCell s k f m t i x → r ≡ toldBy s ci m row column e x
   unfolding toldBy
-  told-numbered k f i h a b c d = d ∙ rw (ne-eqb (heldKind x) 0 (λ z. h (q ∙ z)), a, b, c)
+  told-numbered k f t i h a b u c d = d ∙ rw (ne-eqb (heldKind x) 0 (λ z. h (q ∙ z)), a, b, u, c)
 
 -- on a sound page it is the meaning
 
@@ -111,7 +117,7 @@ module _ (s : List ℕ) (o : Sound s) (ci row column e : ℕ) (m : List ℕ) (g 
   Told x y = toldBy s ci (put m 0 (unpackedBits s e y)) row column e y ≡ cellIn s ci x row column e
 
   by-record : (x : ℕ) → meant s (cellTile s row column) ≡ At x → Told x (heldRoom s ci x e (length m))
-  unfolding cellIn packedCell toldBy numberedCell storedFrom placeIn storedAt offsetIn
+  unfolding cellIn packedCell toldBy numberedCell storedFrom placeIn storedAt offsetIn locationOf
   by-record x j = go (packed s x e) refl (unpackable s ci x e) refl (isWhole (unpackedIn s x e)) refl
     where
       at : ℕ
@@ -119,8 +125,8 @@ module _ (s : List ℕ) (o : Sound s) (ci row column e : ℕ) (m : List ℕ) (g 
 
       go : (p : Bool) → packed s x e ≡ p → (u : Bool) → unpackable s ci x e ≡ u → (w : Bool) → isWhole (unpackedIn s x e) ≡ w → Told x (heldRoom s ci x e (length m))
       go false ep u eu w ew =
-          let q : meaning s ci row column e ≡ storedAt s e (at + offsetIn s row column e) = means (At x) j ∙ rw ep in
-          let l = stored-inside s o ci row column e _ _ q in
+          let q : meaning s ci row column e ≡ storedAt s (locationOf s row column) e (at + offsetIn s row column e) = means (At x) j ∙ rw ep in
+          let l = stored-inside s o ci row column e _ _ _ q in
           let h : at < length s = omega (arith, l, size-range (element s e .kind) .0) in
           rw (room-stored s ci x e (length m) ep, ep, ← yes ((at + 1 ≤? length s) ∷ []) (omega arith, tt))
       go true ep false eu w ew = rw (room-packed s ci x e (length m) ep eu, ep, eu)
@@ -140,7 +146,7 @@ module _ (s : List ℕ) (o : Sound s) (ci row column e : ℕ) (m : List ℕ) (g 
   by-found :
       (f : Found) → meant s (cellTile s row column) ≡ f →
       toldBy s ci (put m 0 (unpackedBits s e (roomOf s ci e (length m) f))) row column e (roomOf s ci e (length m) f) ≡ meaning s ci row column e
-  unfolding toldBy numberedCell fillOf
+  unfolding toldBy numberedCell fillOf locationOf
   by-found Nothing j = sym (means Nothing j)
   by-found (At x) j = by-record x j ∙ sym (means (At x) j)
 
@@ -151,7 +157,7 @@ unfolding heldByDirectory heldCell guarded tileBy toldBy
 sound-holds s o ci tile e m t n =
     record {
       each = λ row column g k. rw (g, sound-lawful s o) (found row column g k);
-      numbered = λ h row column g k. rw (ne-eqb (heldKind x) 0 h) at (found row column g k);
+      numbered = λ h row column g k. rw (ne-eqb (heldKind x) 0 h, k) at (found row column g k);
     }
   where
     x : Held

@@ -9,6 +9,7 @@ use Rattle.wire.specs.Pick.{pick}
 use Rattle.wire.specs.Bytes.{Bytes}
 use Rattle.answer.specs.declared.Refusal.the-variants.{Compressed, Malformed}
 use Rattle.answer.specs.declared.Value.{Value}
+use Rattle.answer.specs.declared.Location.{Location}
 use Rattle.answer.specs.declared.Held.{Held}
 use Rattle.answer.specs.declared.Verdict.the-variants.{Accepted}
 use Rattle.answer.specs.Answers.{cellKind, cellBits, cellVerdict, heldKind, heldVerdict}
@@ -18,7 +19,7 @@ use Rattle.bodies.specs.TileRecord.{elementContentAt}
 use Rattle.geometry.specs.Tiles.{cellTile, cellInside}
 use Rattle.page_check.specs.Stages.{check}
 use Rattle.cells.specs.Asked.{inGrid}
-use Rattle.cells.specs.TileCells.{packed, placeIn, storedAt, cellIn, contentIn, heldBits, heldCount}
+use Rattle.cells.specs.TileCells.{locationOf, packed, placeIn, storedAt, cellIn, contentIn, heldBits, heldCount}
 use Rattle.cells.specs.Meaning.{meaning, heldMeaning}
 
 -- an index above 255 is no content's, so a record says of a cell what document 01 says: 11 at the record's start where it is compressed,
@@ -26,7 +27,7 @@ use Rattle.cells.specs.Meaning.{meaning, heldMeaning}
 abbrev pub OldReads : Type 0
 OldReads =
     (s : List ℕ) (ci x row column e : ℕ) → 255 < ci →
-    cellIn s ci x row column e ≡ pick (packed s x e) (Refused (Compressed x)) (storedAt s e (placeIn s x row column e))
+    cellIn s ci x row column e ≡ pick (packed s x e) (Refused (Compressed x)) (storedAt s (locationOf s row column) e (placeIn s x row column e))
 
 -- 'The content part stays 11': what is said of an element's content has no index
 abbrev pub ContentStays : Type 0
@@ -35,7 +36,7 @@ ContentStays = (s : List ℕ) (x e : ℕ) → packed s x e ≡ true → contentI
 -- only a compressed cell is unpacked, and its place is the start of its element's content; only a compressed cell is 14, at its tile
 -- record's start
 pub record OnlyPacked (s : List ℕ) (ci x row column e : ℕ) : Type 0 where
-  pub unpacked : (v : Value) (place : ℕ) → cellIn s ci x row column e ≡ Unpacked v place → (packed s x e ≡ true) × (place ≡ elementContentAt s x e)
+  pub unpacked : (v : Value) (place : ℕ) (w : Location) → cellIn s ci x row column e ≡ Unpacked v place w → (packed s x e ≡ true) × (place ≡ elementContentAt s x e)
   pub malformed : (y : ℕ) → cellIn s ci x row column e ≡ Refused (Malformed y) → (packed s x e ≡ true) × (y ≡ x)
 
 abbrev pub UnpackedWhere : Type 0

@@ -34,28 +34,29 @@ use Rattle.cells.specs.inner.Lookups.{guarded, lookedUp, lookedUpRoom}
 unfoldable pub heldByDirectory : List ℕ → ℕ → ℕ → ℕ → ℕ → Held
 heldByDirectory s ci tile e room = lookedUpRoom s ci (referredTo s (tileDirectoryAt s)) tile e room
 
--- a stored cell of a type code, by where its element's content starts and its number inside the tile: 9 where that start is past the file
-unfoldable pub storedFrom : List ℕ → ℕ → ℕ → ℕ → Cell
-storedFrom s kind at inside =
+-- a stored cell of a type code, by where its element's content starts, its tile and its number inside that: 9 where that start is past the
+-- file
+unfoldable pub storedFrom : List ℕ → ℕ → ℕ → ℕ → ℕ → Cell
+storedFrom s kind at tile inside =
     pick (passes ((at + 1 ≤? length s) ∷ []))
-    (cell.Stored (valueOf kind (numberAt (cellSize kind) s (at + cellOffset kind inside))) (at + cellOffset kind inside))
+    (cell.Stored (valueOf kind (numberAt (cellSize kind) s (at + cellOffset kind inside))) (at + cellOffset kind inside) (record { tile = tile; inside = inside }))
     (cell.Refused Directory)
 
 -- the cell with a number inside its tile, of an element of a type code and a fill, by what is held, without a look at the grid: stored, from
 -- the memory, the fill, or refused as all are. Cells that are looked up by themselves have no such answer: 9
-unfoldable pub numberedCell : List ℕ → ℕ → ℕ → List ℕ → ℕ → Held → Cell
-numberedCell s kind fill m inside (held.Stored at) = storedFrom s kind at inside
-numberedCell s kind fill m inside (held.Unpacked at) = cell.Unpacked (valueOf kind (getD m inside 0)) at
-numberedCell s kind fill m inside held.Absent = cell.Fill (valueOf kind fill)
-numberedCell s kind fill m inside held.Alone = cell.Refused Directory
-numberedCell s kind fill m inside (held.Refused r) = cell.Refused r
+unfoldable pub numberedCell : List ℕ → ℕ → ℕ → List ℕ → ℕ → ℕ → Held → Cell
+numberedCell s kind fill m tile inside (held.Stored at) = storedFrom s kind at tile inside
+numberedCell s kind fill m tile inside (held.Unpacked at) = cell.Unpacked (valueOf kind (getD m inside 0)) at (record { tile = tile; inside = inside })
+numberedCell s kind fill m tile inside held.Absent = cell.Fill (valueOf kind fill) (record { tile = tile; inside = inside })
+numberedCell s kind fill m tile inside held.Alone = cell.Refused Directory
+numberedCell s kind fill m tile inside (held.Refused r) = cell.Refused r
 
 -- a cell, by what is held: looked up by itself, or by its number inside the tile
 unfoldable pub toldBy : List ℕ → ℕ → List ℕ → ℕ → ℕ → ℕ → Held → Cell
 toldBy s ci m row column e x =
     pick (eqb (heldKind x) 0)
     (lookedUp s ci (referredTo s (tileDirectoryAt s)) row column e)
-    (numberedCell s (element s e .kind) (element s e .fill) m (cellInside s row column) x)
+    (numberedCell s (element s e .kind) (element s e .fill) m (cellTile s row column) (cellInside s row column) x)
 
 -- 10 outside the grid; then 9 where the sides are not lawful
 unfoldable pub heldCell : List ℕ → ℕ → Held → List ℕ → ℕ → ℕ → ℕ → Cell
@@ -67,7 +68,7 @@ pub record Holds (s : List ℕ) (ci tile e : ℕ) (x : Held) (m : List ℕ) : Ty
   pub each : (row column : ℕ) → inGrid s row column e ≡ true → cellTile s row column ≡ tile → heldCell s ci x m row column e ≡ meaning s ci row column e
   pub numbered :
       (heldKind x ≡ 0 → ⊥) → (row column : ℕ) → inGrid s row column e ≡ true → cellTile s row column ≡ tile →
-      numberedCell s (element s e .kind) (element s e .fill) m (cellInside s row column) x ≡ meaning s ci row column e
+      numberedCell s (element s e .kind) (element s e .fill) m tile (cellInside s row column) x ≡ meaning s ci row column e
 
 -- so on an accepted file, whatever memory is lent
 abbrev pub HoldsAccepted : Type 0

@@ -8,6 +8,7 @@ use Rattle.wire.specs.Tests.{_≤?_, _≡?_, _≢?_, is, passes}
 use Rattle.wire.specs.Lists.{below}
 use Rattle.wire.specs.Bytes.{byteAt, part, u32At, numberAt}
 use Rattle.answer.specs.declared.Refusal.the-variants as refusal
+use Rattle.answer.specs.declared.Location.{Location}
 use Rattle.answer.specs.declared.Cell.{Cell}
 use Rattle.answer.specs.declared.Cell.the-variants as cell
 use Rattle.answer.specs.declared.Content.{Content}
@@ -19,16 +20,20 @@ use Rattle.header.specs.Fields.{tileRows, tileColumns}
 use Rattle.header.specs.Element.{floatKind, shortKind, cellSize, element}
 use Rattle.record.specs.declared.Found.{Found}
 use Rattle.record.specs.declared.Found.the-variants.{At, Nothing}
-use Rattle.geometry.specs.Tiles.{cellInside}
+use Rattle.geometry.specs.Tiles.{cellTile, cellInside}
 use Rattle.geometry.specs.Sizes.{cellOffset, elementBytes}
 use Rattle.bodies.specs.TileRecord.{sectionLength, elementContentAt}
 use Rattle.unpack.specs.declared.Unpacked.{Unpacked}
 use Rattle.unpack.specs.declared.Unpacked.the-variants as out
 use Rattle.unpack.specs.Unpack.{Cells, unpacked, cellAt, cellsIn, isWhole}
 
+-- Req 10: where a cell lies: "the tile index and the number inside the tile", by its row and column, never from a record
+unfoldable pub locationOf : List ℕ → ℕ → ℕ → Location
+locationOf s row column = record { tile = cellTile s row column; inside = cellInside s row column }
+
 -- a cell of an absent tile: the element's fill, as it stands
-unfoldable pub fillOf : List ℕ → ℕ → Cell
-fillOf s e = cell.Fill (valueOf (element s e .kind) (element s e .fill))
+unfoldable pub fillOf : List ℕ → Location → ℕ → Cell
+fillOf s w e = cell.Fill (valueOf (element s e .kind) (element s e .fill)) w
 
 -- element e of the tile record at x is compressed: its L is below U
 unfoldable pub packed : List ℕ → ℕ → ℕ → Bool
@@ -42,8 +47,8 @@ unfoldable pub placeIn : List ℕ → ℕ → ℕ → ℕ → ℕ → ℕ
 placeIn s x row column e = elementContentAt s x e + offsetIn s row column e
 
 -- the value that the bytes at a place give, 2 for Short, else 4
-unfoldable pub storedAt : List ℕ → ℕ → ℕ → Cell
-storedAt s e place = cell.Stored (valueOf (element s e .kind) (numberAt (cellSize (element s e .kind)) s place)) place
+unfoldable pub storedAt : List ℕ → Location → ℕ → ℕ → Cell
+storedAt s w e place = cell.Stored (valueOf (element s e .kind) (numberAt (cellSize (element s e .kind)) s place)) place w
 
 -- Req 01: the caller names the compressor index `ci`. A compressed content is unpacked where its first byte, the compressor index
 -- (G 6), is that one, and the element is no Float
@@ -55,21 +60,21 @@ unfoldable pub unpackedIn : List ℕ → ℕ → ℕ → Cells
 unpackedIn s x e = unpacked (part s (elementContentAt s x e) (sectionLength s x e)) (tileRows s) (tileColumns s) (eqb (element s e .kind) shortKind)
 
 -- the cell that comes out, whose place is the start of its element's content; malformed content is 14 at the record's start
-abbrev pub unpackedCell : ℕ → ℕ → ℕ → Unpacked → Cell
-unpackedCell kind x place (out.Cell bits) = cell.Unpacked (valueOf kind bits) place
-unpackedCell kind x place out.Malformed = cell.Refused (refusal.Malformed x)
+abbrev pub unpackedCell : Location → ℕ → ℕ → ℕ → Unpacked → Cell
+unpackedCell w kind x place (out.Cell bits) = cell.Unpacked (valueOf kind bits) place w
+unpackedCell w kind x place out.Malformed = cell.Refused (refusal.Malformed x)
 
 -- any other index, or a Float element, 'is still 11', at the record's start
 unfoldable pub packedCell : List ℕ → ℕ → ℕ → ℕ → ℕ → ℕ → Cell
 packedCell s ci x row column e =
     pick (unpackable s ci x e)
-    (unpackedCell (element s e .kind) x (elementContentAt s x e) (cellAt (unpackedIn s x e) (cellInside s row column)))
+    (unpackedCell (locationOf s row column) (element s e .kind) x (elementContentAt s x e) (cellAt (unpackedIn s x e) (cellInside s row column)))
     (cell.Refused (refusal.Compressed x))
 
 -- the cell, as the tile record at x has it: compressed as above, else it is stored, even if its bits are the fill's
 unfoldable pub cellIn : List ℕ → ℕ → ℕ → ℕ → ℕ → ℕ → Cell
 cellIn s ci x row column e =
-    pick (packed s x e) (packedCell s ci x row column e) (storedAt s e (placeIn s x row column e))
+    pick (packed s x e) (packedCell s ci x row column e) (storedAt s (locationOf s row column) e (placeIn s x row column e))
 
 -- the uncompressed content of element e there: its U bytes
 unfoldable pub contentIn : List ℕ → ℕ → ℕ → Content
@@ -78,7 +83,7 @@ contentIn s x e =
 
 -- what a tile says of a cell: by its record where one was found, and else by the fill
 abbrev pub cellOf : List ℕ → ℕ → ℕ → ℕ → ℕ → Found → Cell
-cellOf s ci row column e Nothing = fillOf s e
+cellOf s ci row column e Nothing = fillOf s (locationOf s row column) e
 cellOf s ci row column e (At x) = cellIn s ci x row column e
 
 -- and of an element's content

@@ -6,6 +6,7 @@ use crate::reads;
 use crate::tile_cells;
 use answer::Cell;
 use answer::Held;
+use answer::Location;
 use answer::Refusal;
 use geometry::sizes;
 use geometry::tiles;
@@ -15,15 +16,19 @@ ghost use mathlib.Core.Bool.{true};
 ghost use Rattle.cells.specs.inner.Lookups.{sidesLawful};
 ghost use Rattle.cells.specs.Many.{storedFrom, numberedCell, toldBy, heldCell};
 
-// A stored cell, by where its element's content starts and its number inside the tile: 9 where that start is past the file.
-fn stored_from(s: &[u8], kind: u32, at: usize, inside: u32) -> Cell
-    ensures { λ r. ⌜ r ≡ storedFrom (now (s .entry)) kind at inside ⌝ }
+// A stored cell, by where its element's content starts, its tile and its number inside that: 9 where that start is past the file.
+fn stored_from(s: &[u8], kind: u32, at: usize, tile: u64, inside: u32) -> Cell
+    ensures { λ r. ⌜ r ≡ storedFrom (now (s .entry)) kind at tile inside ⌝ }
 {
     if at < s.len() {
         let place = at + sizes::cell_offset(kind, inside) as usize;
         return Cell::Stored {
             value: answer::value_of(kind, tile_cells::bits_at(s, kind, place, 0)),
             place,
+            location: Location {
+                tile,
+                inside: inside as u64,
+            },
         };
     }
     Cell::Refused(Refusal::Directory)
@@ -37,18 +42,25 @@ pub fn numbered_cell(
     fill: u32,
     held: Held,
     memory: &[u32],
+    tile: u64,
     inside: u32,
 ) -> Cell
-    ensures { λ r. ⌜ r ≡ numberedCell (now (s .entry)) kind fill (now (memory .entry)) inside held ⌝ }
+    ensures { λ r. ⌜ r ≡ numberedCell (now (s .entry)) kind fill (now (memory .entry)) tile inside held ⌝ }
 {
+    let location = Location {
+        tile,
+        inside: inside as u64,
+    };
     match held {
-        Held::Stored(at) => stored_from(s, kind, at, inside),
+        Held::Stored(at) => stored_from(s, kind, at, tile, inside),
         Held::Unpacked(at) => Cell::Unpacked {
             value: answer::value_of(kind, wire::number_in(memory, inside as usize)),
             place: at,
+            location,
         },
         Held::Absent => Cell::Fill {
             value: answer::value_of(kind, fill),
+            location,
         },
         Held::Alone => Cell::Refused(Refusal::Directory),
         Held::Refused(r) => Cell::Refused(r),
@@ -72,8 +84,9 @@ fn told_by(
         return reads::cell_of_accepted(s, compressor, row as u64, column as u64, e as u64);
     }
     let x = entries::element(s, e as usize);
+    let tile = tiles::cell_tile(s, row, column);
     let inside = tiles::cell_inside(s, row, column) as u32;
-    numbered_cell(s, x.kind, x.fill, held, memory, inside)
+    numbered_cell(s, x.kind, x.fill, held, memory, tile, inside)
 }
 
 // Any cell: 10 outside the grid, then 9 where the sides do not keep stages 3 and 4.

@@ -1,6 +1,7 @@
 // What a tile record says of a cell or of an element, and the fill of an absent tile.
 use answer::Cell;
 use answer::Content;
+use answer::Location;
 use answer::Refusal;
 use bodies::tile_record;
 use geometry::sizes;
@@ -19,7 +20,7 @@ ghost use Rattle.geometry.specs.Tiles.{cellInside};
 ghost use Rattle.bodies.specs.TileRecord.{sectionAt, sectionLength, elementContentAt, longestSection};
 ghost use Rattle.check_header.specs.Ceilings.{mostTileSide};
 ghost use Rattle.unpack.specs.Unpack.{cellAt};
-ghost use Rattle.cells.specs.TileCells.{packed, offsetIn, placeIn, storedAt, unpackable, unpackedIn, packedCell, cellIn, fillOf, contentIn};
+ghost use Rattle.cells.specs.TileCells.{locationOf, packed, offsetIn, placeIn, storedAt, unpackable, unpackedIn, packedCell, cellIn, fillOf, contentIn};
 ghost use Rattle.cells.specs.inner.Lookups.{sidesLawful, cellReached, contentReached};
 
 // The type code of element e, without the rest of its entry.
@@ -48,6 +49,15 @@ pub(crate) fn is_packed(s: &[u8], x: usize, e: u32) -> bool
         return true;
     }
     false
+}
+
+// Where a cell lies: its tile, and its number inside the tile.
+pub(crate) fn location_of(s: &[u8], row: u32, column: u32) -> Location
+    ensures { λ r. ⌜ r ≡ locationOf (now (s .entry)) row column ⌝ }
+{
+    let tile = tiles::cell_tile(s, row, column);
+    let inside = tiles::cell_inside(s, row, column);
+    Location { tile, inside }
 }
 
 // Where a cell starts in its element's content.
@@ -79,13 +89,14 @@ pub(crate) fn bits_at(s: &[u8], kind: u32, at: usize, d: usize) -> u32
 }
 
 // The cell that is stored there.
-pub(crate) fn stored_at(s: &[u8], e: u32, place: usize) -> Cell
-    ensures { λ r. ⌜ r ≡ storedAt (now (s .entry)) e place ⌝ }
+pub(crate) fn stored_at(s: &[u8], location: Location, e: u32, place: usize) -> Cell
+    ensures { λ r. ⌜ r ≡ storedAt (now (s .entry)) location e place ⌝ }
 {
     let kind = kind_of(s, e);
     Cell::Stored {
         value: answer::value_of(kind, bits_at(s, kind, place, 0)),
         place,
+        location,
     }
 }
 
@@ -143,6 +154,7 @@ fn packed_cell(s: &[u8], compressor: u32, x: usize, row: u32, column: u32, e: u3
             Unpacked::Cell(bits) => Cell::Unpacked {
                 value: answer::value_of(kind_of(s, e), bits),
                 place: section(s, x, e) + 4,
+                location: location_of(s, row, column),
             },
             Unpacked::Malformed => Cell::Refused(Refusal::Malformed(x)),
         };
@@ -158,18 +170,20 @@ fn cell_in(s: &[u8], compressor: u32, x: usize, row: u32, column: u32, e: u32) -
     if is_packed(s, x, e) {
         return packed_cell(s, compressor, x, row, column, e);
     }
-    stored_at(s, e, place_in(s, x, row, column, e))
+    let location = location_of(s, row, column);
+    stored_at(s, location, e, place_in(s, x, row, column, e))
 }
 
 // A cell of an absent tile.
-pub(crate) fn fill_of(s: &[u8], e: u32) -> Cell
-    ensures { λ r. ⌜ r ≡ fillOf (now (s .entry)) e ⌝ }
+pub(crate) fn fill_of(s: &[u8], location: Location, e: u32) -> Cell
+    ensures { λ r. ⌜ r ≡ fillOf (now (s .entry)) location e ⌝ }
 {
     let x = entries::element(s, e as usize);
     let kind = x.kind;
     let fill = x.fill;
     Cell::Fill {
         value: answer::value_of(kind, fill),
+        location,
     }
 }
 
@@ -201,7 +215,7 @@ pub(crate) fn cell_reached(
     ensures { λ r. ⌜ r ≡ cellReached (now (s .entry)) compressor row column e found ⌝ }
 {
     match found {
-        Found::Nothing => fill_of(s, e),
+        Found::Nothing => fill_of(s, location_of(s, row, column), e),
         Found::At(x) => {
             if x < s.len() {
                 return cell_in(s, compressor, x, row, column, e);

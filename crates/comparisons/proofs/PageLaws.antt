@@ -15,7 +15,7 @@ use Rattle.answer.specs.declared.Refusal.{Refusal}
 use Rattle.answer.specs.declared.Verdict.{Verdict}
 use Rattle.answer.specs.declared.Verdict.the-variants as verdict
 use Rattle.answer.specs.Refusals.{unlessRefused}
-use Rattle.store.specs.Face.{gridRows, gridColumns, tileRows, tileColumns, elementCount, element, check, meaning}
+use Rattle.store.specs.Face.{gridRows, gridColumns, tileRows, tileColumns, elementCount, element, check, meaning, SameGrid}
 use Rattle.row_lists.specs.Entries.{countIn}
 use Rattle.comparisons.specs.declared.Comparison.{Comparison}
 use Rattle.comparisons.specs.declared.Comparison.the-variants.{Count, First, Second, Unlike}
@@ -54,6 +54,9 @@ module _ (s t : List ℕ) where
         elements = h .1 .1 .1 .1 .0;
         types = λ i k. eqb-true (element s i .kind) (element t i .kind) (below-each (elementCount s) (kindAlike s t) (h .1 .1 .1 .1 .1 .0) i k);
       }
+
+  pub shape-grid : EqualShape s t → SameGrid s t
+  shape-grid h = record { rows = h .rows; columns = h .columns; tile-rows = h .tile-rows; tile-columns = h .tile-columns }
 
   pub means-alike : EqualShape s t → true ≡ alike s t
   unfolding alike

@@ -1,6 +1,6 @@
 -- What an answer tells of two pages. Assumes nothing.
 use Prim.Native.Nat.{ℕ, zero, suc, _+_, _<_}
-use mathlib.Core.Path.{_≡_, refl, sym, ap, _∙_}
+use mathlib.Core.Path.{_≡_, refl, sym, ap, ap₂, _∙_}
 use mathlib.Core.List.{List}
 use mathlib.Core.Bool.{Bool, true, false}
 use native.Mathlib.Omega.{arith}
@@ -14,18 +14,20 @@ use Rattle.answer.specs.declared.Cell.{Cell}
 use Rattle.answer.specs.Refusals.{unlessRefused}
 use Rattle.answer.specs.Answers.{cellVerdict}
 use Rattle.store.specs.Face.{gridRows, gridColumns, elementCount, check, meaning}
+use Rattle.store.proofs.PieceLaws.{same-cell, same-inside}
 use Rattle.blocks.proofs.FoldLaws.{sums}
 use Rattle.blocks.proofs.InsideLaws.{inside-each, inside-none, inside-first-at}
-use Rattle.row_lists.specs.Entries.{countIn, listed}
+use Rattle.row_lists.specs.Entries.{Entry, Tiling, countIn, listed}
 use Rattle.row_lists.proofs.EntryLaws.{count-is, lists-each-once, swapped-same}
+use Rattle.row_lists.proofs.ListedLaws.{same-tiling}
 use Rattle.comparisons.specs.declared.Comparison.{Comparison}
 use Rattle.comparisons.specs.declared.Comparison.the-variants.{Count, First, Second, Unlike}
 use Rattle.comparisons.specs.declared.Halt.{Halt}
 use Rattle.comparisons.specs.declared.Halt.the-variants as halt
-use Rattle.comparisons.specs.Comparisons.{alike, differAt, joinHalt, cellHalt, haltAt, haltIn, unlessHalted, comparedIn, comparedPages, comparison, differingCells}
+use Rattle.comparisons.specs.Comparisons.{alike, differAt, joinHalt, cellHalt, haltAt, haltIn, unlessHalted, comparedIn, comparedPages, comparison, differingCells, tilingOf}
 use Rattle.comparisons.specs.Sound.{CellsOnce, ComparedOnce, Swapped, Same, EqualShape, ReadBefore, RefusedInOrder}
 use Rattle.comparisons.proofs.CellLaws.{differ-swapped, differ-same, halts, halt-stays, halts-none, halt-first, halt-second, halt-none, first-not, second-not, none-halts, halt-here, halt-nowhere, halt-each}
-use Rattle.comparisons.proofs.PageLaws.{haltOf, countOf, alike-means, means-alike, not-alike, compared-first, compared-second, compared-unlike, compared-alike, counted-pages}
+use Rattle.comparisons.proofs.PageLaws.{haltOf, countOf, alike-means, shape-grid, means-alike, not-alike, compared-first, compared-second, compared-unlike, compared-alike, counted-pages}
 
 -- an answer that is a number
 
@@ -156,6 +158,12 @@ cells-swapped s k t j h =
     (swapped-same (differAt (meaning t j) (meaning s k)) (differAt (meaning s k) (meaning t j)) (elementCount s) (gridRows s) (gridColumns s)
     (λ r c e i l m. differ-at-swapped (meaning t j) (meaning s k) r c e))
 
+tiles-swapped : (s t : List ℕ) → EqualShape s t → tilingOf t ≡ tilingOf s
+unfolding tilingOf
+tiles-swapped s t h =
+    let g = shape-grid s t h in
+    same-tiling (tilingOf t) (tilingOf s) (λ r c. sym (same-cell s t g r c)) (λ r c. sym (same-inside s t g r c))
+
 pub swapped : Swapped
 unfolding unlessHalted
 swapped s k t j n e =
@@ -169,7 +177,7 @@ swapped s k t j n e =
           let x = each-read s k t j (c .read) r d m (omega (arith, h .rows)) (omega (arith, h .columns)) (omega (arith, h .elements)) in
           (x .1, x .0)))
           ∙ ap Count (ap length w ∙ sym (c .number));
-      list = λ room. ap (listed room) w;
+      list = λ room. ap₂ (λ (v : Tiling) (l : List Entry). listed v room l) (tiles-swapped s t h) w;
     }
 
 -- a page against itself

@@ -14,9 +14,9 @@ use Rattle.answer.specs.declared.Verdict.the-variants as verdict
 use Rattle.answer.specs.declared.Cell.{Cell}
 use Rattle.answer.specs.Refusals.{refusalNumber, refusalPlace, unlessRefused}
 use Rattle.answer.specs.Answers.{cellKind, cellBits, cellVerdict}
-use Rattle.store.specs.Face.{gridRows, gridColumns, tileRows, tileColumns, elementCount, element, check, meaning}
+use Rattle.store.specs.Face.{gridRows, gridColumns, tileRows, tileColumns, elementCount, element, cellTile, cellInside, check, meaning}
 use Rattle.blocks.specs.Folds.{foldBelow, foldInside}
-use Rattle.row_lists.specs.Entries.{Entry, differingIn, countIn, listed}
+use Rattle.row_lists.specs.Entries.{Entry, Tiling, differingIn, countIn, listed}
 use Rattle.comparisons.specs.declared.Comparison.{Comparison}
 use Rattle.comparisons.specs.declared.Comparison.the-variants.{Count, First, Second, Unlike}
 use Rattle.comparisons.specs.declared.Halt.{Halt}
@@ -87,9 +87,13 @@ comparison s k t j =
 unfoldable pub differingCells : List ℕ → ℕ → List ℕ → ℕ → List Entry
 differingCells s k t j = differingIn (differAt (meaning s k) (meaning t j)) (elementCount s) 0 (gridRows s) 0 (gridColumns s)
 
+-- the tile of a cell and its number inside, in the first page; the second is cut into tiles alike
+unfoldable pub tilingOf : List ℕ → Tiling
+tilingOf s = record { tile = cellTile s; inside = cellInside s }
+
 -- "The list buffer takes the earliest entries that fit whole": what is written into one of `room` numbers; of a refused call nothing is
 abbrev pub written : List ℕ → ℕ → List ℕ → ℕ → ℕ → Comparison → List ℕ
-written s k t j room (Count n) = listed room (differingCells s k t j)
+written s k t j room (Count n) = listed (tilingOf s) room (differingCells s k t j)
 written s k t j room (First r) = []
 written s k t j room (Second r) = []
 written s k t j room Unlike = []

@@ -38,7 +38,7 @@ use Rattle.page_check.specs.Accepted.{Sound}
 use Rattle.page_check.proofs.GivenLaws.{sound-range, sound-tile}
 use Rattle.cells.specs.Asked.{inGrid}
 use Rattle.cells.specs.Routes.{meant, cellBy}
-use Rattle.cells.specs.TileCells.{fillOf, packed, offsetIn, placeIn, storedAt, unpackable, unpackedIn, unpackedCell, packedCell, cellIn, cellOf}
+use Rattle.cells.specs.TileCells.{locationOf, fillOf, packed, offsetIn, placeIn, storedAt, unpackable, unpackedIn, unpackedCell, packedCell, cellIn, cellOf}
 use Rattle.cells.specs.Meaning.{meaning}
 use Rattle.cells.proofs.CellLaws.{grid-means}
 use Rattle.cells.proofs.ReadLaws.{sound-cells}
@@ -129,7 +129,7 @@ packed-is : (s : List ℕ) (x e : ℕ) → sectionLength s x e < elementBytes s 
 unfolding packed
 packed-is s x e h = sym (yes _ (omega arith, tt))
 
-whole-in : (s : List ℕ) (ci x row column e : ℕ) → elementBytes s e ≤ sectionLength s x e → cellIn s ci x row column e ≡ storedAt s e (placeIn s x row column e)
+whole-in : (s : List ℕ) (ci x row column e : ℕ) → elementBytes s e ≤ sectionLength s x e → cellIn s ci x row column e ≡ storedAt s (locationOf s row column) e (placeIn s x row column e)
 unfolding cellIn
 whole-in s ci x row column e h = rw (whole-is s x e h)
 
@@ -180,6 +180,10 @@ module _ (s t : List ℕ) (o : Sound s) (q : Sound t) (j : SameJudged s t) (row 
   unfolding offsetIn
   offset-too = rw (number-too, element-too)
 
+  location-too : locationOf s row column ≡ locationOf t row column
+  unfolding locationOf
+  location-too = rw (tile-too, number-too)
+
   size-too : elementBytes s e ≡ elementBytes t e
   size-too = header .sizes e asked
 
@@ -201,9 +205,9 @@ module _ (s t : List ℕ) (o : Sound s) (q : Sound t) (j : SameJudged s t) (row 
       go Nothing i z = i
       go (At x) i z = absurd (contents-some t x (omega (arith, asked-too)) z)
 
-  filled : (ci : ℕ) → tileAt t (cellTile s row column) ≡ Nothing → meaning t ci row column e ≡ fillOf s e
+  filled : (ci : ℕ) → tileAt t (cellTile s row column) ≡ Nothing → meaning t ci row column e ≡ fillOf s (locationOf s row column) e
   unfolding fillOf
-  filled ci h = meant-too ci ∙ ap (cellOf t ci row column e) h ∙ rw (← element-too) refl
+  filled ci h = meant-too ci ∙ ap (cellOf t ci row column e) h ∙ rw (← element-too, ← location-too) refl
 
   -- one that is: its record, and the element's content there
   record Stands (c : List ℕ) : Type 0 where
@@ -242,9 +246,10 @@ module _ (s t : List ℕ) (o : Sound s) (q : Sound t) (j : SameJudged s t) (row 
         (ci : ℕ) → elementBytes s e ≤ length c →
         meaning t ci row column e
         ≡ cell.Stored (valueOf (element s e .kind) (numberAt (cellSize (element s e .kind)) c (offsetIn s row column e))) (elementContentAt t x e + offsetIn s row column e)
+        (locationOf s row column)
     unfolding storedAt placeIn
     stored-by ci l =
-        read-in ci ∙ whole-in t ci x row column e (omega (arith, size-too, long-is)) ∙ rw (← element-too, ← offset-too, bits-in l) refl
+        read-in ci ∙ whole-in t ci x row column e (omega (arith, size-too, long-is)) ∙ rw (← element-too, ← offset-too, ← location-too, bits-in l) refl
 
     -- compressed, it says what its bytes say
     unpackable-by : (ci : ℕ) → unpackable t ci x e ≡ canUnpack (element s e .kind) ci c
@@ -264,13 +269,13 @@ module _ (s t : List ℕ) (o : Sound s) (q : Sound t) (j : SameJudged s t) (row 
         (ci : ℕ) → length c < elementBytes s e →
         meaning t ci row column e
         ≡ pick (canUnpack (element s e .kind) ci c)
-        (unpackedCell (element s e .kind) x (elementContentAt t x e)
+        (unpackedCell (locationOf s row column) (element s e .kind) x (elementContentAt t x e)
         (cellAt (unpacked c (tileRows s) (tileColumns s) (eqb (element s e .kind) shortKind)) (cellInside s row column)))
         (cell.Refused (refusal.Compressed x))
     unfolding packedCell
     packed-by ci h =
         read-in ci ∙ packed-in t ci x row column e (omega (arith, size-too, long-is))
-        ∙ rw (unpackable-by ci, unpacked-by, ← element-too, ← number-too) refl
+        ∙ rw (unpackable-by ci, unpacked-by, ← element-too, ← number-too, ← location-too) refl
 
     cell-by : (ci : ℕ) → meaning t ci row column e ≡ cellFrom s ci c x (elementContentAt t x e) row column e
     unfolding cellFrom

@@ -23,7 +23,7 @@ use Rattle.answer.specs.declared.Verdict.the-variants.{Accepted}
 use Rattle.unpack.specs.Unpack.{cellAt, unpacked}
 use Rattle.page_check.specs.Stages.{check}
 use Rattle.cells.specs.Asked.{inGrid}
-use Rattle.cells.specs.TileCells.{fillOf, offsetIn, unpackedCell}
+use Rattle.cells.specs.TileCells.{locationOf, fillOf, offsetIn, unpackedCell}
 use Rattle.cells.specs.Meaning.{meaning}
 use Rattle.cells.specs.Demand3.{OneAnswer, OneMeaning}
 use Rattle.correct.specs.Front.{pageIn}
@@ -46,9 +46,10 @@ canUnpack kind ci c = passes ((ci ≤? 255) ∷ (byteAt c 0 ≡? ci) ∷ (kind �
 unfoldable pub cellFrom : List ℕ → ℕ → List ℕ → ℕ → ℕ → ℕ → ℕ → ℕ → Cell
 cellFrom s ci c x at row column e =
     pick (leb (elementBytes s e) (length c))
-    (cell.Stored (valueOf (element s e .kind) (numberAt (cellSize (element s e .kind)) c (offsetIn s row column e))) (at + offsetIn s row column e))
+    (cell.Stored (valueOf (element s e .kind) (numberAt (cellSize (element s e .kind)) c (offsetIn s row column e))) (at + offsetIn s row column e)
+    (locationOf s row column))
     (pick (canUnpack (element s e .kind) ci c)
-    (unpackedCell (element s e .kind) x at (cellAt (unpacked c (tileRows s) (tileColumns s) (eqb (element s e .kind) shortKind)) (cellInside s row column)))
+    (unpackedCell (locationOf s row column) (element s e .kind) x at (cellAt (unpacked c (tileRows s) (tileColumns s) (eqb (element s e .kind) shortKind)) (cellInside s row column)))
     (cell.Refused (Compressed x)))
 
 -- a cell of a tile that the map has: the tile's record stands in t, and the map's bytes say what the cell is
@@ -62,7 +63,7 @@ pub record ReadsAs (s t : List ℕ) (named : ℕ → Bool) (tiles : ℕ → List
   -- outside the grid: 10
   pub outside : inGrid s row column e ≡ false → meaning t ci row column e ≡ cell.Refused OutsideGrid
   -- a tile that the map has not: the element's fill
-  pub fill : inGrid s row column e ≡ true → tiles (cellTile s row column) ≡ [] → meaning t ci row column e ≡ fillOf s e
+  pub fill : inGrid s row column e ≡ true → tiles (cellTile s row column) ≡ [] → meaning t ci row column e ≡ fillOf s (locationOf s row column) e
   -- a tile that it has
   pub held : inGrid s row column e ≡ true → (tiles (cellTile s row column) ≡ [] → ⊥) → HeldAs s t tiles ci row column e
   -- a tile that no call names: as it was, value, place and refusal

@@ -77,11 +77,11 @@ unfolding cellsOf
 answered-cell s ci a p h m r c x e n i = e ∙ n .each r c i
 
 pub numbered-tally :
-    (s : List ℕ) (ci : ℕ) (a : Rectangle) (h : Held) (m : List ℕ) (rule : Rule) (kind fill start r left right : ℕ) (t : Tally) →
-    t ≡ numberedTally rule s kind fill h m start (right - left) → Numbered s ci a h m kind fill start r left right →
+    (s : List ℕ) (ci : ℕ) (a : Rectangle) (h : Held) (m : List ℕ) (rule : Rule) (kind fill tile start r left right : ℕ) (t : Tally) →
+    t ≡ numberedTally rule s kind fill h m tile start (right - left) → Numbered s ci a h m kind fill tile start r left right →
     t ≡ tallyIn rule r (r + 1) left right (cellsOf s ci (a .e) (a .row) (a .column))
 unfolding numberedTally tallyIn cellsOf
-numbered-tally s ci a h m rule kind fill start r left right t e n =
+numbered-tally s ci a h m rule kind fill tile start r left right t e n =
     e
     ∙ inside-moved joinTally (fillTally 0) 0 1 0 (right - left) r (r + 1) left right _ _ (omega arith) (omega arith)
     (λ i k u v.

@@ -26,11 +26,11 @@ abbrev pub row : ℕ → ℕ → ℕ → ℕ → List ℕ → Row
 row r c m n l = record { first-row = r; first-column = c; rows = m; columns = n; says = l }
 
 abbrev score : ℤ → Cell
-score z = Stored (Short z) 0
+score z = Stored (Short z) 0 (record { tile = 0; inside = 0 })
 
 -- a fill value that could be a score
 abbrev fill : Cell
-fill = Fill (Short (pos 950))
+fill = Fill (Short (pos 950)) (record { tile = 0; inside = 0 })
 
 -- 3 by 4 cells in tiles of 2 by 2, of which tile 2 is absent
 abbrev page : List (List Cell)

@@ -40,9 +40,9 @@ joinTally a b =
 unfoldable pub tallyIn : Rule → ℕ → ℕ → ℕ → ℕ → (ℕ → ℕ → Cell) → Tally
 tallyIn rule top bottom left right f = foldInside joinTally (fillTally 0) top bottom left right (λ r c. cellTally rule (f r c))
 
--- n cells by their numbers inside a tile, from `start` on (`numberedCell` of `cells`)
-unfoldable pub numberedTally : Rule → List ℕ → ℕ → ℕ → Held → List ℕ → ℕ → ℕ → Tally
-numberedTally rule s kind fill x m start n = tallyIn rule 0 1 0 n (λ r c. numberedCell s kind fill m (start + c) x)
+-- n cells of a tile by their numbers inside it, from `start` on (`numberedCell` of `cells`)
+unfoldable pub numberedTally : Rule → List ℕ → ℕ → ℕ → Held → List ℕ → ℕ → ℕ → ℕ → Tally
+numberedTally rule s kind fill x m tile start n = tallyIn rule 0 1 0 n (λ r c. numberedCell s kind fill m tile (start + c) x)
 
 -- what is counted, unless it is refused
 unfoldable pub judgedBy : Verdict → Tally → Judged

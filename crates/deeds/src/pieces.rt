@@ -51,7 +51,7 @@ fn look_up_row(
     t
 }
 
-// n cells by their numbers inside the tile, from `start` on.
+// n cells of a tile by their numbers inside it, from `start` on.
 fn tell_row(
     file: &[u8],
     held: Held,
@@ -59,16 +59,17 @@ fn tell_row(
     rule: Rule,
     kind: u32,
     fill: u32,
+    tile: u64,
     start: u64,
     n: u64,
 ) -> Tally
     requires { ⌜ (start + n ≤ 4294967296) × (n ≤ mostGridSide) ⌝ }
-    ensures { λ t. ⌜ t ≡ numberedTally rule (now (file .entry)) kind fill held (now (memory .entry)) start n ⌝ }
+    ensures { λ t. ⌜ t ≡ numberedTally rule (now (file .entry)) kind fill held (now (memory .entry)) tile start n ⌝ }
 {
     let mut t = tally::of_fills(0);
     let mut c = 0;
     while c < n {
-        let x = many::numbered_cell(file, kind, fill, held, memory, (start + c) as u32);
+        let x = many::numbered_cell(file, kind, fill, held, memory, tile, (start + c) as u32);
         t = tally::join(t, tally::of_cell(rule, x));
         c += 1;
     }
@@ -101,7 +102,7 @@ fn tally_row(
         return look_up_row(file, compressor, held, memory, a, rule, p, r);
     }
     let n = p.right - p.left;
-    tell_row(file, held, memory, rule, kind, fill, start, n)
+    tell_row(file, held, memory, rule, kind, fill, p.tile, start, n)
 }
 
 // The rows of a piece.

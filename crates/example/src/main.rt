@@ -4,6 +4,7 @@
 // elements, cells and contents. It lists the crates `deeds`, `store` and `answer`, and none below them.
 use answer::Cell;
 use answer::Content;
+use answer::Location;
 use answer::Lookup;
 use answer::Refusal;
 use deeds::Deed;
@@ -110,11 +111,15 @@ fn print_specification(label: &[u8], file: &[u8], e: u64) {
             fill,
             name,
             name_length,
+            unit,
+            unit_length,
         } => {
             print(b"type ", kind as u64);
             print(b", fill ", fill as u64);
             print(b", name at ", name as u64);
             print(b", bytes ", name_length as u64);
+            print(b", unit at ", unit as u64);
+            print(b", bytes ", unit_length as u64);
         }
         Specified::Refused(r) => print_refusal(r),
     }
@@ -134,19 +139,38 @@ fn print_element(label: &[u8], file: &[u8], name: &[u8]) {
     io::write_all(STDOUT_FILENO, b"\n");
 }
 
+// The tile of a cell, and the cell's number inside it.
+fn print_location(x: Location) {
+    print(b", tile ", x.tile);
+    print(b", number ", x.inside);
+}
+
 // A value by its bits, and a refusal by its number.
 fn print_cell(label: &[u8], x: Cell) {
     io::write_all(STDOUT_FILENO, label);
     match x {
-        Cell::Stored { value, place } => {
+        Cell::Stored {
+            value,
+            place,
+            location,
+        } => {
             print(b"stored ", answer::value_bits(value) as u64);
             print(b" at ", place as u64);
+            print_location(location);
         }
-        Cell::Unpacked { value, place } => {
+        Cell::Unpacked {
+            value,
+            place,
+            location,
+        } => {
             print(b"unpacked ", answer::value_bits(value) as u64);
             print(b" at ", place as u64);
+            print_location(location);
         }
-        Cell::Fill { value } => print(b"fill ", answer::value_bits(value) as u64),
+        Cell::Fill { value, location } => {
+            print(b"fill ", answer::value_bits(value) as u64);
+            print_location(location);
+        }
         Cell::Refused(r) => print_refusal(r),
     }
     io::write_all(STDOUT_FILENO, b"\n");

@@ -58,22 +58,24 @@ inside-along s row x y p h k e =
     let m : y / w * w ≡ x / w * w = ap (λ (n : ℕ). n * w) q in
     omega (arith, m, div-add-mod' x w, div-add-mod' y w)
 
--- the tile and the number inside it fix the cell
+-- the row and the column of a cell, from its tile and its number inside it
+pub found-again :
+    (columns h w r c : ℕ) → 0 < w → c < columns →
+    (r ≡ tileIn columns h w r c / tilesAlong columns w * h + insideOf h w r c / w) × (c ≡ tileIn columns h w r c % tilesAlong columns w * w + insideOf h w r c % w)
+unfolding tileIn tileOf insideOf
+found-again columns h w r c p k =
+    let a = along-less columns w c p k in
+    let i = mod-lt c p in
+    (sym (rw (row-of _ (r / h) _ a, row-of w (r % h) _ i) (div-add-mod' r h)), sym (rw (column-of _ (r / h) _ a, column-of w (r % h) _ i) (div-add-mod' c w)))
+
+-- so these two fix the cell
 pub one-cell :
     (columns h w r c r2 c2 : ℕ) → 0 < w → c < columns → c2 < columns → tileIn columns h w r c ≡ tileIn columns h w r2 c2 →
     insideOf h w r c ≡ insideOf h w r2 c2 → (r ≡ r2) × (c ≡ c2)
-unfolding tileIn tileOf insideOf
 one-cell columns h w r c r2 c2 p k l e f =
-    let n = tilesAlong columns w in
-    let a = along-less columns w c p k in
-    let b = along-less columns w c2 p l in
-    let rq : r / h ≡ r2 / h = sym (row-of n _ _ a) ∙ ap (λ (x : ℕ). x / n) e ∙ row-of n _ _ b in
-    let cq : c / w ≡ c2 / w = one-column columns h w r c r2 c2 p k l e in
-    let i = mod-lt c p in
-    let j = mod-lt c2 p in
-    let rr : r % h ≡ r2 % h = sym (row-of w _ _ i) ∙ ap (λ (x : ℕ). x / w) f ∙ row-of w _ _ j in
-    let cr : c % w ≡ c2 % w = sym (column-of w _ _ i) ∙ ap (λ (x : ℕ). x % w) f ∙ column-of w _ _ j in
-    (same-index h r r2 rq rr, same-index w c c2 cq cr)
+    let a = found-again columns h w r c p k in
+    let b = found-again columns h w r2 c2 p l in
+    (a .0 ∙ rw (e, f) (sym (b .0)), a .1 ∙ rw (e, f) (sym (b .1)))
 
 -- the tile of a cell of the grid is one of its tiles
 pub tile-less : (s : List ℕ) (row column : ℕ) → 0 < tileRows s → 0 < tileColumns s → row < gridRows s → column < gridColumns s → cellTile s row column < tileCount s

@@ -69,10 +69,10 @@ module _ (x : Described) where
 -- the same of an element
 module _ (x : Specified) where
   pub element-told :
-      (kind fill name n : ℕ) → x ≡ specified-as.Element kind fill name n → kind ∷ fill ∷ name ∷ n ∷ [] ≡ elementNumbers x
-  element-told kind fill name n e = rw e
+      (kind fill name n unit u : ℕ) → x ≡ specified-as.Element kind fill name n unit u → kind ∷ fill ∷ name ∷ n ∷ unit ∷ u ∷ [] ≡ elementNumbers x
+  element-told kind fill name n unit u e = rw e
 
-  pub element-refused : (r : Refusal) (a : ℕ) → x ≡ specified-as.Refused r → a ≡ refusalPlace r → a ∷ 0 ∷ 0 ∷ 0 ∷ [] ≡ elementNumbers x
+  pub element-refused : (r : Refusal) (a : ℕ) → x ≡ specified-as.Refused r → a ≡ refusalPlace r → a ∷ 0 ∷ 0 ∷ 0 ∷ 0 ∷ 0 ∷ [] ≡ elementNumbers x
   element-refused r a e f = rw (e, f)
 
 -- the number of an answer x, and its numbers in `out`

@@ -19,12 +19,13 @@ use Rattle.answer.specs.declared.Content.{Content}
 use Rattle.answer.specs.declared.Held.{Held}
 use Rattle.answer.specs.declared.Laid.{Laid}
 use Rattle.answer.specs.Refusals.{verdictNumber, verdictPlace}
-use Rattle.answer.specs.Answers.{cellKind, cellType, cellBits, cellPlace, contentKind, contentPlace, contentLength, heldKind, heldPlace, laidNumber}
+use Rattle.answer.specs.Answers.{cellKind, cellType, cellBits, cellPlace, contentKind, contentPlace, contentLength, heldKind, heldPlace, laidNumber, answerTile, answerInside}
 use Rattle.check_header.specs.Start.{checkStart, needed}
 use Rattle.page_check.specs.Stages.{check}
 use Rattle.cells.specs.Reads.{readByDirectory, readByWalk, readByRecords, readMeaning, recordsMeaning}
 use Rattle.cells.proofs.ReadLaws.{directory-read, walk-read, records-read}
 use Rattle.cells.specs.TileCells.{heldBits, heldCount}
+use Rattle.gvrs_c.proofs.DescriptionLaws.{list-told}
 use Rattle.gvrs_c.specs.Report.{reported, startNumbers, cellNumbers, contentNumbers, heldNumbers, laidReport}
 use Rattle.gvrs_c.specs.Route.{readBy, meaningBy, RouteMeans}
 
@@ -107,14 +108,18 @@ route-means route s ci row column e = go (eqb route 1) refl (eqb route 2) refl
     go false f true g = records-read s ci row column e
     go false f false g = directory-read s ci row column e
 
+pub cell-numbers-are :
+    (x : Cell) (a b c d e : ℕ) → a ≡ cellType x → b ≡ cellBits x → c ≡ cellPlace x → d ≡ answerTile x → e ≡ answerInside x → a ∷ b ∷ c ∷ d ∷ e ∷ [] ≡ cellNumbers x
+cell-numbers-are x a b c d e f g h i j = rw (f, g, h, i, j)
+
 pub cell-told :
-    (route : ℕ) (s : List ℕ) (ci row column e : ℕ) (o p q t : List ℕ) (x : Cell) (n a b c : ℕ) → x ≡ readBy route s ci row column e →
-    a ≡ cellType x → p ≡ set o 0 a → b ≡ cellBits x → q ≡ set p 1 b → c ≡ cellPlace x → t ≡ set q 2 c → n ≡ cellKind x →
+    (route : ℕ) (s : List ℕ) (ci row column e : ℕ) (o p l : List ℕ) (x : Cell) (n : ℕ) → x ≡ readBy route s ci row column e → l ≡ cellNumbers x → p ≡ reported l o →
+    n ≡ cellKind x →
     (n ≡ cellKind (readBy route s ci row column e))
-    × ((t ≡ reported (cellNumbers (readBy route s ci row column e)) o)
-    × ((n ≡ cellKind (meaningBy route s ci row column e)) × (t ≡ reported (cellNumbers (meaningBy route s ci row column e)) o)))
-cell-told route s ci row column e o p q t x n a b c d f g h i j k l =
-    let by = three-told cellKind cellType cellBits cellPlace o p q t x (readBy route s ci row column e) n a b c d f g h i j k l in
+    × ((p ≡ reported (cellNumbers (readBy route s ci row column e)) o)
+    × ((n ≡ cellKind (meaningBy route s ci row column e)) × (p ≡ reported (cellNumbers (meaningBy route s ci row column e)) o)))
+cell-told route s ci row column e o p l x n d f g h =
+    let by = list-told cellKind cellNumbers o p l x (readBy route s ci row column e) n d f g h in
     (by .0, (by .1, rw (route-means route s ci row column e) at by))
 
 -- an element's content

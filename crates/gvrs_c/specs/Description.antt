@@ -20,7 +20,7 @@ abbrev pub pageNumbers : Described → List ℕ
 pageNumbers (described-as.Page x) = numbersInOrder x
 pageNumbers (described-as.Refused r) = refusalPlace r ∷ replicate 12 0
 
--- type code, bits of the fill, place and length of the name
+-- type code, bits of the fill, place and length of the name; by Req 10 those of the unit
 abbrev pub elementNumbers : Specified → List ℕ
-elementNumbers (specified-as.Element kind fill name n) = kind ∷ fill ∷ name ∷ n ∷ []
-elementNumbers (specified-as.Refused r) = refusalPlace r ∷ replicate 3 0
+elementNumbers (specified-as.Element kind fill name n unit u) = kind ∷ fill ∷ name ∷ n ∷ unit ∷ u ∷ []
+elementNumbers (specified-as.Refused r) = refusalPlace r ∷ replicate 5 0

@@ -7,7 +7,7 @@ use Rattle.answer.specs.declared.Held.{Held}
 use Rattle.answer.specs.declared.Laid.{Laid}
 use Rattle.answer.specs.declared.Laid.the-variants.{Length, Refused}
 use Rattle.answer.specs.Refusals.{refusalPlace, verdictNumber, verdictPlace}
-use Rattle.answer.specs.Answers.{cellType, cellBits, cellPlace, contentPlace, contentLength, heldPlace}
+use Rattle.answer.specs.Answers.{cellType, cellBits, cellPlace, answerTile, answerInside, contentPlace, contentLength, heldPlace}
 use Rattle.deeds.specs.declared.Deed.{Deed}
 use Rattle.deeds.specs.declared.Deed.the-variants as deeds
 use Rattle.deeds.specs.Deeds.{deedHasLowest, deedLowestBits, deedScale}
@@ -27,9 +27,9 @@ reported (v ∷ vs) (x ∷ xs) = v ∷ reported vs xs
 abbrev pub startNumbers : List ℕ → ℕ → List ℕ
 startNumbers s n = verdictPlace (checkStart s n) ∷ pick (eqb (verdictNumber (checkStart s n)) 16) (needed s n) 0 ∷ []
 
--- a cell's numbers: its type code, its bits and its place
+-- a cell's numbers: its type code, its bits and its place; by Req 10 its tile's index and its number inside the tile
 abbrev pub cellNumbers : Cell → List ℕ
-cellNumbers x = cellType x ∷ cellBits x ∷ cellPlace x ∷ []
+cellNumbers x = cellType x ∷ cellBits x ∷ cellPlace x ∷ answerTile x ∷ answerInside x ∷ []
 
 -- a content's: its start, or the refusal's place, and its length
 abbrev pub contentNumbers : Content → List ℕ

@@ -18,8 +18,8 @@ fn comparison_numbers(x: Comparison) -> [u64; 2]
 }
 
 // Compares two pages: 0, and `out` takes the number of cells that differ, and 0; else the refusal's number, its place, and 1 where it is the
-// first page's, 2 the second's, 0 where the pages are unlike. `list` takes the earliest entries that fit whole, each a row, a column and an
-// element; the rest of it stays, and all of it on a refusal. What `memory` holds afterwards is free.
+// first page's, 2 the second's, 0 where the pages are unlike. `list` takes the earliest entries that fit whole, each a row, a column, an
+// element, a tile and the number inside it; the rest of it stays, and all of it on a refusal. What `memory` holds afterwards is free.
 #[no_mangle]
 pub extern "C" fn gvrs_compare(
     first: &[u8],

@@ -55,7 +55,7 @@ fn page_numbers(x: Described) -> [u64; 13]
 }
 
 // What `out` takes of an element.
-fn element_numbers(x: Specified) -> [u64; 4]
+fn element_numbers(x: Specified) -> [u64; 6]
     ensures { λ r. ⌜ r ≡ elementNumbers x ⌝ }
 {
     match x {
@@ -64,10 +64,19 @@ fn element_numbers(x: Specified) -> [u64; 4]
             fill,
             name,
             name_length,
-        } => [kind as u64, fill as u64, name as u64, name_length as u64],
+            unit,
+            unit_length,
+        } => [
+            kind as u64,
+            fill as u64,
+            name as u64,
+            name_length as u64,
+            unit as u64,
+            unit_length as u64,
+        ],
         Specified::Refused(r) => {
             let place = answer::refusal_place(r) as u64;
-            [place, 0, 0, 0]
+            [place, 0, 0, 0, 0, 0]
         }
     }
 }
@@ -84,8 +93,8 @@ pub extern "C" fn gvrs_page(file: &[u8], out: &mut [u64]) -> u32
     description::described_number(x)
 }
 
-// What an element of a page is: 0, and `out` takes its type code, the bits of its fill, and the place and the length of its name; else the
-// check's refusal, then 10, with its place and zeros.
+// What an element of a page is: 0, and `out` takes its type code, the bits of its fill, and the places and the lengths of its name and of
+// its unit; else the check's refusal, then 10, with its place and zeros.
 #[no_mangle]
 pub extern "C" fn gvrs_element(file: &[u8], element: u64, out: &mut [u64]) -> u32
     ensures number { λ r. ⌜ r ≡ specifiedNumber (specified (now (file .entry)) element) ⌝ }

@@ -104,8 +104,21 @@ fn read_by(file: &[u8], compressor: u32, row: u64, column: u64, element: u64, ro
     reads::read_by_directory(file, compressor, row, column, element)
 }
 
+// What `out` takes of a cell.
+fn cell_numbers(x: Cell) -> [u64; 5]
+    ensures { λ r. ⌜ r ≡ cellNumbers x ⌝ }
+{
+    [
+        answer::cell_type(x) as u64,
+        answer::cell_bits(x) as u64,
+        answer::cell_place(x) as u64,
+        answer::cell_tile(x),
+        answer::cell_inside(x),
+    ]
+}
+
 // 32 where the cell is stored, 33 where it is fill, 34 where it is unpacked, else the refusal's number; `out` takes the type code, the
-// bits and the place. By every route it is the check's refusal or the cell's meaning.
+// bits, the place, the tile's index and the number inside the tile. By every route it is the check's refusal or the cell's meaning.
 fn tell_cell(
     file: &[u8],
     compressor: u32,
@@ -120,9 +133,8 @@ fn tell_cell(
     ensures meaning { λ r. ⌜ (r ≡ cellKind (meaningBy route (now (file .entry)) compressor row column element)) × (now (out .exit) ≡ reported (cellNumbers (meaningBy route (now (file .entry)) compressor row column element)) (now (out .entry))) ⌝ }
 {
     let cell = read_by(file, compressor, row, column, element, route);
-    report(out, 0, answer::cell_type(cell) as u64);
-    report(out, 1, answer::cell_bits(cell) as u64);
-    report(out, 2, answer::cell_place(cell) as u64);
+    let numbers = cell_numbers(cell);
+    description::report_all(out, &numbers);
     answer::cell_kind(cell)
 }
 

@@ -9,7 +9,7 @@ use Rattle.wire.specs.Items.{advance}
 use Rattle.wire.proofs.ItemLaws.{advance-more, items-step}
 use Rattle.header.specs.declared.Element.{Element}
 use Rattle.header.specs.Fields.{headerLimit, elementCount}
-use Rattle.header.specs.Element.{stringSize, stringEnd, blockSize, fillOffset, cellSize, blockAt, labelAt, descriptionAt, unitAt, entryEnd, fillBits, entryAt, entryStart, nextEntry, element, entriesRead}
+use Rattle.header.specs.Element.{unitPlace, unitLength, stringSize, stringEnd, blockSize, fillOffset, cellSize, blockAt, labelAt, descriptionAt, unitAt, entryEnd, fillBits, entryAt, entryStart, nextEntry, element, entriesRead}
 use Rattle.header.specs.Tail.{methodsAt, methodCount, productLabelAt, fieldsEnd}
 
 -- an entry, from its parts
@@ -115,3 +115,17 @@ read-all s n p h = omega arith
 pub read-some : (s : List ℕ) (n : ℕ) → n ≡ elementCount s → 16 < n → 16 ≡ entriesRead s
 unfolding entriesRead
 read-some s n p h = omega arith
+
+-- Req 10: where a unit string stands
+
+pub unit-is : (s : List ℕ) (e at l d u : ℕ) → at ≡ entryStart s e → l ≡ labelAt s at → d ≡ stringEnd s l → u ≡ stringEnd s d → u ≡ unitAt s (entryStart s e)
+unfolding unitAt descriptionAt
+unit-is s e at l d u p q r t = t ∙ rw (r, q, p)
+
+pub place-of-unit : (s : List ℕ) (e u : ℕ) → u ≡ unitAt s (entryStart s e) → u + 2 ≡ unitPlace s e
+unfolding unitPlace
+place-of-unit s e u p = rw p
+
+pub length-of-unit : (s : List ℕ) (e u n : ℕ) → u ≡ unitAt s (entryStart s e) → n ≡ u16At s u → n ≡ unitLength s e
+unfolding unitLength
+length-of-unit s e u n p q = q ∙ rw p

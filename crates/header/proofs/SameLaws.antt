@@ -15,7 +15,7 @@ use Rattle.wire.proofs.ItemLaws.{advance-grows, advance-same, advance-mono, adv
 use Rattle.header.specs.Fields.{headerLimit, elementCount}
 use Rattle.record.specs.Record.{recordLimit}
 use Rattle.record.specs.Chain.{headerEnd}
-use Rattle.header.specs.Element.{stringSize, stringEnd, blockSize, fillOffset, cellSize, blockAt, labelAt, descriptionAt, unitAt, entryEnd, fillBits, entryAt, entryStart, element, elementName}
+use Rattle.header.specs.Element.{stringSize, stringEnd, blockSize, fillOffset, cellSize, blockAt, labelAt, descriptionAt, unitAt, entryEnd, fillBits, entryAt, entryStart, element, elementName, unitPlace, unitLength}
 use Rattle.header.specs.Tail.{methodsAt, methodCount, productLabelAt, fieldsEnd}
 
 -- positions only grow
@@ -86,6 +86,20 @@ start-next s j h = advance-more (entryEnd s) (headerLimit s) j 284 ∙ rw (le-le
 pub start-least : (s : List ℕ) (j : ℕ) → 284 ≤ entryStart s j
 unfolding entryStart
 start-least s j = advance-grows (entryEnd s) (headerLimit s) (entry-grows s) j 284
+
+-- where k entries fit before the header's checksum, so does each of them, and its unit, the last of its strings
+
+module _ (s : List ℕ) (j k : ℕ) (h : j < k) (fit : entryStart s k ≤ headerLimit s) where
+  entry-fits : entryEnd s (entryStart s j) ≤ headerLimit s
+  entry-fits =
+      let p = start-mono s j k (omega arith) in
+      let q = start-mono s (j + 1) k (omega arith) in
+      let n = start-next s j (omega arith) in
+      omega arith
+
+  pub unit-fits : unitPlace s j + unitLength s j ≤ headerLimit s
+  unfolding unitPlace unitLength stringEnd stringSize
+  unit-fits = omega (arith, entry-fits, in-order s (entryStart s j) .last)
 
 -- the header's checksum starts four bytes before its end, where the bytes hold it
 pub limit-is : (s : List ℕ) → headerEnd s ≤ length s → headerLimit s ≡ headerEnd s - 4
@@ -165,12 +179,7 @@ module _ (s t : List ℕ) (r : SameRest s t) where
 
   module _ (j k : ℕ) (h : j < k) (fit : entryStart s k ≤ headerLimit s) where
     pub entry-ends : entryEnd s (entryStart s j) ≤ headerEnd s - 4
-    entry-ends =
-        let l = limit-is s (r .in-first) in
-        let p = start-mono s j k (omega arith) in
-        let q = start-mono s (j + 1) k (omega arith) in
-        let n = start-next s j (omega arith) in
-        omega arith
+    entry-ends = omega (arith, limit-is s (r .in-first), entry-fits s j k h fit)
 
     pub at-same : entryStart s j ≡ entryStart t j
     at-same = let p = start-mono s j k (omega arith) in start-same j (omega arith)

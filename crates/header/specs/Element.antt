@@ -100,6 +100,13 @@ element s e = entryAt s (entryStart s e)
 unfoldable pub elementName : List ℕ → ℕ → List ℕ
 elementName s e = part s (element s e .name) (element s e .«name_length»)
 
+-- Req 10: the place of its unit string's bytes, just behind the length field even where there are none, and their number
+unfoldable pub unitPlace : List ℕ → ℕ → ℕ
+unitPlace s e = unitAt s (entryStart s e) + 2
+
+unfoldable pub unitLength : List ℕ → ℕ → ℕ
+unitLength s e = u16At s (unitAt s (entryStart s e))
+
 -- document 01, 'House ceilings' and stage 3: a page has at most 16 elements, and at most the first 16 entries are read
 abbrev pub mostElements : ℕ
 mostElements = 16

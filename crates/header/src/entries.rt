@@ -5,7 +5,7 @@ use crate::fields;
 ghost use mathlib.Core.Path.{_≡_};
 ghost use Prim.Native.Nat.{_+_, _≤_, _<_, _*_};
 ghost use lib.ListN.{length};
-ghost use Rattle.header.specs.Element.{stringSize, stringEnd, blockSize, cellSize, blockAt, labelAt, entryEnd, fillBits, entryAt, entryStart, nextEntry, element, entriesRead, longestString, longestEntry, mostElements};
+ghost use Rattle.header.specs.Element.{stringSize, stringEnd, blockSize, cellSize, blockAt, labelAt, entryEnd, fillBits, entryAt, entryStart, nextEntry, element, entriesRead, longestString, longestEntry, mostElements, unitAt, unitPlace, unitLength};
 
 // Type codes of elements (G Table 8); an Integer's is 0, and none is above a Short's.
 pub const INTEGER_CODED: u32 = 1;
@@ -155,6 +155,30 @@ pub fn element(s: &[u8], e: usize) -> Element
     ensures { λ r. ⌜ r ≡ element (now (s .entry)) e ⌝ }
 {
     entry_at(s, entry_start(s, e))
+}
+
+// Where the length field of the unit string of element e stands.
+fn unit_at(s: &[u8], e: usize) -> usize
+    ensures is { λ r. ⌜ r ≡ unitAt (now (s .entry)) (entryStart (now (s .entry)) e) ⌝ }
+    ensures near { λ r. ⌜ r ≤ length (now (s .entry)) + 2 * longestEntry ⌝ }
+{
+    let at = entry_start(s, e);
+    let label = label_at(s, at);
+    let description = string_end(s, label);
+    string_end(s, description)
+}
+
+// The place of its bytes, just behind the length field, even if there are none, and how many there are.
+pub fn unit_place(s: &[u8], e: usize) -> usize
+    ensures { λ r. ⌜ r ≡ unitPlace (now (s .entry)) e ⌝ }
+{
+    unit_at(s, e) + 2
+}
+
+pub fn unit_length(s: &[u8], e: usize) -> usize
+    ensures { λ r. ⌜ r ≡ unitLength (now (s .entry)) e ⌝ }
+{
+    wire::u16_at(s, unit_at(s, e)) as usize
 }
 
 // The number of entries that are read.

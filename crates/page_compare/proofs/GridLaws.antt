@@ -12,20 +12,21 @@ use Rattle.wire.proofs.PutLaws.{put-nil}
 use Rattle.answer.specs.declared.Refusal.{Refusal}
 use Rattle.answer.specs.declared.Verdict.the-variants as verdict
 use Rattle.store.specs.declared.many.Rectangle.{Rectangle}
-use Rattle.store.specs.Face.{gridRows, gridColumns, elementCount, check, meaning, wholeGrid, SameGrid}
+use Rattle.store.specs.Face.{gridRows, gridColumns, elementCount, cellTile, cellInside, check, meaning, wholeGrid}
 use Rattle.store.proofs.PieceLaws.{elements-accepted, accepts-grid, accepts-same}
 use Rattle.blocks.proofs.FoldLaws.{fold-same}
 use Rattle.blocks.proofs.InsideLaws.{inside-same}
 use Rattle.row_lists.specs.Entries.{differingIn, countIn, listed}
 use Rattle.row_lists.proofs.EntryLaws.{swapped-same}
+use Rattle.row_lists.proofs.ListedLaws.{same-tiling}
 use Rattle.comparisons.specs.declared.Comparison.{Comparison}
 use Rattle.comparisons.specs.declared.Comparison.the-variants.{Count, First, Second, Unlike}
 use Rattle.comparisons.specs.declared.Halt.{Halt}
 use Rattle.comparisons.specs.declared.Halt.the-variants as halt
-use Rattle.comparisons.specs.Comparisons.{alike, differAt, joinHalt, haltAt, haltIn, unlessHalted, comparedIn, comparedPages, differingCells, written}
-use Rattle.comparisons.proofs.PageLaws.{alike-means, haltOf, countOf, counted-pages}
+use Rattle.comparisons.specs.Comparisons.{alike, differAt, joinHalt, haltAt, haltIn, unlessHalted, comparedIn, comparedPages, differingCells, tilingOf, written}
+use Rattle.comparisons.proofs.PageLaws.{alike-means, shape-grid, haltOf, countOf, counted-pages}
 use Rattle.page_compare.specs.declared.Pair.{Pair}
-use Rattle.page_compare.specs.Sides.{areaCells, areaDiffer, areaHalt, areaHaltIn, areaCompared, Both}
+use Rattle.page_compare.specs.Sides.{areaCells, areaDiffer, areaTiling, areaHalt, areaHaltIn, areaCompared, Both}
 
 -- the whole grid as a rectangle
 
@@ -36,7 +37,7 @@ module _ (s t : List ℕ) (k j : ℕ) where
   pages-both : check s ≡ verdict.Accepted → check t ≡ verdict.Accepted → alike s t ≡ true → Both s t pairOf (wholeGrid s)
   pages-both a b e =
       let h = alike-means s t e in
-      let g : SameGrid s t = record { rows = h .rows; columns = h .columns; tile-rows = h .tile-rows; tile-columns = h .tile-columns } in
+      let g = shape-grid s t h in
       record {
         first = accepts-grid s a;
         second = accepts-same s t g (wholeGrid s) refl b (accepts-grid s a);
@@ -60,6 +61,16 @@ module _ (s t : List ℕ) (k j : ℕ) where
   unfolding differingCells
   grid-list =
       swapped-same (areaDiffer s t pairOf (wholeGrid s)) (differAt (meaning s k) (meaning t j)) (elementCount s) (gridRows s) (gridColumns s) (λ r c e h i l. grid-differ r c e)
+
+  grid-tiling : areaTiling s (wholeGrid s) ≡ tilingOf s
+  unfolding areaTiling tilingOf
+  grid-tiling = same-tiling (areaTiling s (wholeGrid s)) (tilingOf s) (from-first (cellTile s)) (from-first (cellInside s))
+    where
+      from-first : (f : ℕ → ℕ → ℕ) (r c : ℕ) → f (0 + r) (0 + c) ≡ f r c
+      from-first f r c =
+          let x : 0 + r ≡ r = omega arith in
+          let y : 0 + c ≡ c = omega arith in
+          rw (x, y)
 
   grid-halts : areaHaltIn s t pairOf (wholeGrid s) 0 (gridRows s) 0 (gridColumns s) ≡ haltOf s k t j
   unfolding areaHaltIn haltIn areaHalt haltAt
@@ -110,11 +121,12 @@ module _ (s t : List ℕ) (k j rows columns n : ℕ) (p : rows ≡ gridRows s) (
     area-total = counted-pages s k t j m (sym e ∙ f) .1 ∙ rw (p, q, z) (sym (grid-counts s t k j))
 
     pub area-written :
-        (old now : List ℕ) → now ≡ put old 0 (listed (length old) (differingIn (areaDiffer s t both area) n 0 rows 0 columns)) →
+        (old now : List ℕ) → now ≡ put old 0 (listed (areaTiling s area) (length old) (differingIn (areaDiffer s t both area) n 0 rows 0 columns)) →
         now ≡ put old 0 (written s k t j (length old) x)
     area-written old now g =
         let l : differingIn (areaDiffer s t both area) n 0 rows 0 columns ≡ differingCells s k t j = rw (p, q, z) (grid-list s t k j) in
-        g ∙ rw (l, f)
+        let v : areaTiling s area ≡ tilingOf s = rw (p, q) (grid-tiling s t k j) in
+        g ∙ rw (l, v, f)
 
 -- counted first, listed then
 pub listed-then :

@@ -42,10 +42,10 @@ mark-room c n e len h k l = omega (arith, place-less n markWidth c e h k)
 -- the mark of two cells that were read
 
 pub numbered-mark :
-    (s t : List ℕ) (x y : Side) (m l : List ℕ) (start c e : ℕ) (u v : Cell) → u ≡ numberedCell s (x .kind) (x .fill) m (start + c) (x .held) →
-    v ≡ numberedCell t (y .kind) (y .fill) l (start + c) (y .held) → oneIf (differ u v) ≡ numberedMark s t x y m l start c e
+    (s t : List ℕ) (x y : Side) (m l : List ℕ) (tile start c e : ℕ) (u v : Cell) → u ≡ numberedCell s (x .kind) (x .fill) m tile (start + c) (x .held) →
+    v ≡ numberedCell t (y .kind) (y .fill) l tile (start + c) (y .held) → oneIf (differ u v) ≡ numberedMark s t x y m l tile start c e
 unfolding numberedMark
-numbered-mark s t x y m l start c e u v p q = rw (p, q)
+numbered-mark s t x y m l tile start c e u v p q = rw (p, q)
 
 pub held-mark :
     (s t : List ℕ) (q : Pair) (a : Rectangle) (x y : Held) (m l : List ℕ) (r left c e : ℕ) (u v : Cell) → u ≡ heldCell s (q .first) x m (a .row + r) (a .column + (left + c)) e →
@@ -62,9 +62,9 @@ module _ (s t : List ℕ) (q : Pair) (a : Rectangle) (p : Piece) (r e : ℕ) (x 
 
     -- by numbers inside the tile
     pub numbered-says :
-        (start : ℕ) (old now : List ℕ) → Numbered s (q .first) (ofElement a e) (x .held) (partOf m (x .from) (x .to)) (x .kind) (x .fill) start r (p .left) (p .right) →
-        Numbered t (q .second) (ofElement a e) (y .held) (partOf m (y .from) (y .to)) (y .kind) (y .fill) start r (p .left) (p .right) →
-        Filled markWidth (numberedMark s t x y (partOf m (x .from) (x .to)) (partOf m (y .from) (y .to)) start) (Inside 0 n e (e + 1)) old now →
+        (start : ℕ) (old now : List ℕ) → Numbered s (q .first) (ofElement a e) (x .held) (partOf m (x .from) (x .to)) (x .kind) (x .fill) (p .tile) start r (p .left) (p .right) →
+        Numbered t (q .second) (ofElement a e) (y .held) (partOf m (y .from) (y .to)) (y .kind) (y .fill) (p .tile) start r (p .left) (p .right) →
+        Filled markWidth (numberedMark s t x y (partOf m (x .from) (x .to)) (partOf m (y .from) (y .to)) (p .tile) start) (Inside 0 n e (e + 1)) old now →
         Filled markWidth (rowMark s t q a r (p .left)) (Inside 0 n e (e + 1)) old now
     unfolding numberedMark rowMark areaDiffer differAt areaCells
     numbered-says start old now u v w =
@@ -72,9 +72,9 @@ module _ (s t : List ℕ) (q : Pair) (a : Rectangle) (p : Piece) (r e : ℕ) (x 
         (λ c i h.
         let z : i ≡ e = omega arith in
         let o : start + (p .left + c - p .left) ≡ start + c = omega arith in
-        let d : numberedCell s (x .kind) (x .fill) (partOf m (x .from) (x .to)) (start + c) (x .held) ≡ meaning s (q .first) (a .row + r) (a .column + (p .left + c)) e =
+        let d : numberedCell s (x .kind) (x .fill) (partOf m (x .from) (x .to)) (p .tile) (start + c) (x .held) ≡ meaning s (q .first) (a .row + r) (a .column + (p .left + c)) e =
         rw o at (u .each (p .left + c) (omega arith) (omega arith)) in
-        let b : numberedCell t (y .kind) (y .fill) (partOf m (y .from) (y .to)) (start + c) (y .held) ≡ meaning t (q .second) (a .row + r) (a .column + (p .left + c)) e =
+        let b : numberedCell t (y .kind) (y .fill) (partOf m (y .from) (y .to)) (p .tile) (start + c) (y .held) ≡ meaning t (q .second) (a .row + r) (a .column + (p .left + c)) e =
         rw o at (v .each (p .left + c) (omega arith) (omega arith)) in
         rw (z, d, b))
 
@@ -93,8 +93,8 @@ module _ (s t : List ℕ) (q : Pair) (a : Rectangle) (p : Piece) (r e : ℕ) (x 
     -- a row of an element that is not looked up cell by cell
     pub row-numbered :
         (start : ℕ) → Both s t q a → (heldKind (x .held) ≡ 0 → ⊥) → (heldKind (y .held) ≡ 0 → ⊥) → start ≡ p .inside + (r - p .top) * tileColumns s → p .top ≤ r → r < p .bottom →
-        Numbered s (q .first) (ofElement a e) (x .held) (partOf m (x .from) (x .to)) (x .kind) (x .fill) start r (p .left) (p .right)
-        × Numbered t (q .second) (ofElement a e) (y .held) (partOf m (y .from) (y .to)) (y .kind) (y .fill) start r (p .left) (p .right)
+        Numbered s (q .first) (ofElement a e) (x .held) (partOf m (x .from) (x .to)) (x .kind) (x .fill) (p .tile) start r (p .left) (p .right)
+        × Numbered t (q .second) (ofElement a e) (y .held) (partOf m (y .from) (y .to)) (y .kind) (y .fill) (p .tile) start r (p .left) (p .right)
     row-numbered start b h k z i j = (
       numbered-row s (q .first) (ofElement a e) p (x .held) _ r _ (x .kind) (x .fill) start (f .answered) refl h z (f .kind) (f .fill) i j,
       numbered-row t (q .second) (ofElement a e) p (y .held) _ r _ (y .kind) (y .fill) start (g .answered) refl k (z ∙ rw (b .grid .tile-columns)) (g .kind) (g .fill) i j,

@@ -17,8 +17,8 @@ use Rattle.store.specs.declared.pieces.Piece.{Piece}
 use Rattle.store.specs.Pieces.{pieceIn, firstPiece}
 use Rattle.store.specs.Face.{tileRows, tileColumns, Accepts, bandEnd, AtPiece}
 use Rattle.store.proofs.ManyLaws.{sides-accepted}
-use Rattle.store.proofs.PieceLaws.{rectangle-small, band-more}
-use Rattle.row_lists.specs.Entries.{entrySize}
+use Rattle.store.proofs.PieceLaws.{rectangle-small, band-more, cell-tile, tile-few, start-small}
+use Rattle.row_lists.specs.Entries.{Tiling, entrySize}
 use Rattle.row_lists.specs.Placing.{Cut, capOf, numbersAt, stretch, nextOf, Nexts, Ends, PiecePlaced}
 use Rattle.row_lists.proofs.RowLaws.{piece-more, nexts-more, next-here, end-here, piece-plain}
 use Rattle.comparisons.specs.declared.Halt.{Halt}
@@ -29,7 +29,7 @@ use Rattle.page_compare.specs.declared.count.Plain.the-variants.{Same}
 use Rattle.page_compare.specs.declared.count.Seen.{Seen}
 use Rattle.page_compare.specs.declared.count.Seen.the-variants.{Halted}
 use Rattle.comparisons.specs.Comparisons.{joinHalt}
-use Rattle.page_compare.specs.Sides.{areaDiffer, areaHalt, areaHaltIn, Both, markWidth}
+use Rattle.page_compare.specs.Sides.{areaDiffer, areaTiling, rowTiling, areaHalt, areaHaltIn, Both, markWidth}
 use Rattle.page_compare.specs.Counting.{PlainSays, Says}
 use Rattle.comparisons.proofs.CellLaws.{halts, halts-none}
 
@@ -42,17 +42,34 @@ pub row-sides :
     (r < 65536) × ((p .left ≤ p .right) × ((p .right ≤ 65536) × (q .elements ≤ markWidth)))
 row-sides s t q a p r b o h = let m = area-few s t q a b in let i = o .sides in (omega arith, (omega arith, (omega arith, m .1 .1)))
 
+-- the tile and the numbers inside of a row of a piece
+
+module _ (s : List ℕ) (a : Rectangle) (p : Piece) (r start : ℕ) (g : Accepts s a) (o : AtPiece s a p) (h : p .top ≤ r) (k : r < p .bottom)
+    (e : start ≡ p .inside + (r - p .top) * tileColumns s)
+  where
+    pub row-small : (p .tile < 4294967296) × (start < 16777216)
+    row-small = (tile-few s a p g o, rw e (start-small s a p r _ g o refl h k))
+
+    pub row-tiled :
+        (c : ℕ) → p .left ≤ c → c < p .right →
+        (rowTiling (p .tile) start (p .left) .tile r c ≡ areaTiling s a .tile r c) × (rowTiling (p .tile) start (p .left) .inside r c ≡ areaTiling s a .inside r c)
+    unfolding rowTiling areaTiling
+    row-tiled c l u = (cell-tile s a p g o r c (omega arith), rw e (sym (o .numbers r c (omega arith))))
+
 -- a row of a piece: where its entries go, and that they are placed; and a piece in which no cell differs
 
 module _ (s t : List ℕ) (q : Pair) (a : Rectangle) (p : Piece) where
   abbrev d : ℕ → ℕ → ℕ → Bool
   d = areaDiffer s t q a
 
+  abbrev tiling : Tiling
+  tiling = areaTiling s a
+
   abbrev RowNexts : ℕ → ℕ → List ℕ → Type 0
   RowNexts room r next = Nexts d (q .elements) (a .columns) room (p .top) (p .bottom) r (p .left) (p .right) next
 
   abbrev RowsPlaced : ℕ → List ℕ → List ℕ → Type 0
-  RowsPlaced r was now = PiecePlaced d (q .elements) (a .columns) (p .top) (p .bottom) r (p .left) (p .right) was now
+  RowsPlaced r was now = PiecePlaced tiling d (q .elements) (a .columns) (p .top) (p .bottom) r (p .left) (p .right) was now
 
   pub row-next :
       (room r m : ℕ) (next ends : List ℕ) → RowNexts room r next → Ends d (q .elements) (a .columns) room (p .top) (p .bottom) ends → p .top ≤ r → r < p .bottom → m ≡ room →
@@ -64,18 +81,18 @@ module _ (s t : List ℕ) (q : Pair) (a : Rectangle) (p : Piece) where
   pub row-more :
       (room r after m : ℕ) (next was mid now : List ℕ) → AtPiece s a p → RowNexts room r next × RowsPlaced r was mid → p .top ≤ r → r < p .bottom → r - p .top < length next →
       m ≡ room → length mid ≡ length was → after ≡ min m (nextOf d (q .elements) (a .columns) r (p .right)) →
-      Cut (capOf mid) (nextOf d (q .elements) (a .columns) r (p .left) * entrySize) (stretch (numbersAt d (q .elements)) r (p .left) (p .right)) mid now →
+      Cut (capOf mid) (nextOf d (q .elements) (a .columns) r (p .left) * entrySize) (stretch (numbersAt tiling d (q .elements)) r (p .left) (p .right)) mid now →
       RowNexts room (r + 1) (set next (r - p .top) after) × RowsPlaced (r + 1) was now
   row-more room r after m next was mid now k f h l u o w x y =
       let j = k .sides in
-      (nexts-more d _ _ room _ _ _ _ r (r - p .top) after m next refl h u o x (f .0), piece-more d _ _ _ _ _ _ r was mid h l (omega arith) (j .1 .1 .1) w (f .1) now y)
+      (nexts-more d _ _ room _ _ _ _ r (r - p .top) after m next refl h u o x (f .0), piece-more tiling d _ _ _ _ _ _ r was mid h l (omega arith) (j .1 .1 .1) w (f .1) now y)
 
   pub piece-passed :
       (x : Plain) (w room : ℕ) (l next : List ℕ) → PlainSays d (q .elements) (p .top) (p .bottom) (p .left) (p .right) x → x ≡ Same w → w ≡ 0 → AtPiece s a p →
       RowNexts room (p .top) next → RowNexts room (p .bottom) next × RowsPlaced (p .bottom) l l
   piece-passed x w room l next f y z k g =
       let j = k .sides in
-      piece-plain d _ _ _ _ _ _ (λ r c i. f w y .1 r c i ∙ z) (omega arith) (j .1 .1 .1) room l next (omega arith) g
+      piece-plain tiling d _ _ _ _ _ _ (λ r c i. f w y .1 r c i ∙ z) (omega arith) (j .1 .1 .1) room l next (omega arith) g
 
 -- a refusal is none where no cell is refused
 pub none-halted : (h g : Halt) (f : ℕ → Type 0) (x : Seen) → Says h f x → x ≡ Halted g → h ≡ halt.None → ⊥

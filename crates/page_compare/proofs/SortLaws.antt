@@ -32,9 +32,10 @@ module _ (absent : Bool) (u v : Cell) where
       unfolding sortOf
       sort-all h = rw (eq-eqb (comparedKind u) (comparedKind v) (sym p ∙ e ∙ q), b, ne-eqb (cellBits u) (cellBits v) (λ z. h (f ∙ z ∙ sym g)))
 
-  -- what it says of cells of the same kinds, where absent ones are the same
+  -- what it says of cells of the same kinds, where absent ones have the same bits
   pub sort-says :
-      (x y : Cell) → cellKind x ≡ cellKind u → cellKind y ≡ cellKind v → (absent ≡ true → (x ≡ u) × (y ≡ v)) → (sortOf absent u v ≡ 2 → ⊥) → oneIf (differ x y) ≡ sortOf absent u v
+      (x y : Cell) → cellKind x ≡ cellKind u → cellKind y ≡ cellKind v → (absent ≡ true → (cellBits x ≡ cellBits u) × (cellBits y ≡ cellBits v)) → (sortOf absent u v ≡ 2 → ⊥) →
+      oneIf (differ x y) ≡ sortOf absent u v
   unfolding sortOf oneIf
   sort-says x y p q w n = go (eqb (comparedKind u) (comparedKind v)) refl absent refl (eqb (cellBits u) (cellBits v)) refl
     where
@@ -49,5 +50,5 @@ module _ (absent : Bool) (u v : Cell) where
           _≡_ {A = ℕ} (pick (differ x y) 1 0) (pick (eqb (comparedKind u) (comparedKind v)) (pick absent (pick (eqb (cellBits u) (cellBits v)) 0 1) 2) 1)
       go false e g z h c = rw (e, differ-kind x y (λ o. eqb-false (comparedKind u) (comparedKind v) e (sym a ∙ o ∙ b)))
       go true e false z h c = absurd (n (rw (e, z)))
-      go true e true z true c = let o = w z in rw (e, z, c, o .0, o .1, differ-bits u v (eqb-true (comparedKind u) (comparedKind v) e), c)
-      go true e true z false c = let o = w z in rw (e, z, c, o .0, o .1, differ-bits u v (eqb-true (comparedKind u) (comparedKind v) e), c)
+      go true e true z true c = let o = w z in rw (e, z, c, differ-bits x y (a ∙ eqb-true (comparedKind u) (comparedKind v) e ∙ sym b), o .0, o .1, c)
+      go true e true z false c = let o = w z in rw (e, z, c, differ-bits x y (a ∙ eqb-true (comparedKind u) (comparedKind v) e ∙ sym b), o .0, o .1, c)

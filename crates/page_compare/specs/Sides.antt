@@ -15,9 +15,9 @@ use Rattle.answer.specs.declared.Held.the-variants.{Stored}
 use Rattle.answer.specs.Answers.{cellKind, cellBits}
 use Rattle.store.specs.declared.many.Rectangle.{Rectangle}
 use Rattle.store.specs.declared.pieces.Piece.{Piece}
-use Rattle.store.specs.Face.{elementCount, element, check, meaning, heldCell, numberedCell, Accepts, ofElement, SameGrid, AtPiece, Answered}
+use Rattle.store.specs.Face.{elementCount, element, cellTile, cellInside, check, meaning, heldCell, numberedCell, Accepts, ofElement, SameGrid, AtPiece, Answered}
 use Rattle.blocks.specs.Folds.{foldInside}
-use Rattle.row_lists.specs.Entries.{countIn}
+use Rattle.row_lists.specs.Entries.{Tiling, countIn}
 use Rattle.comparisons.specs.declared.Comparison.{Comparison}
 use Rattle.comparisons.specs.declared.Comparison.the-variants.{Count}
 use Rattle.comparisons.specs.declared.Halt.{Halt}
@@ -32,6 +32,13 @@ areaCells s k a r c e = meaning s k (a .row + r) (a .column + c) e
 
 unfoldable pub areaDiffer : List ℕ → List ℕ → Pair → Rectangle → ℕ → ℕ → ℕ → Bool
 areaDiffer s t q a r c e = differAt (areaCells s (q .first) a) (areaCells t (q .second) a) r c e
+
+-- the tile of a cell there and its number inside; and those of the columns of a row that lie in a tile, from `left` on
+unfoldable pub areaTiling : List ℕ → Rectangle → Tiling
+areaTiling s a = record { tile = λ r c. cellTile s (a .row + r) (a .column + c); inside = λ r c. cellInside s (a .row + r) (a .column + c) }
+
+unfoldable pub rowTiling : ℕ → ℕ → ℕ → Tiling
+rowTiling tile start left = record { tile = λ r c. tile; inside = λ r c. start + (c - left) }
 
 unfoldable pub areaHalt : List ℕ → List ℕ → Pair → Rectangle → ℕ → ℕ → Halt
 areaHalt s t q a r c = haltAt (areaCells s (q .first) a) (areaCells t (q .second) a) (q .elements) r c
@@ -103,10 +110,10 @@ marked m left r c e = eqb (getD m ((c - left) * markWidth + e) 0) 1
 unfoldable pub rowMark : List ℕ → List ℕ → Pair → Rectangle → ℕ → ℕ → ℕ → ℕ → ℕ
 rowMark s t q a r left c e = oneIf (areaDiffer s t q a r (left + c) e)
 
--- the same by what is held: by numbers inside the tile from `start` on; by row and column
-unfoldable pub numberedMark : List ℕ → List ℕ → Side → Side → List ℕ → List ℕ → ℕ → ℕ → ℕ → ℕ
-numberedMark s t x y m n start c e =
-    oneIf (differ (numberedCell s (x .kind) (x .fill) m (start + c) (x .held)) (numberedCell t (y .kind) (y .fill) n (start + c) (y .held)))
+-- the same by what is held: by a tile and the numbers inside it from `start` on; by row and column
+unfoldable pub numberedMark : List ℕ → List ℕ → Side → Side → List ℕ → List ℕ → ℕ → ℕ → ℕ → ℕ → ℕ
+numberedMark s t x y m n tile start c e =
+    oneIf (differ (numberedCell s (x .kind) (x .fill) m tile (start + c) (x .held)) (numberedCell t (y .kind) (y .fill) n tile (start + c) (y .held)))
 
 unfoldable pub heldMark : List ℕ → List ℕ → Pair → Rectangle → Held → Held → List ℕ → List ℕ → ℕ → ℕ → ℕ → ℕ → ℕ → ℕ
 heldMark s t q a x y m n r left e c f =

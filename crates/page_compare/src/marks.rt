@@ -43,7 +43,7 @@ pub(crate) fn is_mark(marks: &[u8], i: usize) -> bool
     marks[i] == 1
 }
 
-// An element in n columns of a row, by the numbers inside the tile from `start` on.
+// An element in n columns of a row, by a tile and the numbers inside it from `start` on.
 fn tell_marks(
     first: &[u8],
     second: &[u8],
@@ -51,21 +51,22 @@ fn tell_marks(
     y: Side,
     m: &[u32],
     l: &[u32],
+    tile: u64,
     start: u64,
     n: u64,
     e: u64,
     marks: &mut [u8],
 )
     requires { ⌜ (start + n ≤ 4294967296) × ((e < markWidth) × (n * markWidth ≤ length (now marks))) ⌝ }
-    ensures { λ _. ⌜ Filled markWidth (numberedMark (now (first .entry)) (now (second .entry)) x y (now (m .entry)) (now (l .entry)) start) (Inside 0 n e (e + 1)) (now (marks .entry)) (now (marks .exit)) ⌝ }
+    ensures { λ _. ⌜ Filled markWidth (numberedMark (now (first .entry)) (now (second .entry)) x y (now (m .entry)) (now (l .entry)) tile start) (Inside 0 n e (e + 1)) (now (marks .entry)) (now (marks .exit)) ⌝ }
 {
     let h = x.held;
     let g = y.held;
     let mut c = 0;
     while c < n {
         let inside = (start + c) as u32;
-        let u = many::numbered_cell(first, x.kind, x.fill, h, m, inside);
-        let v = many::numbered_cell(second, y.kind, y.fill, g, l, inside);
+        let u = many::numbered_cell(first, x.kind, x.fill, h, m, tile, inside);
+        let v = many::numbered_cell(second, y.kind, y.fill, g, l, tile, inside);
         put_mark(u, v, (c * 16 + e) as usize, marks);
         c += 1;
     }
@@ -147,7 +148,7 @@ fn mark_element(
     let h = x.held;
     let g = y.held;
     if both_told(h, g) {
-        tell_marks(first, second, x, y, m, l, start, n, e, marks);
+        tell_marks(first, second, x, y, m, l, p.tile, start, n, e, marks);
         return;
     }
     look_up_marks(first, second, q, a, h, g, m, l, r, p.left, n, e, marks);

@@ -20,10 +20,10 @@ ghost use Rattle.store.specs.Face.{tileColumns, AtPiece, bandEnd};
 ghost use Rattle.row_lists.specs.Entries.{entry, entrySize, entryNumbers, countIn, differingIn, listed};
 ghost use Rattle.row_lists.specs.Placing.{Cut, capOf, numbersIf, numbersAt, stretch, nextOf, Nexts, Ends, PiecePlaced, BandPlaced, SpreadOut};
 ghost use Rattle.comparisons.specs.declared.Halt.the-variants as halt;
-ghost use Rattle.page_compare.specs.Sides.{areaDiffer, areaHaltIn, Both, BothReady, markWidth, marked};
+ghost use Rattle.page_compare.specs.Sides.{areaDiffer, areaTiling, rowTiling, areaHaltIn, Both, BothReady, markWidth, marked};
 
-// The numbers of an entry: row, column, element.
-const ENTRY: usize = 3;
+// The numbers of an entry: row, column, element, tile, number inside the tile.
+const ENTRY: usize = 5;
 
 fn put_number(v: u32, i: usize, list: &mut [u32])
     requires { ⌜ i < length (now list) ⌝ }
@@ -33,30 +33,44 @@ fn put_number(v: u32, i: usize, list: &mut [u32])
 }
 
 // The k-th entry, for which there is room.
-fn put_entry(r: u64, c: u64, e: u64, k: u64, list: &mut [u32])
-    requires { ⌜ (r < 65536) × ((c < 65536) × (e < 65536)) ⌝ }
+fn put_entry(r: u64, c: u64, e: u64, tile: u64, inside: u64, k: u64, list: &mut [u32])
+    requires { ⌜ (r < 65536) × ((c < 65536) × ((e < 65536) × ((tile < 4294967296) × (inside < 4294967296)))) ⌝ }
     requires room { ⌜ k < length (now list) / entrySize ⌝ }
-    ensures { λ _. ⌜ Cut (capOf (now (list .entry))) (k * entrySize) (entryNumbers (entry r c e)) (now (list .entry)) (now (list .exit)) ⌝ }
+    ensures { λ _. ⌜ Cut (capOf (now (list .entry))) (k * entrySize) (entryNumbers (entry r c e) tile inside) (now (list .entry)) (now (list .exit)) ⌝ }
 {
     let at = k as usize * ENTRY;
     put_number(r as u32, at, list);
     put_number(c as u32, at + 1, list);
     put_number(e as u32, at + 2, list);
+    put_number(tile as u32, at + 3, list);
+    put_number(inside as u32, at + 4, list);
 }
 
-// That of an element, if it has a mark and there is room: where the next one goes.
-fn place_element(marks: &[u8], left: u64, r: u64, c: u64, e: u64, k: u64, list: &mut [u32]) -> u64
+// That of an element, if it has a mark and there is room: where the next one goes. The columns from `left` on lie in a tile, with the
+// numbers from `start` on.
+fn place_element(
+    marks: &[u8],
+    tile: u64,
+    start: u64,
+    left: u64,
+    r: u64,
+    c: u64,
+    e: u64,
+    k: u64,
+    list: &mut [u32],
+) -> u64
     requires { ⌜ (r < 65536) × ((c < 65536) × ((left ≤ c) × (e < markWidth))) ⌝ }
     requires marks { ⌜ (c - left) * markWidth + e < length (now marks) ⌝ }
+    requires small { ⌜ (tile < 4294967296) × (start < 16777216) ⌝ }
     requires room { ⌜ k ≤ length (now list) / entrySize ⌝ }
     ensures next { λ n. ⌜ n ≡ min (length (now (list .entry)) / entrySize) (k + oneIf (marked (now (marks .entry)) left r c e)) ⌝ }
-    ensures list { λ _. ⌜ Cut (capOf (now (list .entry))) (k * entrySize) (numbersIf (marked (now (marks .entry)) left r c e) r c e) (now (list .entry)) (now (list .exit)) ⌝ }
+    ensures list { λ _. ⌜ Cut (capOf (now (list .entry))) (k * entrySize) (numbersIf (rowTiling tile start left) (marked (now (marks .entry)) left r c e) r c e) (now (list .entry)) (now (list .exit)) ⌝ }
 {
     let room = (list.len() / ENTRY) as u64;
     let i = ((c - left) * 16 + e) as usize;
     if marks::is_mark(marks, i) {
         if k < room {
-            put_entry(r, c, e, k, list);
+            put_entry(r, c, e, tile, start + (c - left), k, list);
             return k + 1;
         }
         return k;
@@ -68,6 +82,8 @@ fn place_element(marks: &[u8], left: u64, r: u64, c: u64, e: u64, k: u64, list: 
 fn place_cell(
     marks: &[u8],
     elements: u64,
+    tile: u64,
+    start: u64,
     left: u64,
     r: u64,
     c: u64,
@@ -76,23 +92,26 @@ fn place_cell(
 ) -> u64
     requires { ⌜ (r < 65536) × ((c < 65536) × ((left ≤ c) × (elements ≤ markWidth))) ⌝ }
     requires marks { ⌜ (c - left) * markWidth + markWidth ≤ length (now marks) ⌝ }
+    requires small { ⌜ (tile < 4294967296) × (start < 16777216) ⌝ }
     requires room { ⌜ k ≤ length (now list) / entrySize ⌝ }
     ensures next { λ n. ⌜ n ≡ min (length (now (list .entry)) / entrySize) (k + countBelow elements (marked (now (marks .entry)) left r c)) ⌝ }
-    ensures list { λ _. ⌜ Cut (capOf (now (list .entry))) (k * entrySize) (numbersAt (marked (now (marks .entry)) left) elements r c) (now (list .entry)) (now (list .exit)) ⌝ }
+    ensures list { λ _. ⌜ Cut (capOf (now (list .entry))) (k * entrySize) (numbersAt (rowTiling tile start left) (marked (now (marks .entry)) left) elements r c) (now (list .entry)) (now (list .exit)) ⌝ }
 {
     let mut next = k;
     let mut e = 0;
     while e < elements {
-        next = place_element(marks, left, r, c, e, next, list);
+        next = place_element(marks, tile, start, left, r, c, e, next, list);
         e += 1;
     }
     next
 }
 
-// The entries of a row's stretch, from the k-th on: where the row's next one goes.
+// The entries of a row's stretch, from the k-th on: where the row's next one goes. It lies in a tile, with the numbers from `start` on.
 fn place_row(
     marks: &[u8],
     elements: u64,
+    tile: u64,
+    start: u64,
     r: u64,
     left: u64,
     right: u64,
@@ -101,14 +120,15 @@ fn place_row(
 ) -> u64
     requires { ⌜ (r < 65536) × ((left ≤ right) × ((right ≤ 65536) × (elements ≤ markWidth))) ⌝ }
     requires marks { ⌜ (right - left) * markWidth ≤ length (now marks) ⌝ }
+    requires small { ⌜ (tile < 4294967296) × (start < 16777216) ⌝ }
     requires room { ⌜ k ≤ length (now list) / entrySize ⌝ }
     ensures next { λ n. ⌜ n ≡ min (length (now (list .entry)) / entrySize) (k + countIn (marked (now (marks .entry)) left) elements r (r + 1) left right) ⌝ }
-    ensures list { λ _. ⌜ Cut (capOf (now (list .entry))) (k * entrySize) (stretch (numbersAt (marked (now (marks .entry)) left) elements) r left right) (now (list .entry)) (now (list .exit)) ⌝ }
+    ensures list { λ _. ⌜ Cut (capOf (now (list .entry))) (k * entrySize) (stretch (numbersAt (rowTiling tile start left) (marked (now (marks .entry)) left) elements) r left right) (now (list .entry)) (now (list .exit)) ⌝ }
 {
     let mut next = k;
     let mut c = left;
     while c < right {
-        next = place_cell(marks, elements, left, r, c, next, list);
+        next = place_cell(marks, elements, tile, start, left, r, c, next, list);
         c += 1;
     }
     next
@@ -139,13 +159,23 @@ fn place_stretch(
     requires room { ⌜ (p .right - p .left) * markWidth ≤ length (now marks) ⌝ }
     requires next { ⌜ (k ≡ min (length (now list) / entrySize) (nextOf (areaDiffer (now first) (now second) q a) (q .elements) (a .columns) r (p .left))) × (end ≡ min (length (now list) / entrySize) (nextOf (areaDiffer (now first) (now second) q a) (q .elements) (a .columns) r (a .columns))) ⌝ }
     ensures next { λ n. ⌜ n ≡ min (length (now (list .entry)) / entrySize) (nextOf (areaDiffer (now (first .entry)) (now (second .entry)) q a) (q .elements) (a .columns) r (p .right)) ⌝ }
-    ensures list { λ _. ⌜ Cut (capOf (now (list .entry))) (nextOf (areaDiffer (now (first .entry)) (now (second .entry)) q a) (q .elements) (a .columns) r (p .left) * entrySize) (stretch (numbersAt (areaDiffer (now (first .entry)) (now (second .entry)) q a) (q .elements)) r (p .left) (p .right)) (now (list .entry)) (now (list .exit)) ⌝ }
+    ensures list { λ _. ⌜ Cut (capOf (now (list .entry))) (nextOf (areaDiffer (now (first .entry)) (now (second .entry)) q a) (q .elements) (a .columns) r (p .left) * entrySize) (stretch (numbersAt (areaTiling (now (first .entry)) a) (areaDiffer (now (first .entry)) (now (second .entry)) q a) (q .elements)) r (p .left) (p .right)) (now (list .entry)) (now (list .exit)) ⌝ }
 {
     if end <= k {
         return k;
     }
     marks::mark_row(first, second, q, memory, a, p, start, r, xs, ys, marks);
-    place_row(marks, q.elements, r, p.left, p.right, k, list)
+    place_row(
+        marks,
+        q.elements,
+        p.tile,
+        start,
+        r,
+        p.left,
+        p.right,
+        k,
+        list,
+    )
 }
 
 // The rows of a piece. `next` has where the next entry of each row goes, and `ends` where its last one ends.
@@ -170,7 +200,7 @@ fn place_rows(
     requires ends { ⌜ Ends (areaDiffer (now first) (now second) q a) (q .elements) (a .columns) (length (now list) / entrySize) (p .top) (p .bottom) (now ends) ⌝ }
     requires next { ⌜ Nexts (areaDiffer (now first) (now second) q a) (q .elements) (a .columns) (length (now list) / entrySize) (p .top) (p .bottom) (p .top) (p .left) (p .right) (now next) ⌝ }
     ensures next { λ _. ⌜ Nexts (areaDiffer (now (first .entry)) (now (second .entry)) q a) (q .elements) (a .columns) (length (now (list .entry)) / entrySize) (p .top) (p .bottom) (p .bottom) (p .left) (p .right) (now (next .exit)) ⌝ }
-    ensures list { λ _. ⌜ PiecePlaced (areaDiffer (now (first .entry)) (now (second .entry)) q a) (q .elements) (a .columns) (p .top) (p .bottom) (p .bottom) (p .left) (p .right) (now (list .entry)) (now (list .exit)) ⌝ }
+    ensures list { λ _. ⌜ PiecePlaced (areaTiling (now (first .entry)) a) (areaDiffer (now (first .entry)) (now (second .entry)) q a) (q .elements) (a .columns) (p .top) (p .bottom) (p .bottom) (p .left) (p .right) (now (list .entry)) (now (list .exit)) ⌝ }
 {
     let shape = description::shape_of(first);
     let across = shape.tile_columns as u64;
@@ -223,7 +253,7 @@ fn place_piece(
     requires ends { ⌜ Ends (areaDiffer (now first) (now second) q a) (q .elements) (a .columns) (length (now list) / entrySize) (p .top) (p .bottom) (now ends) ⌝ }
     requires next { ⌜ Nexts (areaDiffer (now first) (now second) q a) (q .elements) (a .columns) (length (now list) / entrySize) (p .top) (p .bottom) (p .top) (p .left) (p .right) (now next) ⌝ }
     ensures next { λ _. ⌜ Nexts (areaDiffer (now (first .entry)) (now (second .entry)) q a) (q .elements) (a .columns) (length (now (list .entry)) / entrySize) (p .top) (p .bottom) (p .bottom) (p .left) (p .right) (now (next .exit)) ⌝ }
-    ensures list { λ _. ⌜ PiecePlaced (areaDiffer (now (first .entry)) (now (second .entry)) q a) (q .elements) (a .columns) (p .top) (p .bottom) (p .bottom) (p .left) (p .right) (now (list .entry)) (now (list .exit)) ⌝ }
+    ensures list { λ _. ⌜ PiecePlaced (areaTiling (now (first .entry)) a) (areaDiffer (now (first .entry)) (now (second .entry)) q a) (q .elements) (a .columns) (p .top) (p .bottom) (p .bottom) (p .left) (p .right) (now (list .entry)) (now (list .exit)) ⌝ }
 {
     if let Plain::Same(n) = count::plain_piece(first, second, q, memory, a, p, xs, ys) {
         if n == 0 {
@@ -267,7 +297,7 @@ fn place_tile(
     requires ends { ⌜ Ends (areaDiffer (now first) (now second) q a) (q .elements) (a .columns) (length (now list) / entrySize) (p .top) (p .bottom) (now ends) ⌝ }
     requires next { ⌜ Nexts (areaDiffer (now first) (now second) q a) (q .elements) (a .columns) (length (now list) / entrySize) (p .top) (p .bottom) (p .top) (p .left) (p .right) (now next) ⌝ }
     ensures next { λ _. ⌜ Nexts (areaDiffer (now (first .entry)) (now (second .entry)) q a) (q .elements) (a .columns) (length (now (list .entry)) / entrySize) (p .top) (p .bottom) (p .bottom) (p .left) (p .right) (now (next .exit)) ⌝ }
-    ensures list { λ _. ⌜ PiecePlaced (areaDiffer (now (first .entry)) (now (second .entry)) q a) (q .elements) (a .columns) (p .top) (p .bottom) (p .bottom) (p .left) (p .right) (now (list .entry)) (now (list .exit)) ⌝ }
+    ensures list { λ _. ⌜ PiecePlaced (areaTiling (now (first .entry)) a) (areaDiffer (now (first .entry)) (now (second .entry)) q a) (q .elements) (a .columns) (p .top) (p .bottom) (p .bottom) (p .left) (p .right) (now (list .entry)) (now (list .exit)) ⌝ }
 {
     let half = memory.len() / 2;
     let end = memory.len();
@@ -309,7 +339,7 @@ fn place_band(
     requires room { ⌜ (65536 ≤ length (now marks)) × ((4096 ≤ length (now next)) × (4096 ≤ length (now ends))) ⌝ }
     requires ends { ⌜ Ends (areaDiffer (now first) (now second) q a) (q .elements) (a .columns) (length (now list) / entrySize) top bottom (now ends) ⌝ }
     requires next { ⌜ Nexts (areaDiffer (now first) (now second) q a) (q .elements) (a .columns) (length (now list) / entrySize) top bottom top 0 0 (now next) ⌝ }
-    ensures { λ _. ⌜ BandPlaced (areaDiffer (now (first .entry)) (now (second .entry)) q a) (q .elements) (a .columns) top bottom (now (list .entry)) (now (list .exit)) ⌝ }
+    ensures { λ _. ⌜ BandPlaced (areaTiling (now (first .entry)) a) (areaDiffer (now (first .entry)) (now (second .entry)) q a) (q .elements) (a .columns) top bottom (now (list .entry)) (now (list .exit)) ⌝ }
 {
     let shape = description::shape_of(first);
     let cells = shape.tile_rows as u64 * (shape.tile_columns as u64);
@@ -381,7 +411,7 @@ fn list_band(
     requires read { ⌜ areaHaltIn (now first) (now second) q a top bottom 0 (a .columns) ≡ halt.None ⌝ }
     requires from { ⌜ (from ≡ countIn (areaDiffer (now first) (now second) q a) (q .elements) 0 top 0 (a .columns)) × (from ≤ 1099511627776) ⌝ }
     ensures count { λ n. ⌜ n ≡ countIn (areaDiffer (now (first .entry)) (now (second .entry)) q a) (q .elements) top bottom 0 (a .columns) ⌝ }
-    ensures list { λ _. ⌜ BandPlaced (areaDiffer (now (first .entry)) (now (second .entry)) q a) (q .elements) (a .columns) top bottom (now (list .entry)) (now (list .exit)) ⌝ }
+    ensures list { λ _. ⌜ BandPlaced (areaTiling (now (first .entry)) a) (areaDiffer (now (first .entry)) (now (second .entry)) q a) (q .elements) (a .columns) top bottom (now (list .entry)) (now (list .exit)) ⌝ }
 {
     match count::count_band(first, second, q, memory, a, top, bottom, marks, counts) {
         Seen::Halted(_) => 0,
@@ -425,7 +455,7 @@ pub(crate) fn list_all(
     requires room { ⌜ (65536 ≤ length (now marks)) × (4096 ≤ length (now counts)) ⌝ }
     requires read { ⌜ areaHaltIn (now first) (now second) q a 0 (a .rows) 0 (a .columns) ≡ halt.None ⌝ }
     requires total { ⌜ total ≡ countIn (areaDiffer (now first) (now second) q a) (q .elements) 0 (a .rows) 0 (a .columns) ⌝ }
-    ensures { λ _. ⌜ now (list .exit) ≡ put (now (list .entry)) 0 (listed (length (now (list .entry))) (differingIn (areaDiffer (now (first .entry)) (now (second .entry)) q a) (q .elements) 0 (a .rows) 0 (a .columns))) ⌝ }
+    ensures { λ _. ⌜ now (list .exit) ≡ put (now (list .entry)) 0 (listed (areaTiling (now (first .entry)) a) (length (now (list .entry))) (differingIn (areaDiffer (now (first .entry)) (now (second .entry)) q a) (q .elements) 0 (a .rows) 0 (a .columns))) ⌝ }
 {
     let mut ends = [0u64; 4096];
     let room = (list.len() / ENTRY) as u64;

@@ -25,7 +25,7 @@ use Rattle.bodies.specs.TileRecord.{elementContentAt}
 use Rattle.check_directory.specs.Correspondence.{OneToOne}
 use Rattle.page_check.proofs.GivenLaws.{obeys-one}
 use Rattle.cells.specs.Asked.{inGrid, inTiles}
-use Rattle.cells.specs.TileCells.{fillOf, offsetIn, placeIn, storedAt, cellIn, contentIn}
+use Rattle.cells.specs.TileCells.{locationOf, fillOf, offsetIn, placeIn, storedAt, cellIn, contentIn}
 use Rattle.cells.specs.Meaning.{meaning, contentMeaning}
 use Rattle.cells.specs.Demand3.{bytesOfCell}
 use Rattle.cells.proofs.CellLaws.{grid-means, tiles-mean}
@@ -39,7 +39,7 @@ use Rattle.lay_down.specs.Answer.{laidOut}
 use Rattle.record.specs.declared.Found.the-variants.{At, Nothing}
 use Rattle.read_back.specs.ReadBack.{contentGiven, contentLaid, cellGiven, cellLaid, ListedAs, ReadBack}
 use Rattle.written_rules.proofs.PlainLaws.{tile-section, tile-holds, tile-bytes}
-use Rattle.read_back.proofs.Setting.{Laying, laying-of, front-range, tiles-kept, tile-kept, size-kept, grid-kept, asked-kept, offset-kept, fill-kept}
+use Rattle.read_back.proofs.Setting.{Laying, laying-of, front-range, tiles-kept, tile-kept, size-kept, grid-kept, asked-kept, offset-kept, fill-kept, location-kept}
 use Rattle.read_back.proofs.FrontLaws.{length-laid, byte-kept, front-kept, fields-laid}
 use Rattle.read_back.proofs.TileLaws.{tile-whole}
 use Rattle.read_back.proofs.RecordLaws.{index-below, cells-inside, tile-here}
@@ -122,12 +122,12 @@ module _ {f : List ℕ} {t : ℕ} {ix c : List ℕ} (l : Laying f t ix c) where
     asked : (row < gridRows f) × ((column < gridColumns f) × (e < elementCount f))
     asked = grid-means f row column e i
 
-    fill-read : (ci : ℕ) → ((k : ℕ) → ListedAs f ix k row column → ⊥) → meaning s ci row column e ≡ fillOf f e
+    fill-read : (ci : ℕ) → ((k : ℕ) → ListedAs f ix k row column → ⊥) → meaning s ci row column e ≡ fillOf f (locationOf f row column) e
     unfolding meaning cellBy
     fill-read ci none =
         let n = tile-less f row column (front-range l .sides .tile-rows .0) (front-range l .sides .tile-columns .0) (asked .0) (asked .1 .0) in
         let z = unlisted-none (cellTile f row column) n (λ k h g. none k (record { among = h; tile = g })) in
-        rw (grid-kept (front-kept l) row column e, i, tile-kept (front-kept l) row column, z) (fill-kept (front-kept l) e (asked .1 .1))
+        rw (grid-kept (front-kept l) row column e, i, tile-kept (front-kept l) row column, z) (fill-kept (front-kept l) row column e (asked .1 .1))
 
     cell-inside : offsetIn f row column e + bytesOfCell f e ≤ elementBytes f e
     cell-inside = offset-within f row column e (front-range l .sides .tile-rows .0) (front-range l .sides .tile-columns .0)
@@ -148,11 +148,12 @@ module _ {f : List ℕ} {t : ℕ} {ix c : List ℕ} (l : Laying f t ix c) where
       stored-read :
           (ci : ℕ) → meaning s ci row column e
           ≡ cell.Stored (valueOf (element f e .kind) (numberAt (cellSize (element f e .kind)) c (cellGiven f k row column e))) (cellLaid f k row column e)
+          (locationOf f row column)
       unfolding meaning cellBy cellIn storedAt numberAt
       stored-read ci =
           let g = asked .1 .1 in
           let r : meant s (cellTile s row column) ≡ At (start k) = ap (meant s) (tile-kept (front-kept l) row column ∙ sym (q .tile)) ∙ listed-found k (q .among) in
-          rw (grid-kept (front-kept l) row column e, i, r, tile-whole (front-kept l) (tile-here l k (q .among)) e g, place, front-kept l .elements e g, cell-bytes)
+          rw (grid-kept (front-kept l) row column e, i, r, tile-whole (front-kept l) (tile-here l k (q .among)) e g, place, location-kept (front-kept l) row column, front-kept l .elements e g, cell-bytes)
 
 pub read-back : ReadBack
 unfolding laidOut meaning cellBy contentMeaning tileBy

@@ -20,7 +20,7 @@ use Rattle.check_header.specs.HeaderRecord.{lengthRight}
 use Rattle.check_header.proofs.Judged.{header-lawful}
 use Rattle.check_header.specs.Passed.{InRange, Headed}
 use Rattle.cells.specs.Asked.{inGrid, inTiles}
-use Rattle.cells.specs.TileCells.{fillOf, offsetIn}
+use Rattle.cells.specs.TileCells.{locationOf, fillOf, offsetIn}
 use Rattle.lay_down.specs.Answer.{ascending, laid}
 use Rattle.lay_down.specs.Page.{fileLength}
 use Rattle.lay_down.proofs.FrontLaws.{Front, front-of, front-passed}
@@ -99,9 +99,13 @@ module _ {f s : List ℕ} (k : Kept f s) where
   unfolding offsetIn cellInside
   offset-kept row column e h = rw (k .tile-rows, k .tile-columns, k .elements e h)
 
-  pub fill-kept : (e : ℕ) → e < elementCount f → fillOf s e ≡ fillOf f e
+  pub location-kept : (row column : ℕ) → locationOf s row column ≡ locationOf f row column
+  unfolding locationOf cellInside
+  location-kept row column = rw (tile-kept row column, k .tile-rows, k .tile-columns)
+
+  pub fill-kept : (row column e : ℕ) → e < elementCount f → fillOf s (locationOf s row column) e ≡ fillOf f (locationOf f row column) e
   unfolding fillOf
-  fill-kept e h = rw (k .elements e h)
+  fill-kept row column e h = rw (location-kept row column, k .elements e h)
 
   pub size-kept : (e : ℕ) → e < elementCount f → elementBytes s e ≡ elementBytes f e
   unfolding elementBytes

@@ -20,7 +20,7 @@ use Rattle.geometry.specs.Tiles.{cellTile}
 use Rattle.geometry.specs.Sizes.{elementBytes, tileBytes, storedSize, plainTileLength}
 use Rattle.page_check.specs.Stages.{check}
 use Rattle.cells.specs.Asked.{inGrid, inTiles}
-use Rattle.cells.specs.TileCells.{fillOf, offsetIn}
+use Rattle.cells.specs.TileCells.{locationOf, fillOf, offsetIn}
 use Rattle.cells.specs.Meaning.{meaning, contentMeaning}
 use Rattle.cells.specs.Demand3.{bytesOfCell, OneAnswer}
 use Rattle.lay_down.specs.Page.{directoryStart, FieldsRead, NotSet, laidFile}
@@ -56,6 +56,7 @@ pub record ReadsBack (f : List ℕ) (t : ℕ) (ix c : List ℕ) : Type 0 where
       (ci row column e k : ℕ) → inGrid f row column e ≡ true → ListedAs f ix k row column →
       meaning (laidFile f t ix c) ci row column e
       ≡ cell.Stored (valueOf (element f e .kind) (numberAt (cellSize (element f e .kind)) c (cellGiven f k row column e))) (cellLaid f k row column e)
+      (locationOf f row column)
   -- and has exactly those bytes at its place
   pub given :
       (row column e k : ℕ) → inGrid f row column e ≡ true → ListedAs f ix k row column →
@@ -66,7 +67,7 @@ pub record ReadsBack (f : List ℕ) (t : ℕ) (ix c : List ℕ) : Type 0 where
   -- every other grid cell is fill, with the element's fill of the front
   pub fill :
       (ci row column e : ℕ) → inGrid f row column e ≡ true → ((k : ℕ) → ListedAs f ix k row column → ⊥) →
-      meaning (laidFile f t ix c) ci row column e ≡ fillOf f e
+      meaning (laidFile f t ix c) ci row column e ≡ fillOf f (locationOf f row column) e
   -- an element's content in a listed tile is the bytes given for it, also past the grid's edge
   pub content :
       (k e : ℕ) → k < length ix → e < elementCount f →

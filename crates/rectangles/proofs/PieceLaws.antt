@@ -69,10 +69,10 @@ module _ (s : List ℕ) (ci : ℕ) (a : Rectangle) (r left c : ℕ) where
     told-more p x n i e f g y u l w = let z = e ∙ n .each r c i in more (cellKind x) (cellBits x) (ap cellKind z) (ap cellBits z) f g y u l w
 
     pub told-numbered :
-        (right kind fill start : ℕ) (x : Cell) → Numbered s ci a h m kind fill start r left right → x ≡ numberedCell s kind fill m (start + (c - left)) h →
+        (right kind fill tile start : ℕ) (x : Cell) → Numbered s ci a h m kind fill tile start r left right → x ≡ numberedCell s kind fill m tile (start + (c - left)) h →
         k₂ ≡ set k₁ (r * a .columns + c) (cellKind x) → b₂ ≡ set b₁ (r * a .columns + c) (cellBits x) → HasRoom a k b → r < a .rows → left ≤ c → c < right → right ≤ a .columns →
         Told s ci a (Inside r (r + 1) left (c + 1)) k k₂ b b₂
-    told-numbered right kind fill start x n e f g y u l v w =
+    told-numbered right kind fill tile start x n e f g y u l v w =
         let z = e ∙ n .each c l v in more (cellKind x) (cellBits x) (ap cellKind z) (ap cellBits z) f g y u l (omega arith)
 
 -- a row under another

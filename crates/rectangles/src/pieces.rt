@@ -61,6 +61,7 @@ fn tell_row(
     a: Rectangle,
     kind: u32,
     fill: u32,
+    tile: u64,
     start: u64,
     r: u64,
     left: u64,
@@ -70,13 +71,13 @@ fn tell_row(
 )
     requires fits { ⌜ HasRoom a (now kinds) (now bits) ⌝ }
     requires inside { ⌜ (r < a .rows) × ((left ≤ right) × (right ≤ a .columns)) ⌝ }
-    requires numbered { ⌜ Numbered (now file) compressor a held (now memory) kind fill start r left right ⌝ }
+    requires numbered { ⌜ Numbered (now file) compressor a held (now memory) kind fill tile start r left right ⌝ }
     ensures { λ _. ⌜ Told (now (file .entry)) compressor a (Inside r (r + 1) left right) (now (kinds .entry)) (now (kinds .exit)) (now (bits .entry)) (now (bits .exit)) ⌝ }
 {
     let mut c = left;
     while c < right {
         let inside = (start + (c - left)) as u32;
-        let x = many::numbered_cell(file, kind, fill, held, memory, inside);
+        let x = many::numbered_cell(file, kind, fill, held, memory, tile, inside);
         put_cell(x, (r * a.columns + c) as usize, kinds, bits);
         c += 1;
     }
@@ -117,6 +118,7 @@ fn fill_row(
         a,
         kind,
         fill,
+        p.tile,
         start,
         r,
         p.left,

@@ -12,8 +12,8 @@ use Rattle.wire.specs.Pick.{pick}
 use Rattle.wire.specs.Lists.{oneIf, countBelow}
 use Rattle.blocks.specs.Folds.{foldBelow, foldInside}
 use Rattle.blocks.proofs.FoldLaws.{sums, lists}
-use Rattle.blocks.proofs.InsideLaws.{inside-one, row-beside}
-use Rattle.row_lists.specs.Entries.{entry, entriesAt, entrySize, entryNumbers, flat, countIn}
+use Rattle.blocks.proofs.InsideLaws.{inside-none, inside-one, row-beside}
+use Rattle.row_lists.specs.Entries.{Tiling, entry, entriesAt, entrySize, entryNumbers, tiledNumbers, flat, countIn}
 use Rattle.row_lists.specs.Placing.{Cut, capOf, numbersIf, numbersAt, stretch}
 use Rattle.row_lists.proofs.PlacingLaws.{stretch-none}
 use Rattle.row_lists.proofs.ListedLaws.{flat-append, flat-long, stretch-counted}
@@ -68,72 +68,43 @@ cut-one cap at v l now e h k =
     })
 
 pub entry-put :
-    (r c e k at : ℕ) (l p q n : List ℕ) → at ≡ k * entrySize → k < length l / entrySize → p ≡ set l at r → q ≡ set p (at + 1) c → n ≡ set q (at + 2) e →
-    Cut (capOf l) (k * entrySize) (entryNumbers (entry r c e)) l n
-entry-put r c e k at l p q n z h a b d =
+    (r c e tile inside k at : ℕ) (l p q m o n : List ℕ) → at ≡ k * entrySize → k < length l / entrySize → p ≡ set l at r → q ≡ set p (at + 1) c → m ≡ set q (at + 2) e →
+    o ≡ set m (at + 3) tile → n ≡ set o (at + 4) inside → Cut (capOf l) (k * entrySize) (entryNumbers (entry r c e) tile inside) l n
+entry-put r c e tile inside k at l p q m o n z h a b d f g =
     let x = cut-one (capOf l) at r l p a (omega arith) (omega arith) in
     let y = cut-one (capOf l) (at + 1) c p q b (omega (arith, x .long)) (omega arith) in
-    let w = cut-one (capOf l) (at + 2) e q n d (omega (arith, x .long, y .long)) (omega arith) in
-    rw (← z) (cut-then (capOf l) at (r ∷ c ∷ []) (e ∷ []) l q n (cut-then (capOf l) at (r ∷ []) (c ∷ []) l p q x y) w)
+    let w = cut-one (capOf l) (at + 2) e q m d (omega (arith, x .long, y .long)) (omega arith) in
+    let u = cut-one (capOf l) (at + 3) tile m o f (omega (arith, x .long, y .long, w .long)) (omega arith) in
+    let v = cut-one (capOf l) (at + 4) inside o n g (omega (arith, x .long, y .long, w .long, u .long)) (omega arith) in
+    let i = cut-then (capOf l) at (r ∷ []) (c ∷ []) l p q x y in
+    let j = cut-then (capOf l) at (r ∷ c ∷ []) (e ∷ []) l q m i w in
+    let t = cut-then (capOf l) at (r ∷ c ∷ e ∷ []) (tile ∷ []) l m o j u in
+    rw (← z) (cut-then (capOf l) at (r ∷ c ∷ e ∷ tile ∷ []) (inside ∷ []) l o n t v)
 
 -- one element: it differs, and its entry is written, or there is no room for it; or it does not
 
-module _ (b v : Bool) (r c e k : ℕ) (l : List ℕ) (q : b ≡ v) where
+module _ (tiling : Tiling) (b v : Bool) (r c e k : ℕ) (l : List ℕ) (q : b ≡ v) where
   pub element-entry :
-      (m : List ℕ) → b ≡ true → k < length l / entrySize → Cut (capOf l) (k * entrySize) (entryNumbers (entry r c e)) l m →
-      (k + 1 ≡ min (length l / entrySize) (k + oneIf v)) × Cut (capOf l) (k * entrySize) (numbersIf v r c e) l m
+      (m : List ℕ) → b ≡ true → k < length l / entrySize → Cut (capOf l) (k * entrySize) (tiledNumbers tiling (entry r c e)) l m →
+      (k + 1 ≡ min (length l / entrySize) (k + oneIf v)) × Cut (capOf l) (k * entrySize) (numbersIf tiling v r c e) l m
   unfolding oneIf numbersIf flat
   element-entry m f h w = let t : v ≡ true = sym q ∙ f in rw t (omega arith, w)
 
   pub element-full :
-      b ≡ true → k ≤ length l / entrySize → length l / entrySize ≤ k → (k ≡ min (length l / entrySize) (k + oneIf v)) × Cut (capOf l) (k * entrySize) (numbersIf v r c e) l l
+      b ≡ true → k ≤ length l / entrySize → length l / entrySize ≤ k → (k ≡ min (length l / entrySize) (k + oneIf v)) × Cut (capOf l) (k * entrySize) (numbersIf tiling v r c e) l l
   unfolding oneIf
   element-full f h g = let t : v ≡ true = sym q ∙ f in rw t (omega arith, cut-full _ _ _ l (omega arith))
 
-  pub element-pass : b ≡ false → k ≤ length l / entrySize → (k ≡ min (length l / entrySize) (k + oneIf v)) × Cut (capOf l) (k * entrySize) (numbersIf v r c e) l l
+  pub element-pass : b ≡ false → k ≤ length l / entrySize → (k ≡ min (length l / entrySize) (k + oneIf v)) × Cut (capOf l) (k * entrySize) (numbersIf tiling v r c e) l l
   unfolding oneIf numbersIf flat
   element-pass f h = let t : v ≡ false = sym q ∙ f in rw t (omega arith, cut-none _ (k * entrySize) l)
 
 -- a cell's entries, element by element
 
 module _ (d : ℕ → ℕ → ℕ → Bool) (r c : ℕ) where
-  pub cell-none : numbersAt d 0 r c ≡ []
-  unfolding flat entriesAt foldBelow
-  cell-none = refl
-
-  cell-more : (e : ℕ) → numbersAt d (e + 1) r c ≡ numbersAt d e r c ++ flat (pick (d r c e) (entry r c e ∷ []) [])
-  unfolding entriesAt foldBelow
-  cell-more e = let z : e + 1 ≡ suc e = omega arith in rw z (flat-append (foldBelow _++_ [] e (λ k. pick (d r c k) (entry r c k ∷ []) [])) (pick (d r c e) (entry r c e ∷ []) []))
-
   count-more : (e : ℕ) → countBelow (e + 1) (d r c) ≡ countBelow e (d r c) + oneIf (d r c e)
   unfolding countBelow
   count-more e = let z : e + 1 ≡ suc e = omega arith in rw z
-
-  pub cell-long : (e : ℕ) → length (numbersAt d e r c) ≡ entrySize * countBelow e (d r c)
-  cell-long e = flat-long (entriesAt d e r c) ∙ ap (λ (n : ℕ). entrySize * n) (entries-count d e r c)
-
-  -- one element more. The list keeps its length, so its end stays where it is
-  pub cell-go :
-      (e k n o : ℕ) (l m q : List ℕ) → k ≤ length l / entrySize → n ≡ min (length l / entrySize) (k + countBelow e (d r c)) →
-      o ≡ min (length m / entrySize) (n + oneIf (d r c e)) → Cut (capOf l) (k * entrySize) (numbersAt d e r c) l m →
-      Cut (capOf m) (n * entrySize) (numbersIf (d r c e) r c e) m q →
-      (o ≡ min (length l / entrySize) (k + countBelow (e + 1) (d r c))) × Cut (capOf l) (k * entrySize) (numbersAt d (e + 1) r c) l q
-  unfolding numbersIf
-  cell-go e k n o l m q b h f a w =
-      let room : ℕ = length l / entrySize in
-      let x : ℕ = k + countBelow e (d r c) in
-      let g : o ≡ min room (n + oneIf (d r c e)) = rw (a .long) at f in
-      let z : k * entrySize + length (numbersAt d e r c) ≡ x * entrySize = omega (arith, cell-long e) in
-      let y : Cut (room * entrySize) (min room x * entrySize) (flat (pick (d r c e) (entry r c e ∷ []) [])) m q = rw (a .long, h) at w in (
-        omega (arith, count-more e, g, h),
-        rw (cell-more e) (cut-then (room * entrySize) (k * entrySize) (numbersAt d e r c) (flat (pick (d r c e) (entry r c e ∷ []) [])) l m q a (rw z (cut-capped room x _ m q y))),
-      )
-
-  pub cell-end :
-      (e n k o : ℕ) (l q : List ℕ) → e ≡ n →
-      (o ≡ min (length l / entrySize) (k + countBelow e (d r c))) × Cut (capOf l) (k * entrySize) (numbersAt d e r c) l q →
-      (o ≡ min (length l / entrySize) (k + countBelow n (d r c))) × Cut (capOf l) (k * entrySize) (numbersAt d n r c) l q
-  cell-end e n k o l q z h = rw z at h
 
   pub count-few : (e : ℕ) → countBelow e (d r c) ≤ e
   unfolding countBelow oneIf
@@ -144,8 +115,43 @@ module _ (d : ℕ → ℕ → ℕ → Bool) (r c : ℕ) where
       one true = omega arith
       one false = omega arith
 
+module _ (tiling : Tiling) (d : ℕ → ℕ → ℕ → Bool) (r c : ℕ) where
+  pub cell-none : numbersAt tiling d 0 r c ≡ []
+  unfolding flat entriesAt foldBelow
+  cell-none = refl
+
+  cell-more : (e : ℕ) → numbersAt tiling d (e + 1) r c ≡ numbersAt tiling d e r c ++ flat tiling (pick (d r c e) (entry r c e ∷ []) [])
+  unfolding entriesAt foldBelow
+  cell-more e = let z : e + 1 ≡ suc e = omega arith in rw z (flat-append tiling (foldBelow _++_ [] e (λ k. pick (d r c k) (entry r c k ∷ []) [])) (pick (d r c e) (entry r c e ∷ []) []))
+
+  pub cell-long : (e : ℕ) → length (numbersAt tiling d e r c) ≡ entrySize * countBelow e (d r c)
+  cell-long e = flat-long tiling (entriesAt d e r c) ∙ ap (λ (n : ℕ). entrySize * n) (entries-count d e r c)
+
+  -- one element more. The list keeps its length, so its end stays where it is
+  pub cell-go :
+      (e k n o : ℕ) (l m q : List ℕ) → k ≤ length l / entrySize → n ≡ min (length l / entrySize) (k + countBelow e (d r c)) →
+      o ≡ min (length m / entrySize) (n + oneIf (d r c e)) → Cut (capOf l) (k * entrySize) (numbersAt tiling d e r c) l m →
+      Cut (capOf m) (n * entrySize) (numbersIf tiling (d r c e) r c e) m q →
+      (o ≡ min (length l / entrySize) (k + countBelow (e + 1) (d r c))) × Cut (capOf l) (k * entrySize) (numbersAt tiling d (e + 1) r c) l q
+  unfolding numbersIf
+  cell-go e k n o l m q b h f a w =
+      let room : ℕ = length l / entrySize in
+      let x : ℕ = k + countBelow e (d r c) in
+      let g : o ≡ min room (n + oneIf (d r c e)) = rw (a .long) at f in
+      let z : k * entrySize + length (numbersAt tiling d e r c) ≡ x * entrySize = omega (arith, cell-long e) in
+      let y : Cut (room * entrySize) (min room x * entrySize) (flat tiling (pick (d r c e) (entry r c e ∷ []) [])) m q = rw (a .long, h) at w in (
+        omega (arith, count-more d r c e, g, h),
+        rw (cell-more e) (cut-then (room * entrySize) (k * entrySize) (numbersAt tiling d e r c) (flat tiling (pick (d r c e) (entry r c e ∷ []) [])) l m q a (rw z (cut-capped room x _ m q y))),
+      )
+
+  pub cell-end :
+      (e n k o : ℕ) (l q : List ℕ) → e ≡ n →
+      (o ≡ min (length l / entrySize) (k + countBelow e (d r c))) × Cut (capOf l) (k * entrySize) (numbersAt tiling d e r c) l q →
+      (o ≡ min (length l / entrySize) (k + countBelow n (d r c))) × Cut (capOf l) (k * entrySize) (numbersAt tiling d n r c) l q
+  cell-end e n k o l q z h = rw z at h
+
   pub cell-begin :
-      (k : ℕ) (l : List ℕ) → k ≤ length l / entrySize → (k ≡ min (length l / entrySize) (k + countBelow 0 (d r c))) × Cut (capOf l) (k * entrySize) (numbersAt d 0 r c) l l
+      (k : ℕ) (l : List ℕ) → k ≤ length l / entrySize → (k ≡ min (length l / entrySize) (k + countBelow 0 (d r c))) × Cut (capOf l) (k * entrySize) (numbersAt tiling d 0 r c) l l
   unfolding countBelow
   cell-begin k l h = (omega arith, rw cell-none (cut-none _ (k * entrySize) l))
 
@@ -153,16 +159,8 @@ module _ (d : ℕ → ℕ → ℕ → Bool) (r c : ℕ) where
 
 module _ (d : ℕ → ℕ → ℕ → Bool) (n r left : ℕ) where
   count-none : countIn d n r (r + 1) left left ≡ 0
-  count-none = omega (arith, stretch-counted d n r left left, ap length (stretch-none (numbersAt d n) 0 r left))
-
-  pub row-begin :
-      (k : ℕ) (l : List ℕ) → k ≤ length l / entrySize →
-      (k ≡ min (length l / entrySize) (k + countIn d n r (r + 1) left left)) × Cut (capOf l) (k * entrySize) (stretch (numbersAt d n) r left left) l l
-  row-begin k l h = (omega (arith, count-none), rw (stretch-none (numbersAt d n) 0 r left) (cut-none _ (k * entrySize) l))
-
-  row-more : (c : ℕ) → left ≤ c → stretch (numbersAt d n) r left (c + 1) ≡ stretch (numbersAt d n) r left c ++ numbersAt d n r c
-  unfolding stretch
-  row-more c h = row-beside _++_ [] lists r (numbersAt d n) left c (c + 1) h (omega arith) ∙ ap (λ (v : List ℕ). foldInside _++_ [] r (r + 1) left c (numbersAt d n) ++ v) (inside-one _++_ [] lists r c (numbersAt d n))
+  unfolding countIn
+  count-none = inside-none _+_ 0 sums r (r + 1) left left _ (λ i c h. absurd (omega arith))
 
   count-more-row : (c : ℕ) → left ≤ c → countIn d n r (r + 1) left (c + 1) ≡ countIn d n r (r + 1) left c + countBelow n (d r c)
   unfolding countIn
@@ -170,28 +168,38 @@ module _ (d : ℕ → ℕ → ℕ → Bool) (n r left : ℕ) where
       row-beside _+_ 0 sums r (λ r c. countBelow n (d r c)) left c (c + 1) h (omega arith)
       ∙ ap (λ (v : ℕ). foldInside _+_ 0 r (r + 1) left c (λ r c. countBelow n (d r c)) + v) (inside-one _+_ 0 sums r c (λ r c. countBelow n (d r c)))
 
-  pub row-go :
-      (k c m o : ℕ) (l p q : List ℕ) → left ≤ c → k ≤ length l / entrySize → m ≡ min (length l / entrySize) (k + countIn d n r (r + 1) left c) →
-      o ≡ min (length p / entrySize) (m + countBelow n (d r c)) → Cut (capOf l) (k * entrySize) (stretch (numbersAt d n) r left c) l p →
-      Cut (capOf p) (m * entrySize) (numbersAt d n r c) p q →
-      (o ≡ min (length l / entrySize) (k + countIn d n r (r + 1) left (c + 1))) × Cut (capOf l) (k * entrySize) (stretch (numbersAt d n) r left (c + 1)) l q
-  row-go k c m o l p q h b e f a w =
-      let room : ℕ = length l / entrySize in
-      let x : ℕ = k + countIn d n r (r + 1) left c in
-      let g : o ≡ min room (m + countBelow n (d r c)) = rw (a .long) at f in
-      let z : k * entrySize + length (stretch (numbersAt d n) r left c) ≡ x * entrySize = omega (arith, stretch-counted d n r left c) in
-      let y : Cut (room * entrySize) (min room x * entrySize) (numbersAt d n r c) p q = rw (a .long, e) at w in (
-        omega (arith, count-more-row c h, g, e),
-        rw (row-more c h) (cut-then (room * entrySize) (k * entrySize) (stretch (numbersAt d n) r left c) (numbersAt d n r c) l p q a (rw z (cut-capped room x _ p q y))),
-      )
-
-  pub row-end :
-      (c right k o : ℕ) (l q : List ℕ) → c ≡ right →
-      (o ≡ min (length l / entrySize) (k + countIn d n r (r + 1) left c)) × Cut (capOf l) (k * entrySize) (stretch (numbersAt d n) r left c) l q →
-      (o ≡ min (length l / entrySize) (k + countIn d n r (r + 1) left right)) × Cut (capOf l) (k * entrySize) (stretch (numbersAt d n) r left right) l q
-  row-end c right k o l q z h = rw z at h
-
   -- no more entries than elements
   pub row-few : (w : ℕ) → countIn d n r (r + 1) left (left + w) ≤ w * n
   row-few zero = let z : left + 0 ≡ left = omega arith in rw z (omega (arith, count-none))
   row-few (suc w) = let z : left + suc w ≡ left + w + 1 = omega arith in rw z (omega (arith, count-more-row (left + w) (omega arith), row-few w, count-few d r (left + w) n))
+
+module _ (tiling : Tiling) (d : ℕ → ℕ → ℕ → Bool) (n r left : ℕ) where
+  pub row-begin :
+      (k : ℕ) (l : List ℕ) → k ≤ length l / entrySize →
+      (k ≡ min (length l / entrySize) (k + countIn d n r (r + 1) left left)) × Cut (capOf l) (k * entrySize) (stretch (numbersAt tiling d n) r left left) l l
+  row-begin k l h = (omega (arith, count-none d n r left), rw (stretch-none (numbersAt tiling d n) 0 r left) (cut-none _ (k * entrySize) l))
+
+  row-more : (c : ℕ) → left ≤ c → stretch (numbersAt tiling d n) r left (c + 1) ≡ stretch (numbersAt tiling d n) r left c ++ numbersAt tiling d n r c
+  unfolding stretch
+  row-more c h = row-beside _++_ [] lists r (numbersAt tiling d n) left c (c + 1) h (omega arith) ∙ ap (λ (v : List ℕ). foldInside _++_ [] r (r + 1) left c (numbersAt tiling d n) ++ v) (inside-one _++_ [] lists r c (numbersAt tiling d n))
+
+  pub row-go :
+      (k c m o : ℕ) (l p q : List ℕ) → left ≤ c → k ≤ length l / entrySize → m ≡ min (length l / entrySize) (k + countIn d n r (r + 1) left c) →
+      o ≡ min (length p / entrySize) (m + countBelow n (d r c)) → Cut (capOf l) (k * entrySize) (stretch (numbersAt tiling d n) r left c) l p →
+      Cut (capOf p) (m * entrySize) (numbersAt tiling d n r c) p q →
+      (o ≡ min (length l / entrySize) (k + countIn d n r (r + 1) left (c + 1))) × Cut (capOf l) (k * entrySize) (stretch (numbersAt tiling d n) r left (c + 1)) l q
+  row-go k c m o l p q h b e f a w =
+      let room : ℕ = length l / entrySize in
+      let x : ℕ = k + countIn d n r (r + 1) left c in
+      let g : o ≡ min room (m + countBelow n (d r c)) = rw (a .long) at f in
+      let z : k * entrySize + length (stretch (numbersAt tiling d n) r left c) ≡ x * entrySize = omega (arith, stretch-counted tiling d n r left c) in
+      let y : Cut (room * entrySize) (min room x * entrySize) (numbersAt tiling d n r c) p q = rw (a .long, e) at w in (
+        omega (arith, count-more-row d n r left c h, g, e),
+        rw (row-more c h) (cut-then (room * entrySize) (k * entrySize) (stretch (numbersAt tiling d n) r left c) (numbersAt tiling d n r c) l p q a (rw z (cut-capped room x _ p q y))),
+      )
+
+  pub row-end :
+      (c right k o : ℕ) (l q : List ℕ) → c ≡ right →
+      (o ≡ min (length l / entrySize) (k + countIn d n r (r + 1) left c)) × Cut (capOf l) (k * entrySize) (stretch (numbersAt tiling d n) r left c) l q →
+      (o ≡ min (length l / entrySize) (k + countIn d n r (r + 1) left right)) × Cut (capOf l) (k * entrySize) (stretch (numbersAt tiling d n) r left right) l q
+  row-end c right k o l q z h = rw z at h

@@ -1,6 +1,6 @@
 -- The rows of a piece, placed one under the other, and a band of pieces beside each other. Assumes nothing.
 use Prim.Native.Nat.{ℕ, zero, suc, _+_, _-_, _*_, _/_, _≤_, _<_, min}
-use mathlib.Core.Path.{_≡_, refl, sym, ap, _∙_}
+use mathlib.Core.Path.{_≡_, refl, sym, ap, ap₂, _∙_}
 use mathlib.Core.List.{List, [], _∷_, _++_}
 use mathlib.Core.Bool.{Bool, true, false}
 use mathlib.Core.Logic.{_⊎_, ⊎-elim, by-cases}
@@ -17,15 +17,15 @@ use Rattle.wire.specs.Lists.{countBelow}
 use Rattle.wire.specs.Bytes.{put}
 use Rattle.wire.proofs.TestLaws.{yes, no}
 use Rattle.blocks.specs.Tables.{Inside}
-use Rattle.blocks.specs.Folds.{foldInside}
+use Rattle.blocks.specs.Folds.{foldBelow, foldInside}
 use Rattle.blocks.specs.Walks.{Follows}
 use Rattle.blocks.proofs.FoldLaws.{fold-same, sums}
 use Rattle.blocks.proofs.InsideLaws.{inside-none, inside-each, inside-under, inside-same, row-beside}
-use Rattle.row_lists.specs.Entries.{entrySize, entriesAt, countIn, differingIn, flat, listed}
+use Rattle.row_lists.specs.Entries.{Tiling, entry, entrySize, entriesAt, countIn, differingIn, flat, listed}
 use Rattle.row_lists.specs.Placing.{Cut, Placed, capOf, upTo, stretch, start, numbersAt, rowsDone, reached, nextOf, Nexts, Ends, Counts, Spread, PiecePlaced, BandPlaced, ColumnsPlaced, BandUpto, SpreadOut, SpreadUpto}
 use Rattle.row_lists.proofs.EntryLaws.{entries-count}
 use Rattle.row_lists.proofs.PlacingLaws.{placed-none, placed-more, stretch-none, start-more, start-rises}
-use Rattle.row_lists.proofs.ListedLaws.{start-counted, stretch-counted, placed-listed}
+use Rattle.row_lists.proofs.ListedLaws.{flat-append, start-counted, stretch-counted, placed-listed}
 use Rattle.row_lists.proofs.CutLaws.{cut-none, cut-full, cut-capped, row-few}
 
 -- which column a row is placed up to
@@ -89,9 +89,9 @@ empty (x ∷ l) e = absurd (omega arith)
 
 -- where the next entry goes, as a number of entries and of numbers
 
-next-place : (d : ℕ → ℕ → ℕ → Bool) (e n r column : ℕ) → nextOf d e n r column * entrySize ≡ start (numbersAt d e) n r + length (stretch (numbersAt d e) r 0 column)
+next-place : (tiling : Tiling) (d : ℕ → ℕ → ℕ → Bool) (e n r column : ℕ) → nextOf d e n r column * entrySize ≡ start (numbersAt tiling d e) n r + length (stretch (numbersAt tiling d e) r 0 column)
 unfolding nextOf
-next-place d e n r column = omega (arith, start-counted d e n r, stretch-counted d e r 0 column)
+next-place tiling d e n r column = omega (arith, start-counted tiling d e n r, stretch-counted tiling d e r 0 column)
 
 pub next-more : (d : ℕ → ℕ → ℕ → Bool) (e n r left right : ℕ) → left ≤ right → nextOf d e n r right ≡ nextOf d e n r left + countIn d e r (r + 1) left right
 unfolding nextOf countIn
@@ -99,23 +99,23 @@ next-more d e n r left right h = omega (arith, row-beside _+_ 0 sums r (λ r c. 
 
 -- no row yet, and one row more
 
-module _ (d : ℕ → ℕ → ℕ → Bool) (e n top bottom left right : ℕ) where
-  pub piece-none : (l : List ℕ) → PiecePlaced d e n top bottom top left right l l
+module _ (tiling : Tiling) (d : ℕ → ℕ → ℕ → Bool) (e n top bottom left right : ℕ) where
+  pub piece-none : (l : List ℕ) → PiecePlaced tiling d e n top bottom top left right l l
   piece-none l m done old h f g p = placed-same _ m n _ done _ old l (λ k. sym (rows-out done top top right k (λ x y. omega arith))) p
 
   module _ (r : ℕ) (was mid : List ℕ) (h : top ≤ r) (b : r < bottom) (w : left ≤ right) (u : right ≤ n) (l : length mid ≡ length was)
-      (p : PiecePlaced d e n top bottom r left right was mid)
+      (p : PiecePlaced tiling d e n top bottom r left right was mid)
     where
       pub piece-more :
-          (now : List ℕ) → Cut (capOf mid) (nextOf d e n r left * entrySize) (stretch (numbersAt d e) r left right) mid now →
-          PiecePlaced d e n top bottom (r + 1) left right was now
+          (now : List ℕ) → Cut (capOf mid) (nextOf d e n r left * entrySize) (stretch (numbersAt tiling d e) r left right) mid now →
+          PiecePlaced tiling d e n top bottom (r + 1) left right was now
       piece-more now c m done old a f g s =
-          let D : ℕ → ℕ → List ℕ = numbersAt d e in
+          let D : ℕ → ℕ → List ℕ = numbersAt tiling d e in
           let j : ℕ → ℕ = rowsDone done top r right in
           let here : j r ≡ left = rows-out done top r right r (λ x y. omega arith) ∙ g r h b in
           let q = p m done old (omega arith) f g s in
           let x : Cut (capOf was) (nextOf d e n r left * entrySize) (stretch D r left right) mid now = rw l at c in
-          let z : nextOf d e n r left * entrySize ≡ start D n r + length (stretch D r 0 left) = next-place d e n r left in
+          let z : nextOf d e n r left * entrySize ≡ start D n r + length (stretch D r 0 left) = next-place tiling d e n r left in
           let y : Cut (capOf was) (start D n r + length (stretch D r 0 (j r))) (stretch D r (j r) right) mid now = rw (here, ← z) x in
           placed-same D m n _ (upTo j r right) (rowsDone done top (r + 1) right) old now (rows-up done top r right h)
           (placed-more D m n _ j r right (omega arith) (few done f) (rw here w) u old mid now q y)
@@ -135,29 +135,49 @@ same-entries d f e r c g = fold-same _++_ [] e _ _ (λ i h. rw (g i h))
 same-count : (d f : ℕ → ℕ → ℕ → Bool) (e r c : ℕ) → ((i : ℕ) → i < e → f r c i ≡ d r c i) → countBelow e (f r c) ≡ countBelow e (d r c)
 same-count d f e r c g = sym (entries-count f e r c) ∙ ap length (same-entries d f e r c g) ∙ entries-count d e r c
 
-module _ (d : ℕ → ℕ → ℕ → Bool) (e n r left right k : ℕ) (l : List ℕ) (q : k ≡ min (length l / entrySize) (nextOf d e n r left)) (w : left ≤ right) where
+-- the numbers of a cell's entries, where one tiling says of it what another does
+same-flat :
+    (tiling other : Tiling) (e r c : ℕ) (f : ℕ → ℕ → ℕ → Bool) → (other .tile r c ≡ tiling .tile r c) × (other .inside r c ≡ tiling .inside r c) →
+    flat other (entriesAt f e r c) ≡ flat tiling (entriesAt f e r c)
+unfolding flat entriesAt foldBelow
+same-flat tiling other zero r c f o = refl
+same-flat tiling other (suc e) r c f o =
+    flat-append other (entriesAt f e r c) (pick (f r c e) (entry r c e ∷ []) []) ∙ ap₂ _++_ (same-flat tiling other e r c f o) (one (f r c e)) ∙ sym (flat-append tiling (entriesAt f e r c) (pick (f r c e) (entry r c e ∷ []) []))
+  where
+    one : (b : Bool) → flat other (pick b (entry r c e ∷ []) []) ≡ flat tiling (pick b (entry r c e ∷ []) [])
+    one true = rw (o .0, o .1)
+    one false = refl
+
+same-numbers :
+    (tiling other : Tiling) (d f : ℕ → ℕ → ℕ → Bool) (e r c : ℕ) → (other .tile r c ≡ tiling .tile r c) × (other .inside r c ≡ tiling .inside r c) →
+    ((i : ℕ) → i < e → f r c i ≡ d r c i) → numbersAt other f e r c ≡ numbersAt tiling d e r c
+same-numbers tiling other d f e r c o g = same-flat tiling other e r c f o ∙ ap (flat tiling) (same-entries d f e r c g)
+
+module _ (tiling : Tiling) (d : ℕ → ℕ → ℕ → Bool) (e n r left right k : ℕ) (l : List ℕ) (q : k ≡ min (length l / entrySize) (nextOf d e n r left)) (w : left ≤ right) where
   pub row-placed :
-      (f : ℕ → ℕ → ℕ → Bool) (after : ℕ) (now : List ℕ) → ((c i : ℕ) → left ≤ c → c < right → i < e → f r c i ≡ d r c i) →
-      after ≡ min (length l / entrySize) (k + countIn f e r (r + 1) left right) → Cut (capOf l) (k * entrySize) (stretch (numbersAt f e) r left right) l now →
-      (after ≡ min (length l / entrySize) (nextOf d e n r right)) × Cut (capOf l) (nextOf d e n r left * entrySize) (stretch (numbersAt d e) r left right) l now
+      (other : Tiling) (f : ℕ → ℕ → ℕ → Bool) (after : ℕ) (now : List ℕ) →
+      ((c : ℕ) → left ≤ c → c < right → (other .tile r c ≡ tiling .tile r c) × (other .inside r c ≡ tiling .inside r c)) →
+      ((c i : ℕ) → left ≤ c → c < right → i < e → f r c i ≡ d r c i) →
+      after ≡ min (length l / entrySize) (k + countIn f e r (r + 1) left right) → Cut (capOf l) (k * entrySize) (stretch (numbersAt other f e) r left right) l now →
+      (after ≡ min (length l / entrySize) (nextOf d e n r right)) × Cut (capOf l) (nextOf d e n r left * entrySize) (stretch (numbersAt tiling d e) r left right) l now
   unfolding countIn stretch
-  row-placed f after now g h c =
+  row-placed other f after now o g h c =
       let x : countIn f e r (r + 1) left right ≡ countIn d e r (r + 1) left right =
       inside-same _+_ 0 r (r + 1) left right _ _ (λ i z u. let y : i ≡ r = omega arith in rw y (same-count d f e r z (λ j h. g z j (u .from-left) (u .to-right) h))) in
-      let v : stretch (numbersAt f e) r left right ≡ stretch (numbersAt d e) r left right =
-      inside-same _++_ [] r (r + 1) left right _ _ (λ i z u. let y : i ≡ r = omega arith in rw y (ap flat (same-entries d f e r z (λ j h. g z j (u .from-left) (u .to-right) h)))) in
+      let v : stretch (numbersAt other f e) r left right ≡ stretch (numbersAt tiling d e) r left right =
+      inside-same _++_ [] r (r + 1) left right _ _ (λ i z u. let y : i ≡ r = omega arith in rw y (same-numbers tiling other d f e r z (o z (u .from-left) (u .to-right)) (λ j h. g z j (u .from-left) (u .to-right) h))) in
       (omega (arith, h, q, x, next-more d e n r left right w), cut-capped (length l / entrySize) (nextOf d e n r left) _ l now (rw (← q, ← v) c))
 
   pub row-passed :
       (end : ℕ) → right ≤ n → end ≡ min (length l / entrySize) (nextOf d e n r n) → end ≤ k →
-      (k ≡ min (length l / entrySize) (nextOf d e n r right)) × Cut (capOf l) (nextOf d e n r left * entrySize) (stretch (numbersAt d e) r left right) l l
+      (k ≡ min (length l / entrySize) (nextOf d e n r right)) × Cut (capOf l) (nextOf d e n r left * entrySize) (stretch (numbersAt tiling d e) r left right) l l
   row-passed end u h b =
       let x = next-more d e n r left right w in
       let y = next-more d e n r right n u in (
         omega arith,
         by-cases (decLe (length l / entrySize) (nextOf d e n r left)) (λ f. cut-full _ _ _ l (omega arith))
             (λ f.
-            let o : stretch (numbersAt d e) r left right ≡ [] = empty (stretch (numbersAt d e) r left right) (omega (arith, stretch-counted d e r left right)) in
+            let o : stretch (numbersAt tiling d e) r left right ≡ [] = empty (stretch (numbersAt tiling d e) r left right) (omega (arith, stretch-counted tiling d e r left right)) in
             rw o (cut-none _ _ l)),
       )
 
@@ -181,9 +201,9 @@ module _ (d : ℕ → ℕ → ℕ → Bool) (e n room top bottom left right : �
   next-here r i k m next p h l o q a = let y : top + i ≡ r = omega arith in q ∙ rw o (rw y at (a .waiting i (omega arith) (omega arith)))
 
   pub piece-end :
-      (r : ℕ) (was now next : List ℕ) → r ≡ bottom → Nexts d e n room top bottom r left right next × PiecePlaced d e n top bottom r left right was now →
-      Nexts d e n room top bottom bottom left right next × PiecePlaced d e n top bottom bottom left right was now
-  piece-end r was now next z h = rw z at h
+      (tiling : Tiling) (r : ℕ) (was now next : List ℕ) → r ≡ bottom → Nexts d e n room top bottom r left right next × PiecePlaced tiling d e n top bottom r left right was now →
+      Nexts d e n room top bottom bottom left right next × PiecePlaced tiling d e n top bottom bottom left right was now
+  piece-end tiling r was now next z h = rw z at h
 
   -- all rows placed up to one column, from which the next piece starts
   pub nexts-turn : (right2 : ℕ) (next : List ℕ) → Nexts d e n room top bottom bottom left right next → Nexts d e n room top bottom top right right2 next
@@ -204,23 +224,23 @@ unfold-count d e top bottom n z = z
 
 -- a piece in which no cell differs
 
-module _ (d : ℕ → ℕ → ℕ → Bool) (e n top bottom left right : ℕ) (z : (r c : ℕ) → Inside top bottom left right r c → countBelow e (d r c) ≡ 0) (w : left ≤ right) (u : right ≤ n)
+module _ (tiling : Tiling) (d : ℕ → ℕ → ℕ → Bool) (e n top bottom left right : ℕ) (z : (r c : ℕ) → Inside top bottom left right r c → countBelow e (d r c) ≡ 0) (w : left ≤ right) (u : right ≤ n)
   where
     plain-count : (r : ℕ) → top ≤ r → r < bottom → countIn d e r (r + 1) left right ≡ 0
     unfolding countIn
     plain-count r h k = inside-none _+_ 0 sums r (r + 1) left right _ (λ i c g. z i c (omega arith))
 
-    plain-rows : (l : List ℕ) (k : ℕ) → top + k ≤ bottom → PiecePlaced d e n top bottom (top + k) left right l l
-    plain-rows l zero h = let y : top + 0 ≡ top = omega arith in rw y (piece-none d e n top bottom left right l)
+    plain-rows : (l : List ℕ) (k : ℕ) → top + k ≤ bottom → PiecePlaced tiling d e n top bottom (top + k) left right l l
+    plain-rows l zero h = let y : top + 0 ≡ top = omega arith in rw y (piece-none tiling d e n top bottom left right l)
     plain-rows l (suc k) h =
         let y : top + suc k ≡ top + k + 1 = omega arith in
-        let o : stretch (numbersAt d e) (top + k) left right ≡ [] =
-        empty (stretch (numbersAt d e) (top + k) left right) (omega (arith, stretch-counted d e (top + k) left right, plain-count (top + k) (omega arith) (omega arith))) in
-        rw y (piece-more d e n top bottom left right (top + k) l l (omega arith) (omega arith) w u refl (plain-rows l k (omega arith)) l (rw o (cut-none _ _ l)))
+        let o : stretch (numbersAt tiling d e) (top + k) left right ≡ [] =
+        empty (stretch (numbersAt tiling d e) (top + k) left right) (omega (arith, stretch-counted tiling d e (top + k) left right, plain-count (top + k) (omega arith) (omega arith))) in
+        rw y (piece-more tiling d e n top bottom left right (top + k) l l (omega arith) (omega arith) w u refl (plain-rows l k (omega arith)) l (rw o (cut-none _ _ l)))
 
     pub piece-plain :
         (room : ℕ) (l next : List ℕ) → top ≤ bottom → Nexts d e n room top bottom top left right next →
-        Nexts d e n room top bottom bottom left right next × PiecePlaced d e n top bottom bottom left right l l
+        Nexts d e n room top bottom bottom left right next × PiecePlaced tiling d e n top bottom bottom left right l l
     piece-plain room l next t a =
         let y : top + (bottom - top) ≡ bottom = omega arith in (
           record {
@@ -232,22 +252,22 @@ module _ (d : ℕ → ℕ → ℕ → Bool) (e n top bottom left right : ℕ) (z
 
 -- a row of tiles
 
-module _ (d : ℕ → ℕ → ℕ → Bool) (e m n : ℕ) (old : List ℕ) where
+module _ (tiling : Tiling) (d : ℕ → ℕ → ℕ → Bool) (e m n : ℕ) (old : List ℕ) where
   abbrev Upto : ℕ → ℕ → ℕ → List ℕ → Type 0
-  Upto top bottom left now = Placed (numbersAt d e) m n (capOf old) (reached n top bottom left) old now
+  Upto top bottom left now = Placed (numbersAt tiling d e) m n (capOf old) (reached n top bottom left) old now
 
   -- nothing yet
   pub list-begin : Upto 0 0 0 old
   list-begin =
-      placed-none (numbersAt d e) m n _ (reached n 0 0 0) old
+      placed-none (numbersAt tiling d e) m n _ (reached n 0 0 0) old
       (λ r. by-cases (decLe (r + 1) 0) (λ a. absurd (omega arith)) (λ a. reached-below n 0 0 0 r (omega arith) (omega arith)))
 
   -- where no row below has an entry, or the list is full, all is placed
   list-rest :
-      (top : ℕ) (now : List ℕ) → ((r i : ℕ) → top ≤ r → r < m → i < length (stretch (numbersAt d e) r 0 n) → start (numbersAt d e) n r + i < capOf old → ⊥) → Upto top top 0 now →
-      now ≡ put old 0 (listed (length old) (differingIn d e 0 m 0 n))
+      (top : ℕ) (now : List ℕ) → ((r i : ℕ) → top ≤ r → r < m → i < length (stretch (numbersAt tiling d e) r 0 n) → start (numbersAt tiling d e) n r + i < capOf old → ⊥) → Upto top top 0 now →
+      now ≡ put old 0 (listed tiling (length old) (differingIn d e 0 m 0 n))
   list-rest top now f p =
-      placed-listed d e m n (λ r. n) old now
+      placed-listed tiling d e m n (λ r. n) old now
       (record {
         long = p .long;
         in-row = λ r i h k q.
@@ -258,30 +278,30 @@ module _ (d : ℕ → ℕ → ℕ → Bool) (e m n : ℕ) (old : List ℕ) where
             (λ r i h k q z.
             by-cases (decLe (r + 1) top) (λ a. g r i h (rw (reached-above n top top 0 r (omega arith)) at k) q z)
             (λ a.
-            let y : length (stretch (numbersAt d e) r 0 (reached n top top 0 r)) ≡ 0 =
-            ap (λ (c : ℕ). length (stretch (numbersAt d e) r 0 c)) (reached-below n top top 0 r (omega arith) (omega arith)) ∙ ap length (stretch-none (numbersAt d e) n r 0) in
+            let y : length (stretch (numbersAt tiling d e) r 0 (reached n top top 0 r)) ≡ 0 =
+            ap (λ (c : ℕ). length (stretch (numbersAt tiling d e) r 0 c)) (reached-below n top top 0 r (omega arith) (omega arith)) ∙ ap length (stretch-none (numbersAt tiling d e) n r 0) in
             omega arith));
       })
       (λ r h. refl)
 
-  pub list-full : (top : ℕ) (now : List ℕ) → length old / entrySize ≤ countIn d e 0 top 0 n → Upto top top 0 now → now ≡ put old 0 (listed (length old) (differingIn d e 0 m 0 n))
+  pub list-full : (top : ℕ) (now : List ℕ) → length old / entrySize ≤ countIn d e 0 top 0 n → Upto top top 0 now → now ≡ put old 0 (listed tiling (length old) (differingIn d e 0 m 0 n))
   list-full top now h p =
-      list-rest top now (λ r i a b k q. omega (arith, start-counted d e n top, start-rises (numbersAt d e) n top r a)) p
+      list-rest top now (λ r i a b k q. omega (arith, start-counted tiling d e n top, start-rises (numbersAt tiling d e) n top r a)) p
 
   pub list-done :
-      (top : ℕ) (now : List ℕ) → countIn d e 0 m 0 n ≤ countIn d e 0 top 0 n → Upto top top 0 now → now ≡ put old 0 (listed (length old) (differingIn d e 0 m 0 n))
+      (top : ℕ) (now : List ℕ) → countIn d e 0 m 0 n ≤ countIn d e 0 top 0 n → Upto top top 0 now → now ≡ put old 0 (listed tiling (length old) (differingIn d e 0 m 0 n))
   list-done top now q p =
       list-rest top now
       (λ r i a b k t.
-      omega (arith, start-counted d e n top, start-counted d e n m, start-rises (numbersAt d e) n top r a, start-more (numbersAt d e) n r, start-rises (numbersAt d e) n (r + 1) m (omega arith))) p
+      omega (arith, start-counted tiling d e n top, start-counted tiling d e n m, start-rises (numbersAt tiling d e) n top r a, start-more (numbersAt tiling d e) n r, start-rises (numbersAt tiling d e) n (r + 1) m (omega arith))) p
 
-  pub list-end : (top : ℕ) (now : List ℕ) → top ≡ m → Upto top top 0 now → now ≡ put old 0 (listed (length old) (differingIn d e 0 m 0 n))
+  pub list-end : (top : ℕ) (now : List ℕ) → top ≡ m → Upto top top 0 now → now ≡ put old 0 (listed tiling (length old) (differingIn d e 0 m 0 n))
   list-end top now z p = list-done top now (rw z (omega arith)) p
 
 -- a row of tiles: its start, a piece more, and its end
 
-module _ (d : ℕ → ℕ → ℕ → Bool) (e n top bottom : ℕ) (h : top ≤ bottom) where
-  pub columns-none : (was : List ℕ) → ColumnsPlaced d e n top bottom 0 was was
+module _ (tiling : Tiling) (d : ℕ → ℕ → ℕ → Bool) (e n top bottom : ℕ) (h : top ≤ bottom) where
+  pub columns-none : (was : List ℕ) → ColumnsPlaced tiling d e n top bottom 0 was was
   columns-none was m old b p =
       placed-same _ m n _ (reached n top top 0) (reached n top bottom 0) old was
       (λ k.
@@ -292,13 +312,13 @@ module _ (d : ℕ → ℕ → ℕ → Bool) (e n top bottom : ℕ) (h : top ≤ 
       p
 
   pub columns-more :
-      (left right : ℕ) (was mid now : List ℕ) → left ≤ n → length mid ≡ length was → ColumnsPlaced d e n top bottom left was mid →
-      PiecePlaced d e n top bottom bottom left right mid now → ColumnsPlaced d e n top bottom right was now
+      (left right : ℕ) (was mid now : List ℕ) → left ≤ n → length mid ≡ length was → ColumnsPlaced tiling d e n top bottom left was mid →
+      PiecePlaced tiling d e n top bottom bottom left right mid now → ColumnsPlaced tiling d e n top bottom right was now
   columns-more left right was mid now w l p f m old b s =
       let z : capOf mid ≡ capOf was = ap (λ (k : ℕ). k / entrySize * entrySize) l in
-      let q : Placed (numbersAt d e) m n (capOf mid) (reached n top bottom left) old mid = rw (← z) at (p m old b s) in
+      let q : Placed (numbersAt tiling d e) m n (capOf mid) (reached n top bottom left) old mid = rw (← z) at (p m old b s) in
       let r = f m (reached n top bottom left) old b (λ k. reached-few n top bottom left k w) (λ k u v. reached-band n top bottom left k u v) q in
-      let y : Placed (numbersAt d e) m n (capOf was) (rowsDone (reached n top bottom left) top bottom right) old now = rw z at r in
+      let y : Placed (numbersAt tiling d e) m n (capOf was) (rowsDone (reached n top bottom left) top bottom right) old now = rw z at r in
       placed-same _ m n _ (rowsDone (reached n top bottom left) top bottom right) _ old now turned y
     where
       turned : (k : ℕ) → rowsDone (reached n top bottom left) top bottom right k ≡ reached n top bottom right k
@@ -313,7 +333,7 @@ module _ (d : ℕ → ℕ → ℕ → Bool) (e n top bottom : ℕ) (h : top ≤ 
           rows-out (reached n top bottom left) top bottom right k (λ x y. omega arith) ∙ reached-above n top bottom left k (omega arith)
           ∙ sym (reached-above n top bottom right k (omega arith)))
 
-  pub columns-all : (was now : List ℕ) → ColumnsPlaced d e n top bottom n was now → BandPlaced d e n top bottom was now
+  pub columns-all : (was now : List ℕ) → ColumnsPlaced tiling d e n top bottom n was now → BandPlaced tiling d e n top bottom was now
   columns-all was now p m old b s =
       placed-same _ m n _ (reached n top bottom n) (reached n bottom bottom 0) old now
       (λ k.
@@ -325,11 +345,11 @@ module _ (d : ℕ → ℕ → ℕ → Bool) (e n top bottom : ℕ) (h : top ≤ 
       (p m old b s)
 
   -- one in which no cell differs
-  band-plain : (l : List ℕ) → countIn d e top bottom 0 n ≡ 0 → BandPlaced d e n top bottom l l
+  band-plain : (l : List ℕ) → countIn d e top bottom 0 n ≡ 0 → BandPlaced tiling d e n top bottom l l
   band-plain l z =
       columns-all l l
       (columns-more 0 n l l l (omega arith) refl (columns-none l)
-      (piece-plain d e n top bottom 0 n (λ r c i. none r c i) (omega arith) (omega arith) 0 l [] h (record { placed = λ i k. absurd (omega arith); waiting = λ i k u. low i }) .1))
+      (piece-plain tiling d e n top bottom 0 n (λ r c i. none r c i) (omega arith) (omega arith) 0 l [] h (record { placed = λ i k. absurd (omega arith); waiting = λ i k u. low i }) .1))
     where
       none : (r c : ℕ) → Inside top bottom 0 n r c → countBelow e (d r c) ≡ 0
       none r c i = sum-each top bottom 0 n (λ r c. countBelow e (d r c)) (unfold-count d e top bottom n z) r c i
@@ -337,22 +357,22 @@ module _ (d : ℕ → ℕ → ℕ → Bool) (e n top bottom : ℕ) (h : top ≤ 
       low : (i : ℕ) → getD [] i 0 ≡ min 0 (nextOf d e n (top + i) 0)
       low i = omega arith
 
-  pub band-none : (w : ℕ) (l : List ℕ) → w ≡ countIn d e top bottom 0 n → w ≡ 0 → (0 ≡ countIn d e top bottom 0 n) × BandPlaced d e n top bottom l l
+  pub band-none : (w : ℕ) (l : List ℕ) → w ≡ countIn d e top bottom 0 n → w ≡ 0 → (0 ≡ countIn d e top bottom 0 n) × BandPlaced tiling d e n top bottom l l
   band-none w l p q = (sym q ∙ p, band-plain l (sym p ∙ q))
 
 -- a walk over the pieces of a row of tiles: its start, where it stands in it, a piece more
 
-module _ (d : ℕ → ℕ → ℕ → Bool) (e n room top bottom : ℕ) (b : top < bottom) where
+module _ (tiling : Tiling) (d : ℕ → ℕ → ℕ → Bool) (e n room top bottom : ℕ) (b : top < bottom) where
   pub walk-begins :
       (top2 bottom2 left2 : ℕ) (l next : List ℕ) → (top2 < bottom → ((top2 ≡ top) × (bottom2 ≡ bottom)) × (left2 ≡ 0)) → (bottom ≤ top2 → n ≡ 0) →
-      Nexts d e n room top bottom top 0 0 next → BandUpto d e n room top bottom top2 bottom2 left2 l l next
+      Nexts d e n room top bottom top 0 0 next → BandUpto tiling d e n room top bottom top2 bottom2 left2 l l next
   walk-begins top2 bottom2 left2 l next f g a =
       record {
-        within = λ h. let y = f h in (y .0, rw (y .1) (a, columns-none d e n top bottom (omega arith) l));
-        behind = λ h. rw (g h) (columns-none d e 0 top bottom (omega arith) l);
+        within = λ h. let y = f h in (y .0, rw (y .1) (a, columns-none tiling d e n top bottom (omega arith) l));
+        behind = λ h. rw (g h) (columns-none tiling d e 0 top bottom (omega arith) l);
       }
 
-  module _ (top2 bottom2 left2 right : ℕ) (was mid next : List ℕ) (u : BandUpto d e n room top bottom top2 bottom2 left2 was mid next) (h : top2 < bottom) where
+  module _ (top2 bottom2 left2 right : ℕ) (was mid next : List ℕ) (u : BandUpto tiling d e n room top bottom top2 bottom2 left2 was mid next) (h : top2 < bottom) where
     pub walk-within :
         (m : ℕ) (ends : List ℕ) → m ≡ room → Ends d e n room top bottom ends → Ends d e n m top2 bottom2 ends × Nexts d e n m top2 bottom2 top2 left2 right next
     walk-within m ends o f =
@@ -361,12 +381,12 @@ module _ (d : ℕ → ℕ → ℕ → Bool) (e n room top bottom : ℕ) (b : top
 
     pub walk-more :
         (m top3 bottom3 left3 : ℕ) (now next2 : List ℕ) → m ≡ room → length mid ≡ length was → left2 ≤ n → Follows n top2 bottom2 left2 right top3 bottom3 left3 →
-        Nexts d e n m top2 bottom2 bottom2 left2 right next2 → PiecePlaced d e n top2 bottom2 bottom2 left2 right mid now → BandUpto d e n room top bottom top3 bottom3 left3 was now next2
+        Nexts d e n m top2 bottom2 bottom2 left2 right next2 → PiecePlaced tiling d e n top2 bottom2 bottom2 left2 right mid now → BandUpto tiling d e n room top bottom top3 bottom3 left3 was now next2
     walk-more m top3 bottom3 left3 now next2 o l w f a p =
         let y = u .within h in
         let c : Nexts d e n room top bottom bottom left2 right next2 = rw (o, y .0 .0, y .0 .1) at a in
-        let g : PiecePlaced d e n top bottom bottom left2 right mid now = rw (y .0 .0, y .0 .1) at p in
-        let z : ColumnsPlaced d e n top bottom right was now = columns-more d e n top bottom (omega arith) left2 right was mid now w l (y .1 .1) g in
+        let g : PiecePlaced tiling d e n top bottom bottom left2 right mid now = rw (y .0 .0, y .0 .1) at p in
+        let z : ColumnsPlaced tiling d e n top bottom right was now = columns-more tiling d e n top bottom (omega arith) left2 right was mid now w l (y .1 .1) g in
         ⊎-elim
         (λ q.
         record {
@@ -376,15 +396,15 @@ module _ (d : ℕ → ℕ → ℕ → Bool) (e n room top bottom : ℕ) (b : top
         (λ q.
         record {
           within = λ k. absurd (omega (arith, y .0 .1));
-          behind = λ k. let v : ColumnsPlaced d e n top bottom n was now = rw (q .0) at z in v;
+          behind = λ k. let v : ColumnsPlaced tiling d e n top bottom n was now = rw (q .0) at z in v;
         })
         (f .next)
 
 -- the list so far: after a row of tiles more
 pub list-band :
-    (d : ℕ → ℕ → ℕ → Bool) (e m n top bottom : ℕ) (old mid now : List ℕ) → bottom ≤ m → Placed (numbersAt d e) m n (capOf old) (reached n top top 0) old mid →
-    BandPlaced d e n top bottom mid now → Placed (numbersAt d e) m n (capOf old) (reached n bottom bottom 0) old now
-list-band d e m n top bottom old mid now h p f =
+    (tiling : Tiling) (d : ℕ → ℕ → ℕ → Bool) (e m n top bottom : ℕ) (old mid now : List ℕ) → bottom ≤ m → Placed (numbersAt tiling d e) m n (capOf old) (reached n top top 0) old mid →
+    BandPlaced tiling d e n top bottom mid now → Placed (numbersAt tiling d e) m n (capOf old) (reached n bottom bottom 0) old now
+list-band tiling d e m n top bottom old mid now h p f =
     let z : capOf mid ≡ capOf old = ap (λ (k : ℕ). k / entrySize * entrySize) (p .long) in
     rw z at (f m old h (rw (← z) at p))
 

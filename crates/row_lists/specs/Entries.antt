@@ -19,6 +19,11 @@ pub record Entry : Type 0 where
 abbrev pub entry : ℕ → ℕ → ℕ → Entry
 entry r c e = record { row = r; column = c; element = e }
 
+-- which tile the cell in a row and a column lies in, and which number it has inside
+pub record Tiling : Type 0 where
+  pub tile : ℕ → ℕ → ℕ
+  pub inside : ℕ → ℕ → ℕ
+
 -- of the first n elements of a cell those that differ
 unfoldable pub entriesAt : (ℕ → ℕ → ℕ → Bool) → ℕ → ℕ → ℕ → List Entry
 entriesAt d n r c = foldBelow _++_ [] n (λ e. pick (d r c e) (entry r c e ∷ []) [])
@@ -31,19 +36,23 @@ differingIn d n top bottom left right = foldInside _++_ [] top bottom left right
 unfoldable pub countIn : (ℕ → ℕ → ℕ → Bool) → ℕ → ℕ → ℕ → ℕ → ℕ → ℕ
 countIn d n top bottom left right = foldInside _+_ 0 top bottom left right (λ r c. countBelow n (d r c))
 
--- the numbers of an entry, and of the entries that fit whole into so many numbers
+-- the numbers of an entry. Req 10: "Each entry of the compare list becomes five numbers, tile index and number inside last"
 abbrev pub entrySize : ℕ
-entrySize = 3
+entrySize = 5
 
-abbrev pub entryNumbers : Entry → List ℕ
-entryNumbers x = x .row ∷ x .column ∷ x .element ∷ []
+abbrev pub entryNumbers : Entry → ℕ → ℕ → List ℕ
+entryNumbers x tile inside = x .row ∷ x .column ∷ x .element ∷ tile ∷ inside ∷ []
 
-unfoldable pub flat : List Entry → List ℕ
-flat [] = []
-flat (x ∷ xs) = entryNumbers x ++ flat xs
+abbrev pub tiledNumbers : Tiling → Entry → List ℕ
+tiledNumbers tiling x = entryNumbers x (tiling .tile (x .row) (x .column)) (tiling .inside (x .row) (x .column))
 
-unfoldable pub listed : ℕ → List Entry → List ℕ
-listed room xs = flat (take (room / entrySize) xs)
+-- those of entries, and of the ones that fit whole into so many numbers
+unfoldable pub flat : Tiling → List Entry → List ℕ
+flat tiling [] = []
+flat tiling (x ∷ xs) = tiledNumbers tiling x ++ flat tiling xs
+
+unfoldable pub listed : Tiling → ℕ → List Entry → List ℕ
+listed tiling room xs = flat tiling (take (room / entrySize) xs)
 
 -- by row, then column, then element
 abbrev pub Before : Entry → Entry → Type 0

@@ -11,7 +11,7 @@ use Rattle.wire.specs.Pick.{pick}
 use Rattle.wire.specs.Tests.{_≤?_, passes}
 use Rattle.wire.specs.Bytes.{put}
 use Rattle.blocks.specs.Folds.{foldInside}
-use Rattle.row_lists.specs.Entries.{entry, entriesAt, differingIn, countIn, entrySize, flat, listed}
+use Rattle.row_lists.specs.Entries.{Tiling, entry, entriesAt, differingIn, countIn, entrySize, flat, listed}
 
 -- all of some rows; the stretch of one row
 unfoldable pub allOf : (ℕ → ℕ → List ℕ) → ℕ → ℕ → List ℕ
@@ -47,25 +47,25 @@ abbrev pub capOf : List ℕ → ℕ
 capOf l = length l / entrySize * entrySize
 
 -- what an element of a cell puts into the list
-unfoldable pub numbersIf : Bool → ℕ → ℕ → ℕ → List ℕ
-numbersIf b r c e = flat (pick b (entry r c e ∷ []) [])
+unfoldable pub numbersIf : Tiling → Bool → ℕ → ℕ → ℕ → List ℕ
+numbersIf tiling b r c e = flat tiling (pick b (entry r c e ∷ []) [])
 
 -- what each cell puts into the list of what differs, by e elements
-abbrev pub numbersAt : (ℕ → ℕ → ℕ → Bool) → ℕ → ℕ → ℕ → List ℕ
-numbersAt d e r c = flat (entriesAt d e r c)
+abbrev pub numbersAt : Tiling → (ℕ → ℕ → ℕ → Bool) → ℕ → ℕ → ℕ → List ℕ
+numbersAt tiling d e r c = flat tiling (entriesAt d e r c)
 
 -- a list of which every row is placed up to its last column has the earliest entries that fit whole, and what stands behind them stays
 abbrev pub PlacedListed : Type 0
 PlacedListed =
-    (d : ℕ → ℕ → ℕ → Bool) (e m n : ℕ) (done : ℕ → ℕ) (old now : List ℕ) → Placed (numbersAt d e) m n (capOf old) done old now → ((r : ℕ) → r < m → done r ≡ n) →
-    now ≡ put old 0 (listed (length old) (differingIn d e 0 m 0 n))
+    (tiling : Tiling) (d : ℕ → ℕ → ℕ → Bool) (e m n : ℕ) (done : ℕ → ℕ) (old now : List ℕ) → Placed (numbersAt tiling d e) m n (capOf old) done old now → ((r : ℕ) → r < m → done r ≡ n) →
+    now ≡ put old 0 (listed tiling (length old) (differingIn d e 0 m 0 n))
 
 -- where a row starts, and how long a stretch is: by what is counted
 abbrev pub StartCounted : Type 0
-StartCounted = (d : ℕ → ℕ → ℕ → Bool) (e n r : ℕ) → start (numbersAt d e) n r ≡ entrySize * countIn d e 0 r 0 n
+StartCounted = (tiling : Tiling) (d : ℕ → ℕ → ℕ → Bool) (e n r : ℕ) → start (numbersAt tiling d e) n r ≡ entrySize * countIn d e 0 r 0 n
 
 abbrev pub StretchCounted : Type 0
-StretchCounted = (d : ℕ → ℕ → ℕ → Bool) (e r left right : ℕ) → length (stretch (numbersAt d e) r left right) ≡ entrySize * countIn d e r (r + 1) left right
+StretchCounted = (tiling : Tiling) (d : ℕ → ℕ → ℕ → Bool) (e r left right : ℕ) → length (stretch (numbersAt tiling d e) r left right) ≡ entrySize * countIn d e r (r + 1) left right
 
 -- the rows from `top` to below `row` are placed up to `right`
 unfoldable pub rowsDone : (ℕ → ℕ) → ℕ → ℕ → ℕ → ℕ → ℕ
@@ -100,28 +100,28 @@ pub record Spread (d : ℕ → ℕ → ℕ → Bool) (e n room top bottom i : �
   pub waiting : (k : ℕ) → i ≤ k → top + k < bottom → getD counts k 0 ≡ countIn d e (top + k) (top + k + 1) 0 n
 
 -- what a call leaves that places the rows of a piece above `row`: any list that was placed up to the piece is placed up to its end there
-abbrev pub PiecePlaced : (ℕ → ℕ → ℕ → Bool) → ℕ → ℕ → ℕ → ℕ → ℕ → ℕ → ℕ → List ℕ → List ℕ → Type 0
-PiecePlaced d e n top bottom row left right was now =
+abbrev pub PiecePlaced : Tiling → (ℕ → ℕ → ℕ → Bool) → ℕ → ℕ → ℕ → ℕ → ℕ → ℕ → ℕ → List ℕ → List ℕ → Type 0
+PiecePlaced tiling d e n top bottom row left right was now =
     (m : ℕ) (done : ℕ → ℕ) (old : List ℕ) → row ≤ m → ((k : ℕ) → done k ≤ n) → ((k : ℕ) → top ≤ k → k < bottom → done k ≡ left) →
-    Placed (numbersAt d e) m n (capOf was) done old was → Placed (numbersAt d e) m n (capOf was) (rowsDone done top row right) old now
+    Placed (numbersAt tiling d e) m n (capOf was) done old was → Placed (numbersAt tiling d e) m n (capOf was) (rowsDone done top row right) old now
 
 -- the same of a row of tiles
-abbrev pub BandPlaced : (ℕ → ℕ → ℕ → Bool) → ℕ → ℕ → ℕ → ℕ → List ℕ → List ℕ → Type 0
-BandPlaced d e n top bottom was now =
-    (m : ℕ) (old : List ℕ) → bottom ≤ m → Placed (numbersAt d e) m n (capOf was) (reached n top top 0) old was →
-    Placed (numbersAt d e) m n (capOf was) (reached n bottom bottom 0) old now
+abbrev pub BandPlaced : Tiling → (ℕ → ℕ → ℕ → Bool) → ℕ → ℕ → ℕ → ℕ → List ℕ → List ℕ → Type 0
+BandPlaced tiling d e n top bottom was now =
+    (m : ℕ) (old : List ℕ) → bottom ≤ m → Placed (numbersAt tiling d e) m n (capOf was) (reached n top top 0) old was →
+    Placed (numbersAt tiling d e) m n (capOf was) (reached n bottom bottom 0) old now
 
 -- and of its pieces up to a column
-abbrev pub ColumnsPlaced : (ℕ → ℕ → ℕ → Bool) → ℕ → ℕ → ℕ → ℕ → ℕ → List ℕ → List ℕ → Type 0
-ColumnsPlaced d e n top bottom column was now =
-    (m : ℕ) (old : List ℕ) → bottom ≤ m → Placed (numbersAt d e) m n (capOf was) (reached n top top 0) old was →
-    Placed (numbersAt d e) m n (capOf was) (reached n top bottom column) old now
+abbrev pub ColumnsPlaced : Tiling → (ℕ → ℕ → ℕ → Bool) → ℕ → ℕ → ℕ → ℕ → ℕ → List ℕ → List ℕ → Type 0
+ColumnsPlaced tiling d e n top bottom column was now =
+    (m : ℕ) (old : List ℕ) → bottom ≤ m → Placed (numbersAt tiling d e) m n (capOf was) (reached n top top 0) old was →
+    Placed (numbersAt tiling d e) m n (capOf was) (reached n top bottom column) old now
 
 -- a walk over the pieces of a row of tiles: it stands at one, up to which each row is placed, or behind them all
-pub record BandUpto (d : ℕ → ℕ → ℕ → Bool) (e n room top bottom top2 bottom2 left2 : ℕ) (was now next : List ℕ) : Type 0 where
+pub record BandUpto (tiling : Tiling) (d : ℕ → ℕ → ℕ → Bool) (e n room top bottom top2 bottom2 left2 : ℕ) (was now next : List ℕ) : Type 0 where
   pub within :
-      top2 < bottom → ((top2 ≡ top) × (bottom2 ≡ bottom)) × (Nexts d e n room top bottom top left2 left2 next × ColumnsPlaced d e n top bottom left2 was now)
-  pub behind : bottom ≤ top2 → ColumnsPlaced d e n top bottom n was now
+      top2 < bottom → ((top2 ≡ top) × (bottom2 ≡ bottom)) × (Nexts d e n room top bottom top left2 left2 next × ColumnsPlaced tiling d e n top bottom left2 was now)
+  pub behind : bottom ≤ top2 → ColumnsPlaced tiling d e n top bottom n was now
 
 -- what a call leaves that makes starts of the counts of k rows, where so many entries stand before them
 abbrev pub SpreadOut : ℕ → ℕ → ℕ → List ℕ → List ℕ → List ℕ → Type 0

@@ -17,14 +17,15 @@ use Rattle.record.specs.Chain.{headerEnd, records, recordsOf}
 use Rattle.header.specs.declared.Element.{Element}
 use Rattle.header.specs.Names.{identifier, longestName}
 use Rattle.header.specs.Fields.{gridRows, gridColumns, tileRows, tileColumns, elementCount, timeModified, checksumEnabled}
-use Rattle.header.specs.Element.{element, elementName}
+use Rattle.header.specs.Element.{element, elementName, entriesRead, unitPlace, unitLength}
 use Rattle.header.proofs.NameLaws.{identifier-empty, five-long}
+use Rattle.header.proofs.SameLaws.{limit-is, unit-fits}
 use Rattle.geometry.specs.Tiles.{tilesDown, tilesAcross}
 use Rattle.geometry.specs.Sizes.{tileBytes, cap}
-use Rattle.check_header.specs.HeaderRecord.{elementRight}
+use Rattle.check_header.specs.HeaderRecord.{elementRight, elementsRight, headerRight}
 use Rattle.page_check.specs.Stages.{check}
-use Rattle.page_check.proofs.AcceptedLaws.{accepted-obeys}
-use Rattle.page_check.proofs.GivenLaws.{obeys-range}
+use Rattle.page_check.proofs.AcceptedLaws.{accepted-obeys, accepted-sound}
+use Rattle.page_check.proofs.GivenLaws.{obeys-range, sound-range}
 use Rattle.store.specs.declared.description.Shape.{Shape}
 use Rattle.store.specs.declared.description.PageNumbers.{PageNumbers}
 use Rattle.store.specs.declared.description.Specified.the-variants as specified-as
@@ -71,9 +72,10 @@ module _ (s : List ℕ) where
     element-lacks h = rw (lt-leb (e + 1) (elementCount s) (omega arith))
 
     pub element-is :
-        (x : Element) → x ≡ element s e → e < n → specified-as.Element (x .kind) (x .fill) (x .name) (x .«name_length») ≡ specifiedBy s e
+        (x : Element) (place size : ℕ) → x ≡ element s e → place ≡ unitPlace s e → size ≡ unitLength s e → e < n →
+        specified-as.Element (x .kind) (x .fill) (x .name) (x .«name_length») place size ≡ specifiedBy s e
     unfolding specifiedBy
-    element-is x q h = rw (le-leb (e + 1) (elementCount s) (omega arith), q)
+    element-is x place size q u v h = rw (le-leb (e + 1) (elementCount s) (omega arith), q, u, v)
 
 -- what lies in an accepted file
 
@@ -105,6 +107,14 @@ module _ (s : List ℕ) (a : check s ≡ Accepted) (e : ℕ) (h : e < elementCou
       let z = part-length s (element s e .name) (element s e .«name_length») name-inside in
       (omega (arith, z, name-some _ _ named), omega (arith, z, name-within _ _ named))
 
+  unit-inside : unitPlace s e + unitLength s e ≤ length s
+  unfolding headerRight elementsRight
+  unit-inside =
+      let o = accepted-sound s a in
+      let r = sound-range s (records s) o in
+      let f = means _ (means _ (o .headed .header) .1 .1 .1 .0) .1 .0 in
+      omega (arith, unit-fits s e (entriesRead s) (omega (arith, r .all)) f, limit-is s (r .header-inside), r .header-inside)
+
 pub described-in-file : DescribedInFile
 described-in-file s a =
     let r = obeys-range s (records s) (accepted-obeys s a) in
@@ -114,4 +124,5 @@ described-in-file s a =
       kind = r .kinds;
       name = name-inside s a;
       name-length = name-long s a;
+      unit = unit-inside s a;
     }

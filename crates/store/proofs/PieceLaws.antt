@@ -18,7 +18,7 @@ use Rattle.answer.specs.declared.Verdict.the-variants.{Accepted}
 use Rattle.answer.specs.declared.Held.{Held}
 use Rattle.answer.specs.declared.Held.the-variants as held
 use Rattle.answer.specs.Refusals.{refusalNumber}
-use Rattle.answer.specs.Answers.{heldKind, heldVerdict}
+use Rattle.answer.specs.Answers.{cellBits, heldKind, heldVerdict}
 use Rattle.record.specs.Chain.{records}
 use Rattle.header.specs.Fields.{gridRows, gridColumns, tileRows, tileColumns, elementCount}
 use Rattle.header.specs.Element.{mostElements, element}
@@ -32,7 +32,7 @@ use Rattle.cells.specs.Asked.{inGrid}
 use Rattle.cells.specs.Meaning.{meaning, heldMeaning}
 use Rattle.cells.specs.Many.{numberedCell, Holds}
 use Rattle.cells.specs.Demand2.{ShortBits}
-use Rattle.cells.proofs.CellLaws.{grid-means}
+use Rattle.cells.proofs.CellLaws.{grid-means, count-small}
 use Rattle.cells.proofs.DemandLaws.{held-each, short-bits}
 use Rattle.store.specs.declared.many.Rectangle.{Rectangle}
 use Rattle.store.specs.declared.pieces.Piece.{Piece}
@@ -115,11 +115,11 @@ piece-element s a p e o =
 -- the same of a file with the same grid
 
 module _ (s t : List ℕ) (g : SameGrid s t) where
-  same-cell : (r c : ℕ) → cellTile s r c ≡ cellTile t r c
+  pub same-cell : (r c : ℕ) → cellTile s r c ≡ cellTile t r c
   unfolding cellTile
   same-cell r c = rw (g .columns, g .tile-rows, g .tile-columns)
 
-  same-inside : (r c : ℕ) → cellInside s r c ≡ cellInside t r c
+  pub same-inside : (r c : ℕ) → cellInside s r c ≡ cellInside t r c
   unfolding cellInside
   same-inside r c = rw (g .tile-rows, g .tile-columns)
 
@@ -260,6 +260,20 @@ piece-alike s ci a p g o r c k =
     let i = o .sides in
     tile-alike s (g .accepted) ci _ _ _ _ (a .e) (in-grid s a g r c (omega arith) (omega arith)) (in-grid s a g (p .top) (p .left) (omega arith) (omega arith)) (o .one .each r c k)
 
+-- the tile of a piece is that of each of its cells, and a small number
+
+module _ (s : List ℕ) (a : Rectangle) (p : Piece) (g : Accepts s a) (o : AtPiece s a p) where
+  pub cell-tile : (r c : ℕ) → Inside (p .top) (p .bottom) (p .left) (p .right) r c → p .tile ≡ cellTile s (a .row + r) (a .column + c)
+  cell-tile r c k =
+      let i = o .sides in
+      o .tile ∙ holding-is s _ _ (a .e) (in-grid s a g (p .top) (p .left) (omega arith) (omega arith)) ∙ sym (o .one .each r c k)
+
+  pub tile-few : p .tile < 4294967296
+  tile-few =
+      let i = o .sides in
+      let l = tile-there s (g .accepted) _ _ (a .e) (in-grid s a g (p .top) (p .left) (omega arith) (omega arith)) in
+      omega (arith, cell-tile (p .top) (p .left) (omega arith), l .0, count-small s (sides-accepted s (g .accepted)))
+
 -- what is held of a piece's tile answers for the piece, and so for each row of it
 
 pub answered-piece :
@@ -268,18 +282,18 @@ pub answered-piece :
 answered-piece s ci a p x m h g o =
     let i = o .sides in
     let n = in-grid s a g (p .top) (p .left) (omega arith) (omega arith) in
-    let e : p .tile ≡ cellTile s (a .row + p .top) (a .column + p .left) = o .tile ∙ holding-is s _ _ (a .e) n in
+    let e : p .tile ≡ cellTile s (a .row + p .top) (a .column + p .left) = cell-tile s a p g o (p .top) (p .left) (omega arith) in
     let l = tile-there s (g .accepted) _ _ (a .e) n in
     let y = h (g .accepted) (omega arith) (l .1) in
     let w = inside-means s (a .e) (a .row) (a .column) (a .rows) (a .columns) (g .inside) in
     let d = sides-accepted s (g .accepted) in
     record {
-      each = λ r c k. y .each _ _ (in-grid s a g r c (omega arith) (omega arith)) (o .one .each r c k ∙ sym e);
+      each = λ r c k. y .each _ _ (in-grid s a g r c (omega arith) (omega arith)) (sym (cell-tile s a p g o r c k));
       numbered = λ z r b u.
           record {
             small = omega (arith, inside-few s (g .accepted) (a .row + r) (a .column + p .left), o .numbers r (p .left) (omega arith), w .1 .1, d .columns .1);
             each = λ c v t.
-                rw (← o .numbers r c (omega arith)) (y .numbered z _ _ (in-grid s a g r c (omega arith) (omega arith)) (o .one .each r c (omega arith) ∙ sym e));
+                rw (← o .numbers r c (omega arith)) (y .numbered z _ _ (in-grid s a g r c (omega arith) (omega arith)) (sym (cell-tile s a p g o r c (omega arith))));
           };
     }
 
@@ -290,7 +304,7 @@ start-small s a p r w g o e h k =
     let i = o .sides in
     rw e (omega (arith, o .numbers r (p .left) (omega arith), inside-few s (g .accepted) (a .row + r) (a .column + p .left)))
 
--- the cells of an absent tile are one fill
+-- the cells of an absent tile have the bits of one fill
 
 refusal-few : (r : Refusal) → refusalNumber r ≤ 16
 refusal-few refusal.Identification = omega arith
@@ -310,26 +324,28 @@ refusal-few (refusal.Malformed at) = omega arith
 refusal-few refusal.NotOpen = omega arith
 refusal-few refusal.Incomplete = omega arith
 
-absent-same : (s : List ℕ) (kind fill : ℕ) (m : List ℕ) (i k : ℕ) (x : Held) → heldKind x ≡ 33 → numberedCell s kind fill m i x ≡ numberedCell s kind fill m k x
+absent-same :
+    (s : List ℕ) (kind fill : ℕ) (m : List ℕ) (tile i k : ℕ) (x : Held) → heldKind x ≡ 33 →
+    cellBits (numberedCell s kind fill m tile i x) ≡ cellBits (numberedCell s kind fill m tile k x)
 unfolding numberedCell
-absent-same s kind fill m i k (held.Stored at) h = absurd (omega arith)
-absent-same s kind fill m i k (held.Unpacked at) h = absurd (omega arith)
-absent-same s kind fill m i k held.Absent h = refl
-absent-same s kind fill m i k held.Alone h = absurd (omega arith)
-absent-same s kind fill m i k (held.Refused r) h = absurd (omega (arith, refusal-few r))
+absent-same s kind fill m tile i k (held.Stored at) h = absurd (omega arith)
+absent-same s kind fill m tile i k (held.Unpacked at) h = absurd (omega arith)
+absent-same s kind fill m tile i k held.Absent h = refl
+absent-same s kind fill m tile i k held.Alone h = absurd (omega arith)
+absent-same s kind fill m tile i k (held.Refused r) h = absurd (omega (arith, refusal-few r))
 
 pub piece-absent :
     (s : List ℕ) (ci : ℕ) (a : Rectangle) (p : Piece) (x : Held) (m : List ℕ) → Answered s ci a p x m → AtPiece s a p → heldKind x ≡ 33 →
     (r c : ℕ) → Inside (p .top) (p .bottom) (p .left) (p .right) r c →
-    meaning s ci (a .row + r) (a .column + c) (a .e) ≡ meaning s ci (a .row + p .top) (a .column + p .left) (a .e)
+    cellBits (meaning s ci (a .row + r) (a .column + c) (a .e)) ≡ cellBits (meaning s ci (a .row + p .top) (a .column + p .left) (a .e))
 piece-absent s ci a p x m n o h r c i =
     let d = o .sides in
     let z : heldKind x ≡ 0 → ⊥ = λ y. omega arith in
-    sym (n .numbered z r (i .from-top) (i .to-bottom) .each c (i .from-left) (i .to-right)) ∙ absent-same s _ _ m _ _ x h
-    ∙ n .numbered z (p .top) (omega arith) (omega arith) .each (p .left) (omega arith) (omega arith)
+    sym (ap cellBits (n .numbered z r (i .from-top) (i .to-bottom) .each c (i .from-left) (i .to-right))) ∙ absent-same s _ _ m _ _ _ x h
+    ∙ ap cellBits (n .numbered z (p .top) (omega arith) (omega arith) .each (p .left) (omega arith) (omega arith))
 
 pub numbered-row :
     (s : List ℕ) (ci : ℕ) (a : Rectangle) (p : Piece) (x : Held) (m : List ℕ) (r n kind fill start : ℕ) → Answered s ci a p x m → n ≡ heldKind x → (n ≡ 0 → ⊥) →
     start ≡ p .inside + (r - p .top) * tileColumns s → kind ≡ element s (a .e) .kind → fill ≡ element s (a .e) .fill → p .top ≤ r → r < p .bottom →
-    Numbered s ci a x m kind fill start r (p .left) (p .right)
+    Numbered s ci a x m kind fill (p .tile) start r (p .left) (p .right)
 numbered-row s ci a p x m r n kind fill start w e f q k t b u = rw (q, k, t) (w .numbered (λ z. f (e ∙ z)) r b u)

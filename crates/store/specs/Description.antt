@@ -13,7 +13,7 @@ use Rattle.record.specs.Chain.{headerEnd, recordsOf}
 use Rattle.record.specs.Types.{tileType, metadataType}
 use Rattle.header.specs.Fields.{gridRows, gridColumns, tileRows, tileColumns, elementCount, timeModified, checksumEnabled}
 use Rattle.header.specs.Names.{longestName}
-use Rattle.header.specs.Element.{element, shortKind}
+use Rattle.header.specs.Element.{element, shortKind, unitPlace, unitLength}
 use Rattle.geometry.specs.Tiles.{tilesDown, tilesAcross}
 use Rattle.geometry.specs.Sizes.{tileBytes}
 use Rattle.page_check.specs.Stages.{check}
@@ -61,12 +61,12 @@ abbrev pub describedNumber : Described → ℕ
 describedNumber (described-as.Page x) = 0
 describedNumber (described-as.Refused r) = refusalNumber r
 
--- what element e is, counted from 0: its type code, the bits of its fill, 16 of a Short, and the place and length of its name; 10 where
--- there is none
+-- what element e is, counted from 0: its type code, the bits of its fill, 16 of a Short, and the places and lengths of its name and, by
+-- Req 10, of its unit; 10 where there is none
 unfoldable pub specifiedBy : List ℕ → ℕ → Specified
 specifiedBy s e =
     pick (leb (e + 1) (elementCount s))
-    (specified-as.Element (element s e .kind) (element s e .fill) (element s e .name) (element s e .«name_length»))
+    (specified-as.Element (element s e .kind) (element s e .fill) (element s e .name) (element s e .«name_length») (unitPlace s e) (unitLength s e))
     (specified-as.Refused OutsideGrid)
 
 -- behind the check
@@ -74,17 +74,18 @@ unfoldable pub specified : List ℕ → ℕ → Specified
 specified s e = unlessRefused specified-as.Refused (check s) (specifiedBy s e)
 
 abbrev pub specifiedNumber : Specified → ℕ
-specifiedNumber (specified-as.Element kind fill name n) = 0
+specifiedNumber (specified-as.Element kind fill name n unit u) = 0
 specifiedNumber (specified-as.Refused r) = refusalNumber r
 
 -- what a caller may count on in an accepted file: the front lies in it, checksums are on or off, an element's type code is one of the
--- four, and its name lies in the file and has 1 to 32 bytes
+-- four, its name lies in the file and has 1 to 32 bytes, and its unit lies in the file
 pub record InFile (s : List ℕ) : Type 0 where
   pub front : headerEnd s ≤ length s
   pub checksums : checksumEnabled s ≤ 1
   pub kind : (e : ℕ) → e < elementCount s → element s e .kind ≤ shortKind
   pub name : (e : ℕ) → e < elementCount s → element s e .name + element s e .«name_length» ≤ length s
   pub name-length : (e : ℕ) → e < elementCount s → (1 ≤ element s e .«name_length») × (element s e .«name_length» ≤ longestName)
+  pub unit : (e : ℕ) → e < elementCount s → unitPlace s e + unitLength s e ≤ length s
 
 abbrev pub DescribedInFile : Type 0
 DescribedInFile = (s : List ℕ) → check s ≡ Accepted → InFile s

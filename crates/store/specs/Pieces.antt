@@ -94,10 +94,10 @@ pub record Walks (s : List ℕ) (a : Rectangle) (from : ℕ) (p : Piece) : Type 
   pub piece : p .top < a .rows → AtPiece s a p
 
 -- what is held gives the meaning of each cell of a row, by the number inside the tile that rises from `start` on
-pub record Numbered (s : List ℕ) (ci : ℕ) (a : Rectangle) (x : Held) (m : List ℕ) (kind fill start r left right : ℕ) : Type 0 where
+pub record Numbered (s : List ℕ) (ci : ℕ) (a : Rectangle) (x : Held) (m : List ℕ) (kind fill tile start r left right : ℕ) : Type 0 where
   pub small : start + (right - left) ≤ mostGridSide * mostGridSide
   pub each :
-      (c : ℕ) → left ≤ c → c < right → numberedCell s kind fill m (start + (c - left)) x ≡ meaning s ci (a .row + r) (a .column + c) (a .e)
+      (c : ℕ) → left ≤ c → c < right → numberedCell s kind fill m tile (start + (c - left)) x ≡ meaning s ci (a .row + r) (a .column + c) (a .e)
 
 -- what is held, with the memory m, gives the meaning of each cell of a piece; and where it has a kind, each row is numbered
 pub record Answered (s : List ℕ) (ci : ℕ) (a : Rectangle) (p : Piece) (x : Held) (m : List ℕ) : Type 0 where
@@ -106,4 +106,4 @@ pub record Answered (s : List ℕ) (ci : ℕ) (a : Rectangle) (p : Piece) (x : H
       heldCell s ci x m (a .row + r) (a .column + c) (a .e) ≡ meaning s ci (a .row + r) (a .column + c) (a .e)
   pub numbered :
       (heldKind x ≡ 0 → ⊥) → (r : ℕ) → p .top ≤ r → r < p .bottom →
-      Numbered s ci a x m (element s (a .e) .kind) (element s (a .e) .fill) (p .inside + (r - p .top) * tileColumns s) r (p .left) (p .right)
+      Numbered s ci a x m (element s (a .e) .kind) (element s (a .e) .fill) (p .tile) (p .inside + (r - p .top) * tileColumns s) r (p .left) (p .right)

@@ -43,13 +43,16 @@ pub enum Described {
     Refused(Refusal),
 }
 
-// What is said of an element: its type code, the bit pattern of its fill value, and the place and the length of its name.
+// What is said of an element: its type code, the bit pattern of its fill value, and the places and the lengths of its name and of its
+// unit of measure.
 pub enum Specified {
     Element {
         kind: u32,
         fill: u32,
         name: usize,
         name_length: usize,
+        unit: usize,
+        unit_length: usize,
     },
     Refused(Refusal),
 }
@@ -147,6 +150,8 @@ fn specify_by(file: &[u8], e: u64) -> Specified
         fill: x.fill,
         name: x.name,
         name_length: x.name_length,
+        unit: entries::unit_place(file, e as usize),
+        unit_length: entries::unit_length(file, e as usize),
     }
 }
 
@@ -165,12 +170,7 @@ pub fn specified_number(x: Specified) -> u32
     ensures { λ r. ⌜ r ≡ specifiedNumber x ⌝ }
 {
     match x {
-        Specified::Element {
-            kind: _,
-            fill: _,
-            name: _,
-            name_length: _,
-        } => 0,
+        Specified::Element { .. } => 0,
         Specified::Refused(r) => answer::refusal_number(r),
     }
 }

@@ -63,11 +63,12 @@ pub fn numbered_cell(
     fill: u32,
     held: Held,
     memory: &[u32],
+    tile: u64,
     inside: u32,
 ) -> Cell
-    ensures { λ r. ⌜ r ≡ numberedCell (now (file .entry)) kind fill (now (memory .entry)) inside held ⌝ }
+    ensures { λ r. ⌜ r ≡ numberedCell (now (file .entry)) kind fill (now (memory .entry)) tile inside held ⌝ }
 {
-    cells::many::numbered_cell(file, kind, fill, held, memory, inside)
+    cells::many::numbered_cell(file, kind, fill, held, memory, tile, inside)
 }
 
 // Whether n rows or columns from one on lie within a side of the grid, however large the sum.

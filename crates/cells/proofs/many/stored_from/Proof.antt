@@ -15,5 +15,5 @@ stored-from-spec =
     (λ c. record { fits = omega (arith, c .cell-offset .ensures, offset-few (c .before .before .before .args .kind) (c .before .before .before .args .inside)) })
     (λ c κs. search needs)
     (λ c κs. search needs)
-    (λ c. stored-in _ _ _ _ _ _ _ _ (c .before .before .before .if1 .taken) (c .before .before .cell-offset .ensures) refl (c .before .bits-at .ensures) (c .value-of .ensures))
-    (λ c. stored-past _ _ _ _ (c .if1 .left)))
+    (λ c. stored-in _ _ _ _ _ _ _ _ _ (c .before .before .before .if1 .taken) (c .before .before .cell-offset .ensures) refl (c .before .bits-at .ensures) (c .value-of .ensures))
+    (λ c. stored-past _ _ _ _ _ (c .if1 .left)))

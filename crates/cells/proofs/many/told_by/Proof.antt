@@ -17,8 +17,9 @@ told-by-spec =
     (λ c. told-alone _ _ _ _ _ _ _ _ _ (c .before .before .held-kind .ensures) (c .before .if1 .taken) (c .cell-of-accepted .ensures .0))
     (λ c κs. search needs)
     (λ c κs. search needs)
-    (λ c. record { fits = omega (arith, c .cell-inside .ensures, inside-small _ (c .before .before .before .before .before .before .args .row) (c .before .before .before .before .before .before .args .column) (c .before .before .before .before .before .before .pre)) })
+    (λ c κs. search needs)
+    (λ c. record { fits = omega (arith, c .cell-inside .ensures, inside-small _ (c .before .before .before .before .before .before .before .args .row) (c .before .before .before .before .before .before .before .args .column) (c .before .before .before .before .before .before .before .pre)) })
     (λ c κs. search needs)
     (λ c.
-    let y = c .before .before .element .ensures in
-    told-numbered _ _ _ _ _ _ _ _ _ (c .before .before .before .before .held-kind .ensures) _ _ _ (c .before .before .before .if1 .left) (ap (λ (x : Element). x .kind) y) (ap (λ (x : Element). x .fill) y) (c .before .cell-inside .ensures) (c .numbered-cell .ensures)))
+    let y = c .before .before .before .element .ensures in
+    told-numbered _ _ _ _ _ _ _ _ _ (c .before .before .before .before .before .held-kind .ensures) _ _ _ _ (c .before .before .before .before .if1 .left) (ap (λ (x : Element). x .kind) y) (ap (λ (x : Element). x .fill) y) (c .before .before .cell-tile .ensures) (c .before .cell-inside .ensures) (c .numbered-cell .ensures)))

@@ -13,4 +13,5 @@ cell-in-spec =
     (λ c. search (needs, cell-packed))
     (λ c κs. search needs)
     (λ c κs. search needs)
+    (λ c κs. search needs)
     (λ c. search (needs, cell-whole)))

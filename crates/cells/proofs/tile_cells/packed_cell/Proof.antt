@@ -15,6 +15,7 @@ packed-cell-spec =
     (λ c κs. search needs)
     (λ c κs. search needs)
     (λ c. search needs)
+    (λ c κs. search needs)
     (λ c. search needs)
     (λ c. search (needs, still-packed, cell-malformed, cell-unpacked))
     (λ c. search (needs, still-packed, cell-malformed, cell-unpacked))

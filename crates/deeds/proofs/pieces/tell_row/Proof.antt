@@ -9,10 +9,10 @@ use Rattle.deeds.proofs.pieces.tell_row.Statement.{statement}
 use Rattle.deeds.proofs.pieces.tell_row.Tie as tie
 
 abbrev Inv-loop : tie.InvT-loop
-Inv-loop file held memory rule kind fill start n t₀ c₀ t c = (c ≤ n) × (t ≡ numberedTally rule file kind fill held memory start c)
+Inv-loop file held memory rule kind fill tile start n t₀ c₀ t c = (c ≤ n) × (t ≡ numberedTally rule file kind fill held memory tile start c)
 
 abbrev μ-loop : tie.MeasureT-loop
-μ-loop file held memory rule kind fill start n t₀ c₀ t c = n - c
+μ-loop file held memory rule kind fill tile start n t₀ c₀ t c = n - c
 
 pub tell-row-spec : {M : Type 1} → statement M
 unfolding numberedTally

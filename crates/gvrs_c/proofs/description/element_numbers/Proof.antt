@@ -13,5 +13,5 @@ element-numbers-spec =
     (λ c. search needs)
     (λ c. search needs)
     (λ c κs. search needs)
-    (λ c. element-told _ _ _ _ _ (c .before .x .given .1))
+    (λ c. element-told _ _ _ _ _ _ _ (c .before .x .given .1))
     (λ c. element-refused _ _ _ (c .before .before .x2 .given .1) (c .refusal-place .ensures)))

@@ -9,13 +9,13 @@ use Rattle.store.proofs.PieceLaws.{start-small}
 use Rattle.row_lists.specs.Entries.{entrySize}
 use Rattle.row_lists.specs.Placing.{Nexts, PiecePlaced}
 use Rattle.row_lists.proofs.RowLaws.{piece-none, piece-end}
-use Rattle.page_compare.specs.Sides.{areaDiffer}
+use Rattle.page_compare.specs.Sides.{areaDiffer, areaTiling}
 use Rattle.page_compare.proofs.PlaceLaws.{row-sides, row-next, row-more}
 use Rattle.page_compare.proofs.place.place_rows.Statement.{statement}
 use Rattle.page_compare.proofs.place.place_rows.Tie as tie
 
 abbrev Inv-loop : tie.InvT-loop
-Inv-loop first second q memory a p xs ys ends marks₀ next₀ list₀ across r₀ marks next list r = ((length marks ≡ length marks₀) × ((length next ≡ length next₀) × (length list ≡ length list₀))) × ((across ≡ tileColumns first) × (((p .top ≤ r) × (r ≤ p .bottom)) × (Nexts (areaDiffer first second q a) (q .elements) (a .columns) (length list₀ / entrySize) (p .top) (p .bottom) r (p .left) (p .right) next × PiecePlaced (areaDiffer first second q a) (q .elements) (a .columns) (p .top) (p .bottom) r (p .left) (p .right) list₀ list)))
+Inv-loop first second q memory a p xs ys ends marks₀ next₀ list₀ across r₀ marks next list r = ((length marks ≡ length marks₀) × ((length next ≡ length next₀) × (length list ≡ length list₀))) × ((across ≡ tileColumns first) × (((p .top ≤ r) × (r ≤ p .bottom)) × (Nexts (areaDiffer first second q a) (q .elements) (a .columns) (length list₀ / entrySize) (p .top) (p .bottom) r (p .left) (p .right) next × PiecePlaced (areaTiling first a) (areaDiffer first second q a) (q .elements) (a .columns) (p .top) (p .bottom) r (p .left) (p .right) list₀ list)))
 
 abbrev μ-loop : tie.MeasureT-loop
 μ-loop first second q memory a p xs ys ends marks₀ next₀ list₀ across r₀ marks next list r = p .bottom - r
@@ -28,7 +28,7 @@ place-rows-spec =
     μ-loop
     (λ c κs. search needs)
     (λ c. search needs)
-    (λ c. let p = c .before .before .before .before .before .before .before .before .before .pre in ((refl, (refl, refl)), (c .before .shape-of .ensures .1 .1 .1 .0, (omega (arith, p .1 .0 .sides), (p .1 .1 .1 .1 .1, piece-none (areaDiffer _ _ _ _) _ _ _ _ _ _ _)))))
+    (λ c. let p = c .before .before .before .before .before .before .before .before .before .pre in ((refl, (refl, refl)), (c .before .shape-of .ensures .1 .1 .1 .0, (omega (arith, p .1 .0 .sides), (p .1 .1 .1 .1 .1, piece-none (areaTiling _ _) (areaDiffer _ _ _ _) _ _ _ _ _ _ _)))))
     (λ c. omega arith)
     (λ c. omega arith)
     (λ c. record { fits = omega (arith, start-small _ _ _ (c .before .before .before .before .loop .r) _ (c .before .before .before .before .before .before .before .before .before .before .before .before .before .before .pre .0 .first) (c .before .before .before .before .before .before .before .before .before .before .before .before .before .before .pre .1 .0) (c .before .before .before .before .loop .inv .1 .0) (omega arith) (omega arith)) })
@@ -46,4 +46,4 @@ place-rows-spec =
     (λ c. search needs)
     (λ c. search needs)
     (λ c. search needs)
-    (λ c. let i = c .before .before .loop .inv in piece-end (areaDiffer _ _ _ _) _ _ _ _ _ _ _ _ _ _ _ (omega (arith, i .1 .1 .0)) (i .1 .1 .1)))
+    (λ c. let i = c .before .before .loop .inv in piece-end (areaDiffer _ _ _ _) _ _ _ _ _ _ _ (areaTiling _ _) _ _ _ _ (omega (arith, i .1 .1 .0)) (i .1 .1 .1)))

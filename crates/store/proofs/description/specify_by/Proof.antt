@@ -13,4 +13,6 @@ specify-by-spec =
     (λ c. search needs)
     (λ c. element-lacks _ _ _ (c .before .element-count .ensures) (omega arith))
     (λ c κs. search needs)
-    (λ c. element-is _ _ _ (c .before .before .element-count .ensures) _ (c .element .ensures) (omega arith)))
+    (λ c κs. search needs)
+    (λ c κs. search needs)
+    (λ c. element-is _ _ _ (c .before .before .before .before .element-count .ensures) _ _ _ (c .before .before .element .ensures) (c .before .unit-place .ensures) (c .unit-length .ensures) (omega arith)))
