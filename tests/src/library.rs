@@ -268,8 +268,8 @@ pub fn check_rest_into(file: &[u8], out: &mut [u64]) -> u32 {
 }
 
 /// The number and all of `out`.
-pub fn cell(file: &[u8], spot: Spot, route: u32) -> (u32, [u64; 3]) {
-    let mut out = [UNWRITTEN; 3];
+pub fn cell(file: &[u8], spot: Spot, route: u32) -> (u32, [u64; 5]) {
+    let mut out = [UNWRITTEN; 5];
     let number = cell_into(file, spot, route, &mut out);
     (number, out)
 }
@@ -295,8 +295,8 @@ pub fn content_into(file: &[u8], tile: u64, element: u64, out: &mut [u64]) -> u3
 }
 
 /// The number and all of `out`.
-pub fn cell_with(file: &[u8], spot: Spot, route: u32, compressor: u32) -> (u32, [u64; 3]) {
-    let mut out = [UNWRITTEN; 3];
+pub fn cell_with(file: &[u8], spot: Spot, route: u32, compressor: u32) -> (u32, [u64; 5]) {
+    let mut out = [UNWRITTEN; 5];
     let number = cell_with_into(file, spot, route, compressor, &mut out);
     (number, out)
 }

@@ -59,6 +59,7 @@ fn files() -> Vec<(&'static str, Vec<u8>)> {
         ("no-rule", by_rule(&[1, 2])),
         ("other-type", none_stored_of(&[INTEGER])),
         ("more-elements", none_stored_of(&[SHORT, SHORT])),
+        ("units", units()),
         ("wide", wide()),
         ("large-tiles", bytes_of(&Page::of_sides([4096, 4096], [512, 512]))),
         ("65535-bytes", of_length(65_536)[..65_535].to_vec()),
@@ -181,6 +182,22 @@ fn by_rule(ids: &[u32]) -> Vec<u8> {
         page.insert(1, Body::Metadata(Metadata::new(b"score_rule", *id)));
     }
     page.insert(0, Body::MetadataDirectory((2..2 + ids.len()).collect()));
+    bytes_of(&page)
+}
+
+/// Units: of one character, none, and one with line feeds, quotation marks, backslashes and control
+/// characters.
+fn units() -> Vec<u8> {
+    let mut page = Page::of_sides([1, 1], [1, 1]);
+    let units = ["m", "", "\u{b5}m \"\\\n\u{1b}[31m\u{7f}\u{85}\u{a0}"];
+    page.elements = vec![
+        Element::new(FLOAT, b"length"),
+        Element::new(SHORT, b"score"),
+        Element::new(INTEGER, b"other"),
+    ];
+    for (element, unit) in page.elements.iter_mut().zip(units) {
+        element.unit = unit.into();
+    }
     bytes_of(&page)
 }
 

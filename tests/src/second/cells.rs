@@ -19,6 +19,13 @@ pub struct Spot {
     pub element: u64,
 }
 
+/// Req 10: "the tile index and the number inside the tile".
+#[derive(Clone, Copy, Debug, PartialEq)]
+pub struct Location {
+    pub tile: u64,
+    pub inside: u64,
+}
+
 /// The answer of a cell read. Bits are 16 for a Short, else 32.
 #[derive(Clone, Copy, Debug, PartialEq)]
 pub enum Cell {
@@ -26,16 +33,19 @@ pub enum Cell {
         type_code: u8,
         bits: u32,
         place: u64,
+        location: Location,
     },
     /// Req 01: "its place is the start of its element's content".
     Unpacked {
         type_code: u8,
         bits: u32,
         place: u64,
+        location: Location,
     },
     Fill {
         type_code: u8,
         bits: u32,
+        location: Location,
     },
     Refused(Answer),
 }
@@ -67,18 +77,24 @@ pub const NO_COMPRESSOR: u32 = 256;
 
 impl Cell {
     /// As `gvrs_cell` and `gvrs_cell_with` give it.
-    pub fn as_numbers(&self) -> (u32, [u64; 3]) {
+    pub fn as_numbers(&self) -> (u32, [u64; 5]) {
         match *self {
-            Cell::Stored { type_code, bits, place } => {
-                (STORED, [u64::from(type_code), u64::from(bits), place])
+            Cell::Stored { type_code, bits, place, location } => {
+                (STORED, in_order(type_code, bits, place, location))
             }
-            Cell::Unpacked { type_code, bits, place } => {
-                (UNPACKED, [u64::from(type_code), u64::from(bits), place])
+            Cell::Unpacked { type_code, bits, place, location } => {
+                (UNPACKED, in_order(type_code, bits, place, location))
             }
-            Cell::Fill { type_code, bits } => (FILL, [u64::from(type_code), u64::from(bits), 0]),
-            Cell::Refused((number, place)) => (number, [0, 0, place]),
+            Cell::Fill { type_code, bits, location } => {
+                (FILL, in_order(type_code, bits, 0, location))
+            }
+            Cell::Refused((number, place)) => (number, [0, 0, place, 0, 0]),
         }
     }
+}
+
+fn in_order(type_code: u8, bits: u32, place: u64, location: Location) -> [u64; 5] {
+    [u64::from(type_code), u64::from(bits), place, location.tile, location.inside]
 }
 
 impl Content {
@@ -174,23 +190,24 @@ fn cell(file: &[u8], passed: &Passed, spot: Spot, compressor: u32) -> Cell {
         return Cell::Refused((10, 0));
     }
     let type_code = element.type_code;
-    let Some(record) = tile_record(passed, tile_of(header, spot)) else {
-        return Cell::Fill { type_code, bits: element.fill };
+    let (tile, inside) = (tile_of(header, spot), number_inside(header, spot));
+    let location = Location { tile, inside };
+    let Some(record) = tile_record(passed, tile) else {
+        return Cell::Fill { type_code, bits: element.fill, location };
     };
     let part = part_of(header, record, spot.element as usize);
-    let inside = number_inside(header, spot);
     if is_compressed(header, element, &part) {
         let content = &file[part.start..part.start + part.length];
         return match unpacked(content, header, element, compressor) {
             Ok(cells) => {
                 let bits = cells[inside as usize];
-                Cell::Unpacked { type_code, bits, place: part.start as u64 }
+                Cell::Unpacked { type_code, bits, place: part.start as u64, location }
             }
             Err(number) => Cell::Refused((number, record.start as u64)),
         };
     }
     let place = part.start as u64 + inside * element.cell_size();
-    Cell::Stored { type_code, bits: bits_at(file, element, place as usize), place }
+    Cell::Stored { type_code, bits: bits_at(file, element, place as usize), place, location }
 }
 
 /// Refused as a cell read is.

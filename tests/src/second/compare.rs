@@ -1,14 +1,21 @@
-//! Two pages compared cell by cell (Req 09).
+//! Two pages compared cell by cell (Req 09), each entry with its tile (Req 10).
 
 use std::collections::HashMap;
 
 use super::cells::{cells, number_inside, tile_of};
-use super::cells::{Cells, Opened, Spot};
+use super::cells::{Cells, Location, Opened, Spot};
 use super::check::{Answer, Passed};
 use super::header::Header;
 
-/// Numbers of an entry: "three numbers each".
-pub const ENTRY: usize = 3;
+/// Numbers of an entry: "Each entry of the compare list becomes five numbers".
+pub const ENTRY: usize = 5;
+
+/// A cell that differs, with "tile index and number inside last".
+#[derive(Clone, Copy, Debug, PartialEq)]
+pub struct Entry {
+    pub spot: Spot,
+    pub location: Location,
+}
 
 /// Whose refusal it is.
 #[derive(Clone, Copy, Debug, PartialEq)]
@@ -23,7 +30,7 @@ pub enum Whose {
 #[derive(Clone, Debug, PartialEq)]
 pub enum Comparison {
     /// The cells that differ, "by row, then column, then element".
-    Differing(Vec<Spot>),
+    Differing(Vec<Entry>),
     Refused(Whose, Answer),
 }
 
@@ -31,7 +38,7 @@ impl Comparison {
     /// As `gvrs_compare` gives it, without the list: the full number, or the place, and whose it is.
     pub fn as_numbers(&self) -> (u32, [u64; 2]) {
         match self {
-            Comparison::Differing(spots) => (0, [spots.len() as u64, 0]),
+            Comparison::Differing(entries) => (0, [entries.len() as u64, 0]),
             Comparison::Refused(whose, (number, place)) => {
                 let page = match whose {
                     Whose::First => 1,
@@ -49,16 +56,17 @@ impl Comparison {
     }
 
     /// The cells that differ, none of a refusal.
-    pub fn differing(&self) -> &[Spot] {
+    pub fn differing(&self) -> &[Entry] {
         match self {
-            Comparison::Differing(spots) => spots,
+            Comparison::Differing(entries) => entries,
             Comparison::Refused(..) => &[],
         }
     }
 }
 
-fn numbers(spot: &Spot) -> [u32; ENTRY] {
-    [spot.row, spot.column, spot.element].map(|number| number as u32)
+fn numbers(Entry { spot, location }: &Entry) -> [u32; ENTRY] {
+    let Location { tile, inside } = *location;
+    [spot.row, spot.column, spot.element, tile, inside].map(|number| number as u32)
 }
 
 /// A page with the compressor index that is named for it.
@@ -84,7 +92,7 @@ pub fn compare(first: Named, second: Named) -> Comparison {
     let mut left = Reader::new(first.opened.file, passed, first.compressor);
     let mut right = Reader::new(second.opened.file, other, second.compressor);
     match differing(&passed.header, &mut left, &mut right) {
-        Ok(spots) => Comparison::Differing(spots),
+        Ok(entries) => Comparison::Differing(entries),
         Err((whose, refusal)) => Comparison::Refused(whose, refusal),
     }
 }
@@ -149,8 +157,8 @@ fn differing(
     header: &Header,
     first: &mut Reader,
     second: &mut Reader,
-) -> Result<Vec<Spot>, (Whose, Answer)> {
-    let mut spots = Vec::new();
+) -> Result<Vec<Entry>, (Whose, Answer)> {
+    let mut entries = Vec::new();
     for row in 0..header.grid_rows {
         for column in 0..header.grid_columns {
             for element in 0..header.elements.len() as u64 {
@@ -158,10 +166,11 @@ fn differing(
                 let of_first = first.cell(spot).map_err(|refusal| (Whose::First, refusal))?;
                 let of_second = second.cell(spot).map_err(|refusal| (Whose::Second, refusal))?;
                 if of_first != of_second {
-                    spots.push(spot);
+                    let (tile, inside) = (tile_of(header, spot), number_inside(header, spot));
+                    entries.push(Entry { spot, location: Location { tile, inside } });
                 }
             }
         }
     }
-    Ok(spots)
+    Ok(entries)
 }

@@ -16,8 +16,8 @@ impl Opened<'_> {
 
     /// As `gvrs_element` gives it: the check's refusal, or 10 where the page has no element of that
     /// number; else 0 and, in this order, type code, bits of the fill, place and length of the
-    /// name.
-    pub fn element(&self, number: u64) -> (u32, [u64; 4]) {
+    /// name, and those of the unit.
+    pub fn element(&self, number: u64) -> (u32, [u64; 6]) {
         answered(self.passed().and_then(|passed| of_element(passed, number)))
     }
 
@@ -61,8 +61,14 @@ fn records_of(passed: &Passed, record_type: u8) -> u64 {
     passed.records.iter().filter(|record| record.record_type == record_type).count() as u64
 }
 
-fn of_element(passed: &Passed, number: u64) -> Result<[u64; 4], Answer> {
+fn of_element(passed: &Passed, number: u64) -> Result<[u64; 6], Answer> {
     let element = element(&passed.header, number).ok_or((10, 0))?;
-    let (place, length) = (element.name_at, element.name.len());
-    Ok([u64::from(element.type_code), u64::from(element.fill), place as u64, length as u64])
+    Ok([
+        u64::from(element.type_code),
+        u64::from(element.fill),
+        element.name_at as u64,
+        element.name.len() as u64,
+        element.unit_at as u64,
+        element.unit_length as u64,
+    ])
 }

@@ -43,6 +43,10 @@ pub struct Element {
     pub name: Vec<u8>,
     /// The position of the name's first byte in the file.
     pub name_at: usize,
+    /// Req 10: the position of the unit's bytes, "just behind the length field, even if empty", and
+    /// their number.
+    pub unit_at: usize,
+    pub unit_length: usize,
     /// The bits of the fill, as they are: 16 of a Short, else 32.
     pub fill: u32,
 }
@@ -157,12 +161,14 @@ fn element(reader: &mut Reader) -> Option<Element> {
     let label = reader.string()?;
     let description = reader.string()?;
     let unit_of_measure = reader.string()?;
+    let unit_length = unit_of_measure.len();
+    let unit_at = HEADER_START + reader.at() - unit_length;
     reader.fill_to_four()?;
     let good = is_identifier(name, LONGEST_NAME)
         && is_utf8(label)
         && is_utf8(description)
         && is_utf8(unit_of_measure);
-    good.then(|| Element { type_code, name: name.to_vec(), name_at, fill })
+    good.then(|| Element { type_code, name: name.to_vec(), name_at, unit_at, unit_length, fill })
 }
 
 /// Document 01, stage 3: "each of a type of G's Table 2". Codes of G Table 8, lengths of G Tables 9

@@ -55,9 +55,9 @@ struct Lengths {
 
 impl Run {
     /// Asks for the comparison of two pages with memories of none, a few numbers, enough for one page
-    /// alone, one less than enough, enough, and more, and with lists of none, one and two numbers,
-    /// too short by an entry and by a number, exact, longer, and cut anywhere. The answer, if both give
-    /// the same with each.
+    /// alone, one less than enough, enough, and more, and with lists of none, one, 4, 5, 9 and 10
+    /// numbers, too short by an entry and by a number, exact, longer, and cut anywhere. The answer, if
+    /// both give the same with each.
     pub fn comparison(&mut self, sort: &str, first: &Side, second: &Side) -> Option<Comparison> {
         let answer = compare(first.named(), second.named());
         let turn = self.comparisons.asked(sort);
@@ -112,7 +112,8 @@ impl Run {
 fn lengths(half: usize, answer: &Comparison, turn: usize) -> Vec<Lengths> {
     let all = ENTRY * answer.differing().len();
     let cut = if all == 0 { 7 } else { turn * 7919 % all };
-    let lists = [all, 0, cut, 1, all + 5, 2, all.saturating_sub(1), all.saturating_sub(3), all + 1];
+    let [less, entry_less] = [1, ENTRY].map(|by| all.saturating_sub(by));
+    let lists = [all, 0, cut, 4, all + 7, 5, less, 9, entry_less, 10, all + 1, 1];
     let memories = [0, half / 2, half, (2 * half).saturating_sub(1), 2 * half, 2 * half + 3];
     let few = matches!(answer, Comparison::Refused(_, (1..=10 | 12, _)));
     let memories = if few { &memories[4..] } else { &memories[..] };

@@ -105,7 +105,8 @@ fn cells(page: &Page, index: u32) -> impl Iterator<Item = (usize, [u32; ENTRY])>
     let across = page.tiles_across() as u32;
     let (rows, columns) = (page.tile_rows, page.tile_columns);
     let (top, left) = (index / across * rows, index % across * columns);
-    (0..rows * columns).map(move |at| (at as usize, [top + at / columns, left + at % columns, 0]))
+    let entry = move |at: u32| [top + at / columns, left + at % columns, 0, index, at];
+    (0..rows * columns).map(move |at| (at as usize, entry(at)))
 }
 
 /// One tile in both, of which some cells differ; one in the first alone, and one in the second.
@@ -157,14 +158,17 @@ fn other_fills(run: &mut Run, elements: u8, thing: &str) {
     let equal = u64::from(TILE[0] * TILE[1]);
     let number = (SIDE * SIDE - equal) * u64::from(elements);
     let mut entries = Vec::new();
+    let across = SIDE as u32 / TILE[1];
     let columns = (0..SIDE as u32).filter(|column| column / TILE[1] != 3);
     'rows: for row in 0.. {
         for column in columns.clone() {
+            let tile = row / TILE[0] * across + column / TILE[1];
+            let inside = row % TILE[0] * TILE[1] + column % TILE[1];
             for element in 0..u32::from(elements) {
                 if entries.len() == MILLION {
                     break 'rows;
                 }
-                entries.push([row, column, element]);
+                entries.push([row, column, element, tile, inside]);
             }
         }
     }
@@ -182,7 +186,7 @@ fn many_tiles(run: &mut Run, random: &mut Prng) {
         if let Body::Tile(tile) = &mut record.body {
             if random.one_in(100) {
                 tile.contents[0][0] ^= 1;
-                entries.push([tile.index / 256, tile.index % 256, 0]);
+                entries.push([tile.index / 256, tile.index % 256, 0, tile.index, 0]);
             }
         }
     }
@@ -230,7 +234,7 @@ fn largest(run: &mut Run, random: &mut Prng) {
         bytes_of(&page)
     };
     let files = [file(900, random), file(901, random)];
-    let entry = |at: u32| [at / TILE[1], at % TILE[1], 0];
+    let entry = |at: u32| [at / TILE[1], at % TILE[1], 0, 0, at];
     let entries: Vec<[u32; ENTRY]> = (0..524_288).map(entry).collect();
     in_time(run, [&files[0], &files[1]], ALWAYS_ENOUGH, 524_288, &entries, LARGEST);
 }

@@ -141,7 +141,7 @@ fn cut(
     answer: &Comparison,
     random: &mut Prng,
 ) {
-    let spots = answer.differing();
+    let spots: Vec<Spot> = answer.differing().iter().map(|entry| entry.spot).collect();
     let row = |a: Spot, b: Spot| a.row == b.row;
     let tile = |a: Spot, b: Spot| model.tile(a) == model.tile(b);
     let cell = |a: Spot, b: Spot| row(a, b) && a.column == b.column;

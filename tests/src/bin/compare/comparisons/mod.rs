@@ -1,4 +1,4 @@
-//! Two pages compared (Req 09).
+//! Two pages compared (Req 09), entries of five numbers (Req 10).
 
 mod ask;
 mod long_files;

@@ -6,8 +6,8 @@ use gvrs_tests::build::build;
 use gvrs_tests::page::{Body, Element, Filler, Page, Tile, FLOAT, SHORT};
 use gvrs_tests::prng::Prng;
 use gvrs_tests::random_page::put_anywhere;
-use gvrs_tests::second::cells::Spot;
-use gvrs_tests::second::compare::{Comparison, Whose};
+use gvrs_tests::second::cells::{Location, Spot};
+use gvrs_tests::second::compare::{Comparison, Entry, Whose};
 use gvrs_tests::second::predict::PREDICTORS;
 
 use crate::face::mixed::{malformed, out_of_range};
@@ -177,11 +177,16 @@ impl Model {
         row * self.page.tiles_across() as u32 + column
     }
 
+    /// The number of a cell inside its tile.
+    fn inside(&self, spot: Spot) -> u32 {
+        let Page { tile_rows, tile_columns, .. } = self.page;
+        spot.row as u32 % tile_rows * tile_columns + spot.column as u32 % tile_columns
+    }
+
     /// Whether a cell is fill, and its bits; or its refusal.
     fn cell(&self, spot: Spot) -> Result<(bool, u32), u32> {
-        let Page { tile_rows, tile_columns, .. } = self.page;
         let element = spot.element as usize;
-        let inside = spot.row as u32 % tile_rows * tile_columns + spot.column as u32 % tile_columns;
+        let inside = self.inside(spot);
         match self.tiles.get(&self.tile(spot)).map(|parts| &parts[element]) {
             None => Ok((true, fill(&self.page.elements[element]))),
             Some(Part::Stored(values) | Part::Packed(values)) => {
@@ -227,7 +232,7 @@ pub fn expected(first: (&Model, &File), second: (&Model, &File)) -> Comparison {
         column: at / elements % columns,
         element: at % elements,
     };
-    let mut spots = Vec::new();
+    let mut entries = Vec::new();
     for spot in (0..rows * columns * elements).map(number) {
         let place = |file: &File| file.starts[&left.tile(spot)];
         match (left.cell(spot), right.cell(spot)) {
@@ -237,11 +242,14 @@ pub fn expected(first: (&Model, &File), second: (&Model, &File)) -> Comparison {
             (_, Err(number)) => {
                 return Comparison::Refused(Whose::Second, (number, place(second.1)));
             }
-            (Ok(of_first), Ok(of_second)) if of_first != of_second => spots.push(spot),
+            (Ok(of_first), Ok(of_second)) if of_first != of_second => {
+                let (tile, inside) = (u64::from(left.tile(spot)), u64::from(left.inside(spot)));
+                entries.push(Entry { spot, location: Location { tile, inside } });
+            }
             _ => (),
         }
     }
-    Comparison::Differing(spots)
+    Comparison::Differing(entries)
 }
 
 /// Of one to sixteen tiles, a directory of the whole grid and no tile record.

@@ -1,9 +1,10 @@
-//! Req 09's sample sums.
+//! The sample sums of Req 09, in Req 10's five numbers.
 
 use gvrs_tests::build::build;
+use gvrs_tests::library::compare_into;
 use gvrs_tests::page::{Body, Element, Page, Tile, SHORT};
-use gvrs_tests::second::cells::{Spot, NO_COMPRESSOR};
-use gvrs_tests::second::compare::{Comparison, Whose};
+use gvrs_tests::second::cells::{Location, Spot, NO_COMPRESSOR};
+use gvrs_tests::second::compare::{Comparison, Entry, Whose, ENTRY};
 
 use super::ask::Side;
 use crate::face::sample_sums::page;
@@ -13,18 +14,28 @@ const SORT: &str = "sample sums of comparisons";
 
 const FILL: u32 = 5;
 
-const FIVE_NUMBERS: &str = "a list of five numbers takes (0, 1, 0) and leaves two";
+/// How many numbers of the list are written where it has so many.
+const LENGTHS: [(usize, usize, &str); 4] = [
+    (4, 0, "a list of 4 numbers takes no entry"),
+    (5, 5, "a list of 5 numbers takes 0 1 0 0 1"),
+    (9, 5, "a list of 9 numbers takes one entry and leaves four numbers"),
+    (10, 10, "a list of 10 numbers takes 0 1 0 0 1 and 0 2 0 1 0"),
+];
 
 pub fn section(run: &mut Run) {
-    run.comparisons.want(FIVE_NUMBERS);
+    for (_, _, thing) in LENGTHS {
+        run.comparisons.want(thing);
+    }
     few_cells(run);
     unreadable(run);
 }
 
-fn spots(all: &[[u64; 3]]) -> Comparison {
-    let spot =
-        |[row, column, element]: &[u64; 3]| Spot { row: *row, column: *column, element: *element };
-    Comparison::Differing(all.iter().map(spot).collect())
+fn entries(all: &[[u64; ENTRY]]) -> Comparison {
+    let entry = |[row, column, element, tile, inside]: [u64; ENTRY]| Entry {
+        spot: Spot { row, column, element },
+        location: Location { tile, inside },
+    };
+    Comparison::Differing(all.iter().copied().map(entry).collect())
 }
 
 fn with_fill(mut page: Page) -> Vec<u8> {
@@ -39,16 +50,25 @@ fn few_cells(run: &mut Run) {
     let other_tiles = with_fill(page([2, 3], [2, 3], &[(0, &[1, 0, 5, 3, 0, 5])]));
     let [first, second, other_tiles] =
         [&first, &second, &other_tiles].map(|file| Side::new(file, NO_COMPRESSOR, 1));
-    let four = spots(&[[0, 1, 0], [0, 2, 0], [1, 1, 0], [1, 2, 0]]);
+    let four = entries(&[[0, 1, 0, 0, 1], [0, 2, 0, 1, 0], [1, 1, 0, 0, 3], [1, 2, 0, 1, 2]]);
     let unlike = Comparison::Refused(Whose::Neither, (12, 0));
     run.comparison_is(SORT, &first, &second, &four);
     run.comparison_is(SORT, &second, &first, &four);
-    run.comparison_is(SORT, &first, &first, &spots(&[]));
-    run.comparison_is(SORT, &second, &second, &spots(&[]));
+    run.comparison_is(SORT, &first, &first, &entries(&[]));
+    run.comparison_is(SORT, &second, &second, &entries(&[]));
     run.comparison_is(SORT, &first, &other_tiles, &unlike);
     run.comparison_is(SORT, &other_tiles, &second, &unlike);
-    if four.listed(5) == [0, 1, 0] {
-        run.comparisons.reached(FIVE_NUMBERS);
+    for (room, taken, thing) in LENGTHS {
+        let (mut list, mut out) = (vec![9; room], [u64::MAX; 2]);
+        let number =
+            compare_into((first.file, 256), (second.file, 256), &mut [], &mut list, &mut out);
+        let wanted = [0, 1, 0, 0, 1, 0, 2, 0, 1, 0];
+        let rest_stays = list[taken..].iter().all(|number| *number == 9);
+        if (number, out) == (0, [4, 0]) && list[..taken] == wanted[..taken] && rest_stays {
+            run.comparisons.reached(thing);
+        } else {
+            run.fault(&format!("{SORT}: {thing}: {number}, {out:?}, {list:?}"), first.file);
+        }
     }
 }
 

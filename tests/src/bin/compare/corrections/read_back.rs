@@ -129,7 +129,7 @@ fn as_the_map_has_it(
     compressor: u32,
 ) {
     let (kind, bits) = session.cell(spot, compressor);
-    let (number, [_, found, _]) = answer.as_numbers();
+    let (number, [_, found, ..]) = answer.as_numbers();
     if (number, found) != (kind, u64::from(bits)) {
         let text = format!("{SORT}: {spot:?}: {answer:x?}, the map has {kind}, {bits:x}");
         return run.fault(&text, asked.file);

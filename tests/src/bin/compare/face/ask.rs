@@ -184,9 +184,9 @@ impl Run {
         same.then_some(answer)
     }
 
-    /// Asks what an element is, with an `out` of 4 and, in turn, of 0 to 6. The answer, if both
+    /// Asks what an element is, with an `out` of 6 and, in turn, of 0 to 8. The answer, if both
     /// give the same.
-    pub fn element(&mut self, sort: &str, asked: &Asked, number: u64) -> Option<(u32, [u64; 4])> {
+    pub fn element(&mut self, sort: &str, asked: &Asked, number: u64) -> Option<(u32, [u64; 6])> {
         let answer = asked.checked.element(number);
         self.face.asked(sort);
         let asked_for = |out: &mut [u64]| element_into(&asked.lent, number, out);

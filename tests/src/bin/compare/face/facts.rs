@@ -2,9 +2,9 @@
 
 use gvrs_tests::build::{build, Built};
 use gvrs_tests::library::{element_into, page_into};
-use gvrs_tests::page::{Element, Page, Record};
+use gvrs_tests::page::{Element, Page, Record, SHORT};
 use gvrs_tests::prng::Prng;
-use gvrs_tests::random_page::random_page;
+use gvrs_tests::random_page::{random_page, text_of};
 use gvrs_tests::second::chain;
 
 use crate::reads::ask::Asked;
@@ -26,6 +26,12 @@ const HIGH_TIME: &str = "a time modified of 2^63 or more";
 const SIXTEEN: &str = "the last of 16 elements";
 const TYPES: [&str; 4] =
     ["an Integer's fill", "an integer-coded's fill", "a Float's fill", "a Short's fill, negative"];
+const UNITS: [(usize, &str); 3] =
+    [(0, "a unit of no byte"), (1, "a unit of one byte"), (65_535, "a unit of 65,535 bytes")];
+const SAMPLE_UNITS: [&str; 2] = [
+    "sample: no texts: the unit is at 314, of no byte",
+    "sample: label `ab`, unit `m`: the unit is at 316, of one byte",
+];
 const ADDRESSES: &str = "a page and an element at eight addresses in memory";
 
 pub fn section(run: &mut Run, random: &mut Prng) {
@@ -37,6 +43,18 @@ pub fn section(run: &mut Run, random: &mut Prng) {
     }
     for name in OUTSIDE {
         run.face.want(&format!("element: {name}"));
+    }
+    for thing in SAMPLE_UNITS {
+        run.face.want(thing);
+    }
+    for (_, what) in UNITS {
+        for bytes in 0..4 {
+            run.face.want(&unit_thing(what, bytes));
+        }
+    }
+    sample_units(run, random);
+    for (unit, _) in UNITS {
+        units(run, unit, random);
     }
     for _ in 0..run.times(6000) {
         of_page(run, &random_page(random), random);
@@ -56,14 +74,8 @@ fn of_page(run: &mut Run, page: &Page, random: &mut Prng) {
     } else if answer.is_some() {
         run.fault(&format!("{SORT}: {answer:x?}, expected {expected:x?}"), asked.file);
     }
-    let names = built.named("element name");
-    for (number, (element, name)) in page.elements.iter().zip(&names).enumerate() {
-        let numbers = [
-            u64::from(element.type_code),
-            u64::from(fill(element)),
-            name.at as u64,
-            element.name.len() as u64,
-        ];
+    for (number, element) in page.elements.iter().enumerate() {
+        let numbers = element_numbers(&built, element, number);
         let answer = run.element(SORT, &asked, number as u64);
         if answer == Some((0, numbers)) {
             note_element(run, element, number);
@@ -77,7 +89,19 @@ fn of_page(run: &mut Run, page: &Page, random: &mut Prng) {
     }
 }
 
-/// The description's own account.
+/// The description's own account of an element.
+fn element_numbers(built: &Built, element: &Element, number: usize) -> [u64; 6] {
+    [
+        u64::from(element.type_code),
+        u64::from(fill(element)),
+        built.named("element name")[number].at as u64,
+        element.name.len() as u64,
+        built.named("element unit length")[number].at as u64 + 2,
+        element.unit.len() as u64,
+    ]
+}
+
+/// And of a page.
 fn numbers_of(page: &Page, built: &Built) -> [u64; 13] {
     let tile_bytes: usize = (0..page.elements.len()).map(|e| page.uncompressed_size(e)).sum();
     [
@@ -130,13 +154,53 @@ fn note_element(run: &mut Run, element: &Element, number: usize) {
     if number == 15 {
         run.face.reached(SIXTEEN);
     }
+    if let Some((_, what)) = UNITS.iter().find(|(unit, _)| *unit == element.unit.len()) {
+        run.face.reached(&unit_thing(what, element.name.len() % 4));
+    }
+}
+
+fn unit_thing(what: &str, bytes: usize) -> String {
+    format!("{what}, behind a name of 4n + {bytes} bytes")
+}
+
+/// Two elements of each type with units of this length, behind names of every length and other
+/// texts.
+fn units(run: &mut Run, unit: usize, random: &mut Prng) {
+    let step = if run.small { 7 } else { 1 };
+    for length in (1..=32).step_by(step) {
+        let mut page = Page::of_sides([1, 1], [1, 1]);
+        let names = [vec![b'n'; length], vec![b'm'; 33 - length]];
+        page.elements = names.map(|name| Element::new(random.below(4) as u8, &name)).to_vec();
+        for element in &mut page.elements {
+            element.label = text_of(random.below(6), random);
+            element.description = text_of(random.below(6), random);
+            element.unit = text_of(unit, random);
+        }
+        of_page(run, &page, random);
+    }
+}
+
+/// Req 10's: one Short named `e0`.
+fn sample_units(run: &mut Run, random: &mut Prng) {
+    let mut page = Page::of_sides([1, 1], [1, 1]);
+    page.elements = vec![Element::new(SHORT, b"e0")];
+    let sums = [("", "", [314, 0]), ("ab", "m", [316, 1])];
+    for ((label, unit, [place, length]), thing) in sums.into_iter().zip(SAMPLE_UNITS) {
+        page.elements[0].label = label.into();
+        page.elements[0].unit = unit.into();
+        of_page(run, &page, random);
+        let file = build(&page).bytes;
+        if run.element(SORT, &Asked::new(&file), 0) == Some((0, [3, 0, 294, 2, place, length])) {
+            run.face.reached(thing);
+        }
+    }
 }
 
 fn lacking(run: &mut Run, asked: &Asked, elements: u64, random: &mut Prng) {
     let name = random.pick(&OUTSIDE);
     let good = random.long() % elements;
     let answer = run.element(ELEMENT_SORT, asked, outside(name, elements, good));
-    if answer == Some((10, [0; 4])) {
+    if answer == Some((10, [0; 6])) {
         run.face.reached(&format!("element: {name}"));
     } else if answer.is_some() {
         run.fault(&format!("{ELEMENT_SORT}: {name}: {answer:?}"), asked.file);
@@ -168,7 +232,7 @@ fn at_any_address(run: &mut Run, asked: &Asked, element: u64) {
         memory.extend(asked.file);
         memory.extend([0xff; 16]);
         let moved = &memory[before..before + asked.file.len()];
-        let (mut numbers, mut element_numbers) = ([0; 13], [0; 4]);
+        let (mut numbers, mut element_numbers) = ([0; 13], [0; 6]);
         let number = page_into(moved, &mut numbers);
         let element_number = element_into(moved, element, &mut element_numbers);
         (number, numbers) == page && (element_number, element_numbers) == of_element

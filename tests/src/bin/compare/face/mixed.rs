@@ -7,7 +7,7 @@ use gvrs_tests::build::{build, Built};
 use gvrs_tests::page::{Body, Page, FLOAT, INTEGER, SHORT};
 use gvrs_tests::prng::Prng;
 use gvrs_tests::random_page::random_page;
-use gvrs_tests::second::cells::{Cell, Spot, FILL, STORED, UNPACKED};
+use gvrs_tests::second::cells::{Cell, Content, Spot, FILL, STORED, UNPACKED};
 use gvrs_tests::second::predict::PREDICTORS;
 use gvrs_tests::second::rectangles::{Area, Rectangle};
 
@@ -36,7 +36,7 @@ enum Kept {
 impl Mixed {
     /// A page with a tile record or more, of tiles of any shape or of such that can be packed.
     pub fn at_random(random: &mut Prng) -> Mixed {
-        let mut page = loop {
+        let page = loop {
             let page = random_page(random);
             let cells = (page.tile_rows * page.tile_columns) as usize;
             let stored = page.records.iter().any(|record| matches!(record.body, Body::Tile(_)));
@@ -45,6 +45,11 @@ impl Mixed {
                 break page;
             }
         };
+        Mixed::of(page, random)
+    }
+
+    /// A page with other contents in its tile records.
+    pub fn of(mut page: Page, random: &mut Prng) -> Mixed {
         let index = random.byte();
         let mut contents = HashMap::new();
         let described = page.clone();
@@ -64,6 +69,27 @@ impl Mixed {
         Described::new(&self.page, &self.built)
     }
 
+    /// What the description says of a cell that is read with that index.
+    pub fn cell(&self, inside: Inside) -> Cell {
+        let (described, element) = (self.described(), inside.element);
+        let cell = described.cell(inside);
+        let location = described.location(inside);
+        let index = location.tile as usize;
+        match self.contents.get(&(index as u32, element)) {
+            None | Some(Kept::Stored) => cell,
+            Some(Kept::Unpacked(values)) => Cell::Unpacked {
+                type_code: self.page.elements[element].type_code,
+                bits: self.bits(element, values[location.inside as usize]),
+                place: described.contents_of(index).expect("a tile record")[element].at as u64,
+                location,
+            },
+            Some(Kept::Refused(number)) => match described.content(index, element) {
+                Content::Refused((_, start)) => Cell::Refused((*number, start)),
+                content => panic!("a compressed content is {content:?}"),
+            },
+        }
+    }
+
     /// What the description says of a rectangle of the grid: all fill, but for the cells of each
     /// tile that has a record, from their place in the tile to their place in the rectangle.
     pub fn area(&self, rectangle: Rectangle) -> Area {
@@ -81,10 +107,7 @@ impl Mixed {
                 };
                 (kinds[at], bits[at]) = match (kept, described.cell(inside)) {
                     (Kept::Stored, Cell::Stored { bits, .. }) => (STORED, bits),
-                    (Kept::Unpacked(values), _) => {
-                        let mask = if self.is_short(element) { 0xffff } else { u32::MAX };
-                        (UNPACKED, values[number] as u32 & mask)
-                    }
+                    (Kept::Unpacked(values), _) => (UNPACKED, self.bits(element, values[number])),
                     (Kept::Refused(number), _) => (*number, 0),
                     (Kept::Stored, cell) => panic!("a stored tile has {cell:?}"),
                 };
@@ -103,8 +126,10 @@ impl Mixed {
         })
     }
 
-    fn is_short(&self, element: usize) -> bool {
-        self.page.elements[element].type_code == SHORT
+    /// What a value's bits are: 16 of a Short.
+    fn bits(&self, element: usize, value: i32) -> u32 {
+        let short = self.page.elements[element].type_code == SHORT;
+        value as u32 & if short { 0xffff } else { u32::MAX }
     }
 }
 

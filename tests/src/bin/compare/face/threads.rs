@@ -24,7 +24,7 @@ struct Question {
     compressor: u32,
     area: Area,
     page: (u32, [u64; 13]),
-    element: (u32, [u64; 4]),
+    element: (u32, [u64; 6]),
 }
 
 pub fn section(run: &mut Run, random: &mut Prng) {
@@ -67,7 +67,7 @@ fn first_fault(questions: &[Question], number: usize) -> Option<usize> {
 
 fn is_answered(question: &Question, memory: &mut [u32]) -> bool {
     let Question { file, rectangle, compressor, area, page, element } = question;
-    let (mut of_page, mut of_element) = ([0; 13], [0; 4]);
+    let (mut of_page, mut of_element) = ([0; 13], [0; 6]);
     let page_number = page_into(file, &mut of_page);
     let element_number = element_into(file, rectangle.element, &mut of_element);
     is_the_answer(file, *rectangle, *compressor, memory, area)

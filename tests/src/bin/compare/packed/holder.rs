@@ -4,7 +4,7 @@ use gvrs_tests::build::{build, Built};
 use gvrs_tests::page::{Body, Element, Filler, Page, Tile};
 use gvrs_tests::prng::Prng;
 use gvrs_tests::random_page::contents;
-use gvrs_tests::second::cells::{Cell, Cells, Content, Spot};
+use gvrs_tests::second::cells::{Cell, Cells, Content, Location, Spot};
 use gvrs_tests::second::unpack::Shape;
 
 use crate::reads::ask::{routes, Asked};
@@ -179,6 +179,7 @@ impl Holder {
                 type_code: self.type_code(),
                 bits: self.bits(values[number]),
                 place: self.content_start(),
+                location: Location { tile: self.place().0, inside: number as u64 },
             },
             Expected::Refused(refusal) => Cell::Refused((refusal, self.start())),
         }

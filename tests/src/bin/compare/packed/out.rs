@@ -9,7 +9,7 @@ use super::holder::Holder;
 use crate::reads::ask::{routes, Asked};
 use crate::run::Run;
 
-const SORT: &str = "packed contents: out of 0 to 4, eight addresses";
+const SORT: &str = "packed contents: out of 0 to 7, eight addresses";
 const MARK: u64 = 0x5a5a_5a5a_a5a5_a5a5;
 
 const KINDS: [(u32, &str); 3] = [(34, "unpacked"), (14, "14"), (11, "11")];
@@ -17,7 +17,7 @@ const ADDRESSES: &str = "a packed content at eight addresses in memory";
 
 pub fn section(run: &mut Run, random: &mut Prng) {
     for (_, kind) in KINDS {
-        run.packed.want(&format!("out of 0 to 4: {kind}"));
+        run.packed.want(&format!("out of 0 to 7: {kind}"));
     }
     run.packed.want(ADDRESSES);
     for _ in 0..run.times(300) {
@@ -39,21 +39,21 @@ pub fn section(run: &mut Run, random: &mut Prng) {
 /// The number does not depend on `out`, which takes as many numbers as fit; all else stays.
 fn of_lengths(run: &mut Run, holder: &Holder, spot: Spot, compressor: u32, random: &mut Prng) {
     let asked = Asked::new(holder.file());
-    for length in 0..5 {
+    for length in 0..8 {
         let route = routes(random)[random.below(4)];
         let (number, numbers) = asked.meaning_with(spot, route, compressor).as_numbers();
-        let mut memory = [MARK; 8];
+        let mut memory = [MARK; 9];
         let out = &mut memory[1..1 + length];
         let answered = cell_with_into(holder.file(), spot, route, compressor, out);
-        let mut expected = [MARK; 8];
-        let fitting = length.min(3);
+        let mut expected = [MARK; 9];
+        let fitting = length.min(5);
         expected[1..1 + fitting].copy_from_slice(&numbers[..fitting]);
         run.packed.asked(SORT);
         if (answered, memory) != (number, expected) {
             let text = format!("{SORT}: out of {length}: {answered}, {memory:x?}");
             run.fault(&text, holder.file());
         } else if let Some((_, kind)) = KINDS.iter().find(|(kind, _)| *kind == number) {
-            run.packed.reached(&format!("out of 0 to 4: {kind}"));
+            run.packed.reached(&format!("out of 0 to 7: {kind}"));
         }
     }
 }

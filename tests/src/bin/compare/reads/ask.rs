@@ -87,7 +87,7 @@ impl Run {
             self.fault(&text, asked.file);
             return None;
         }
-        if let Cell::Stored { type_code, bits, place } = answer {
+        if let Cell::Stored { type_code, bits, place, .. } = answer {
             self.stored_in_the_file(asked, type_code, bits, place);
         }
         self.reads.cell(&answer, route);

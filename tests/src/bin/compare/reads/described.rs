@@ -6,7 +6,7 @@ use std::collections::HashMap;
 use gvrs_tests::build::{Built, Field};
 use gvrs_tests::page::{Body, Element, Page, INTEGER_CODED, SHORT};
 use gvrs_tests::prng::Prng;
-use gvrs_tests::second::cells::{Cell, Content, Spot};
+use gvrs_tests::second::cells::{Cell, Content, Location, Spot};
 
 /// A cell by tile row, tile column, row and column inside the tile, and element.
 #[derive(Clone, Copy)]
@@ -55,15 +55,24 @@ impl<'a> Described<'a> {
     pub fn cell(&self, inside: Inside) -> Cell {
         let element = &self.page.elements[inside.element];
         let type_code = element.type_code;
+        let location = self.location(inside);
         match self.content(self.index(inside.tile), inside.element) {
-            Content::Absent => Cell::Fill { type_code, bits: fill(element) },
+            Content::Absent => Cell::Fill { type_code, bits: fill(element), location },
             Content::Refused(refusal) => Cell::Refused(refusal),
             Content::Present { start, .. } => {
-                let rows_above = inside.cell.0 * self.page.tile_columns as usize;
-                let number = rows_above + inside.cell.1;
-                let place = start as usize + number * element.cell_size();
-                Cell::Stored { type_code, bits: self.bits(place, element), place: place as u64 }
+                let place = (start + location.inside * element.cell_size() as u64) as usize;
+                let bits = self.bits(place, element);
+                Cell::Stored { type_code, bits, place: place as u64, location }
             }
+        }
+    }
+
+    /// Its tile's index, and its number inside the tile.
+    pub fn location(&self, inside: Inside) -> Location {
+        let (row, column) = inside.cell;
+        Location {
+            tile: self.index(inside.tile) as u64,
+            inside: (row * self.page.tile_columns as usize + column) as u64,
         }
     }
 

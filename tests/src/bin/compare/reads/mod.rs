@@ -4,6 +4,7 @@ pub mod ask;
 pub mod bytes_changed;
 pub mod described;
 mod directories;
+mod locations;
 pub mod long_files;
 mod made;
 pub mod numbers;
@@ -20,6 +21,7 @@ use crate::run::Run;
 pub fn section(run: &mut Run, random: &mut Prng) {
     sample_sums::section(run, random);
     made::section(run, random);
+    locations::section(run, random);
     values::section(run, random);
     numbers::section(run, random);
     refused::section(run, random);

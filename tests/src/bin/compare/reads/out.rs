@@ -10,8 +10,12 @@ use super::ask::{routes, Asked};
 use super::described::Described;
 use crate::run::Run;
 
-const SORT: &str = "out of 0 to 4";
-const LENGTHS: [&str; 5] = ["out of 0", "out of 1", "out of 2", "out of 3", "out of 4"];
+const SORT: &str = "out of 0 to 7";
+const LENGTHS: [&str; 8] = [
+    "out of 0", "out of 1", "out of 2", "out of 3", "out of 4", "out of 5", "out of 6", "out of 7",
+];
+/// With a number around it on either side.
+const MEMORY: usize = LENGTHS.len() + 1;
 const ANSWERS: [&str; 3] = ["stored", "fill", "refused"];
 const ADDRESSES: &str = "a cell and a content at eight addresses in memory";
 
@@ -58,22 +62,22 @@ fn of_length(run: &mut Run, file: &[u8], spot: Spot, tile: u64, length: usize, r
     let asked = Asked::new(file);
     for route in routes(random) {
         let (number, numbers) = asked.meaning(spot, route).as_numbers();
-        let mut memory = [MARK; 8];
+        let mut memory = [MARK; MEMORY];
         let answered = cell_into(file, spot, route, &mut memory[1..1 + length]);
         let good = answered == number && memory == expected(&numbers, length) && file == before;
         let what = format!("{}: cell {}", LENGTHS[length], answer_name(number));
         judge(run, file, good, &what, answered, &memory);
     }
     let (number, numbers) = Opened::checked(file).content(tile, spot.element).as_numbers();
-    let mut memory = [MARK; 8];
+    let mut memory = [MARK; MEMORY];
     let answered = content_into(file, tile, spot.element, &mut memory[1..1 + length]);
     let good = answered == number && memory == expected(&numbers, length) && file == before;
     let what = format!("{}: content {}", LENGTHS[length], answer_name(number));
     judge(run, file, good, &what, answered, &memory);
 }
 
-fn expected(numbers: &[u64], length: usize) -> [u64; 8] {
-    let mut memory = [MARK; 8];
+fn expected(numbers: &[u64], length: usize) -> [u64; MEMORY] {
+    let mut memory = [MARK; MEMORY];
     let fitting = numbers.len().min(length);
     memory[1..1 + fitting].copy_from_slice(&numbers[..fitting]);
     memory

@@ -4,7 +4,7 @@ use gvrs_tests::build::build;
 use gvrs_tests::page::{Body, Element, Page, Tile, FLOAT, INTEGER, INTEGER_CODED, SHORT};
 use gvrs_tests::prng::Prng;
 use gvrs_tests::random_page::text_of;
-use gvrs_tests::second::cells::{Cell, Spot};
+use gvrs_tests::second::cells::{Cell, Location, Spot};
 
 use super::ask::Asked;
 use super::described::fill;
@@ -59,7 +59,8 @@ fn fill_is(run: &mut Run, page: &Page, element: u64, bits: u32, thing: &str, ran
     let type_code = page.elements[element as usize].type_code;
     for (row, column) in [(0, 0), (1, 1)] {
         let spot = Spot { row, column, element };
-        let expected = Cell::Fill { type_code, bits };
+        let location = Location { tile: 0, inside: 2 * row + column };
+        let expected = Cell::Fill { type_code, bits, location };
         if run.cell_is_by_all(SORT, &asked, spot, expected, random) {
             run.reads.reached(thing);
         }
@@ -132,7 +133,8 @@ fn stored_is(run: &mut Run, page: &Page, bits: u32, thing: &str, random: &mut Pr
         for number in 0..4 {
             let spot = Spot { row: number / 2, column: 2 + number % 2, element: element as u64 };
             let place = contents[element].at as u64 + number * described.cell_size() as u64;
-            let expected = Cell::Stored { type_code: described.type_code, bits, place };
+            let (type_code, location) = (described.type_code, Location { tile: 1, inside: number });
+            let expected = Cell::Stored { type_code, bits, place, location };
             if run.cell_is_by_all(SORT, &asked, spot, expected, random) {
                 run.reads.reached(thing);
             }
