@@ -4,7 +4,7 @@
 #include "cli.h"
 
 /* Numbers of memory that let every tile be unpacked as seldom as can be, numbers of an entry, and room for the cells of a strip. */
-enum { MEMORY = 2 * TILE_CELLS, ENTRY = 3, ROOM = 1048576 };
+enum { MEMORY = 2 * TILE_CELLS, ENTRY = 5, ROOM = 1048576 };
 static uint32_t memory[MEMORY];
 
 /* A page with its compressor index, and cells of a strip of its rows, element by element. */
@@ -93,7 +93,7 @@ static void print_entry(const struct shape *is, const uint32_t *entry, uint64_t 
         printf(" ");
         print_kind(side->kinds[at], element[0], side->bits[at]);
     }
-    printf("\n");
+    printf(", tile %" PRIu32 ", number %" PRIu32 "\n", entry[3], entry[4]);
 }
 
 /* Entries go by row: a strip begins where the next entry is. */

@@ -41,10 +41,11 @@ static const struct command COMMANDS[] = {
     {"check", "FILE", 1, 0, run_check, "Says that the file is accepted, or which refusal it gets.\n"},
     {"info", "FILE", 1, 0, run_info,
      "Shows what the page is: the grid's sides, its tiles and how many are stored, metadata records, and\n"
-     "the number, name, type and fill of each element.\n"},
+     "the number, name, type, fill and unit of each element.\n"},
     {"cell", "FILE ROW COLUMN ELEMENT", 4, COMPRESSOR, run_cell,
      "Shows one cell: `stored 12 at 354`, with the place of its first byte in the file; `unpacked 12 from\n"
-     "354`, with that of the compressed content; or `fill(7)` where its tile is not stored.\n"},
+     "354`, with that of the compressed content; or `fill(7)` where its tile is not stored. Behind it stand\n"
+     "its tile and its number inside the tile, by rows: `tile 2, number 1`.\n"},
     {"tile", "FILE INDEX ELEMENT", 3, COMPRESSOR, run_tile,
      "Shows an element's cells in one tile, by rows. A fill is `fill(7)`. Where the tile reaches over the\n"
      "grid's edge, `outside(13)` is what it holds there, and `outside` where it is not stored.\n"},
@@ -58,8 +59,9 @@ static const struct command COMMANDS[] = {
      "Exit status: 0 certain, 3 doubtful, 4 unread, 1 refused, 2 failed.\n"},
     {"compare", "FIRST SECOND", 2, COMPRESSOR | SECOND | MOST, run_compare,
      "Compares two pages with equal grid, tile sides and element types; others are refused (12). Shows each cell\n"
-     "that differs, stored against fill or in bits: row, column and element, and what it is in FIRST and in\n"
-     "SECOND, `0 2 score 5 fill(5)`; by row, then column, then element. Then always how many differ.\n"
+     "that differs, stored against fill or in bits: row, column and element, what it is in FIRST and in SECOND,\n"
+     "and its tile and number inside it, `0 2 score 5 fill(5), tile 1, number 0`; by row, then column, then\n"
+     "element. Then always how many differ.\n"
      "Exit status: 0 none differs, 5 some do, 1 refused, 2 failed.\n"},
     {"store", "FILE INDEX CELLS", 3, TIME | WAIT, run_store,
      "Stores a tile: CELLS is a file with its bytes, all elements in order, little-endian, by rows. The page\n"

@@ -74,11 +74,31 @@ int run_check(const struct request *request) {
     return DONE;
 }
 
+/* A text of a page, in quotation marks. Control characters, also those of two bytes, a quotation mark and a backslash are printed as
+   the hexadecimal digits of their bytes, so that a text can end no line and give the terminal no order. */
+static void print_text(const uint8_t *text, uint64_t n) {
+    putchar('"');
+    for (uint64_t i = 0; i < n; i++) {
+        int two_bytes = text[i] == 0xc2 && i + 1 < n && text[i + 1] < 0xa0;
+        if (two_bytes)
+            printf("\\x%02x", text[i++]);
+        if (two_bytes || text[i] < 0x20 || text[i] == 0x7f || text[i] == '"' || text[i] == '\\')
+            printf("\\x%02x", text[i]);
+        else
+            putchar(text[i]);
+    }
+    putchar('"');
+}
+
 static void print_element(uint64_t e) {
-    uint64_t element[4];
-    gvrs_element(page.bytes, page.n, e, element, 4);
+    uint64_t element[6];
+    gvrs_element(page.bytes, page.n, e, element, 6);
     printf("element %" PRIu64 ": %.*s, %s, ", e, (int)element[3], (const char *)page.bytes + element[2], TYPES[element[0]]);
     print_marked("fill", element[0], (uint32_t)element[1]);
+    if (element[5] > 0) {
+        printf(", unit ");
+        print_text(page.bytes + element[4], element[5]);
+    }
     printf("\n");
 }
 
@@ -104,13 +124,13 @@ int run_info(const struct request *request) {
 
 int run_cell(const struct request *request) {
     static const char *const NAMES[] = {"ROW", "COLUMN"};
-    uint64_t spot[2], element, out[3];
+    uint64_t spot[2], element, out[5];
     if (numbers_given(request, 1, NAMES, 2, spot) != DONE || read_page(request->words[0]) != DONE)
         return FAILED;
     int status = element_given(request->words[3], &element);
     if (status != DONE)
         return status;
-    uint32_t kind = gvrs_cell_with(page.bytes, page.n, spot[0], spot[1], element, GVRS_BY_DIRECTORY, request->compressor, out, 3);
+    uint32_t kind = gvrs_cell_with(page.bytes, page.n, spot[0], spot[1], element, GVRS_BY_DIRECTORY, request->compressor, out, 5);
     if (kind < GVRS_STORED)
         return refused_cells(request, kind, out[2]);
     printf(kind == GVRS_STORED ? "stored " : kind == GVRS_UNPACKED ? "unpacked " : "");
@@ -119,7 +139,7 @@ int run_cell(const struct request *request) {
         printf(" (bits %08" PRIx32 ")", (uint32_t)out[1]);
     if (kind != GVRS_FILL)
         printf(" %s %" PRIu64, kind == GVRS_STORED ? "at" : "from", out[2]);
-    printf("\n");
+    printf(", tile %" PRIu64 ", number %" PRIu64 "\n", out[3], out[4]);
     return DONE;
 }
 

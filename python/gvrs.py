@@ -3,7 +3,7 @@
     import gvrs
     page = gvrs.Page("page.gvrs")
     page.shape.rows, page.shape.columns      # 3, 3
-    page.elements                            # (Element(name='z', type='Short', fill=fill(7)),)
+    page.elements                            # (Element(name='z', type='Short', fill=fill(7), unit=''),)
     page.cell(2, 1, "z").value               # 12
     page.cell(0, 0, "z").value               # fill(7), of type Fill: no number, since nothing is stored there
 
@@ -177,21 +177,26 @@ class Shape(NamedTuple):
 
 
 class Element(NamedTuple):
-    """An element of a page: its name, its type (Integer, integer-coded, Float or Short) and its fill, a Fill."""
+    """An element of a page: its name, its type (Integer, integer-coded, Float or Short), its fill, a Fill, and its unit of measure, which
+    may be empty."""
 
     name: str
     type: str
     fill: Fill
+    unit: str = ""
 
 
 class Cell(NamedTuple):
-    """A cell: its kind (stored, unpacked or fill); its value, a number or a Fill; the value's bits, which tell one NaN from another; and
-    the place of its first byte in the file, of an unpacked one that of its content. Bits and place of a fill are None."""
+    """A cell: its kind (stored, unpacked or fill); its value, a number or a Fill; the value's bits, which tell one NaN from another; the
+    place of its first byte in the file, of an unpacked one that of its content; the index of its tile, and its number inside the tile, by
+    rows. Bits and place of a fill are None."""
 
     kind: str
     value: object
     bits: int
     place: int
+    tile: int
+    inside: int
 
 
 class Deed(NamedTuple):
@@ -209,11 +214,14 @@ class Deed(NamedTuple):
 
 
 class Spot(NamedTuple):
-    """Where a cell is: its row, its column and its element's number, as Page.cell takes them: page.cell(*spot)."""
+    """Where a cell is: its row, its column and its element's number, as Page.cell takes them: page.cell(*spot[:3]); then the index of its
+    tile and its number inside the tile, by rows."""
 
     row: int
     column: int
     element: int
+    tile: int
+    inside: int
 
 
 class Comparison(NamedTuple):
@@ -319,8 +327,9 @@ class Page:
         return Shape(*out[:12], checksums=out[12] == 1)
 
     def _element(self, number):
-        _, [code, fill, name, name_length] = self._ask("gvrs_element", 4, number)
-        return Element(self._file[name : name + name_length].decode(), _TYPES[code], Fill(_value(_TYPES[code], fill)))
+        _, [code, fill, name, name_length, unit, unit_length] = self._ask("gvrs_element", 6, number)
+        name, unit = (self._file[at : at + length].decode() for at, length in ((name, name_length), (unit, unit_length)))
+        return Element(name, _TYPES[code], Fill(_value(_TYPES[code], fill)), unit)
 
     @property
     def elements(self):
@@ -340,11 +349,11 @@ class Page:
         """One cell, a Cell. Raises Refused, 10 where it is not in the grid, 11 where it is compressed and not of the page's compressor
         index, or 14 where its compressed content is malformed."""
         row, column, e = _number64(row, "row"), _number64(column, "column"), self._element_number(element)
-        kind, [code, bits, place] = self._ask("gvrs_cell_with", 3, row, column, e, 0, self._compressor, place=2)
+        kind, [code, bits, place, tile, inside] = self._ask("gvrs_cell_with", 5, row, column, e, 0, self._compressor, place=2)
         value = _value(_TYPES[code], bits)
         if kind == _FILL:
-            return Cell("fill", Fill(value), None, None)
-        return Cell("unpacked" if kind == _UNPACKED else "stored", value, bits, place)
+            return Cell("fill", Fill(value), None, None, tile, inside)
+        return Cell("unpacked" if kind == _UNPACKED else "stored", value, bits, place, tile, inside)
 
     def tile(self, index, element):
         """An element's cells in a tile, as a list of the tile's rows: numbers, or where the tile is not stored Fills; and past the
@@ -423,26 +432,27 @@ def _unlike(first, second):
 
 def compare(first, second, most=None):
     """In which cells two pages differ, a Comparison: stored against fill, or in bits; a packed cell and a stored one of the same bits do
-    not differ. `spots` has the earliest `most` of them, or all. What the cells are, `first.cell(*spot)` and `second.cell(*spot)` say.
+    not differ. `spots` has the earliest `most` of them, or all. What the cells are, `first.cell(*spot[:3])` and `second.cell(*spot[:3])`
+    say.
     Raises Refused, with the page that it is about in `note`: as check does, the first page before the second; 12 where they differ in
     grid, tile sides or element types; 11 or 14 at the first cell that cannot be read in one of them."""
     for page in (first, second):
         if not isinstance(page, Page):
             raise TypeError(f"compare wants two Pages, and not {type(page).__name__}")
     most = None if most is None else _number64(most, "most")
-    memory = (_U32 * (2 * _TILE_CELLS))()
+    memory, width = (_U32 * (2 * _TILE_CELLS))(), len(Spot._fields)
 
     def ask(count):
-        list_ = (_U32 * (3 * count))()
+        list_ = (_U32 * (width * count))()
         pages = [argument for page in (first, second) for argument in (page._file, len(page._file), page._compressor)]
-        number, [out, whose] = _ask("gvrs_compare", 2, *pages, memory, 2 * _TILE_CELLS, list_, 3 * count)
+        number, [out, whose] = _ask("gvrs_compare", 2, *pages, memory, 2 * _TILE_CELLS, list_, width * count)
         if number != _DONE:
             raise Refused(number, out, ("", "the first page", "the second page")[whose] or _unlike(first, second))
         return out, list_
 
     number, _ = ask(0)
     _, list_ = ask(number if most is None else min(number, most))
-    return Comparison(number, [Spot(*list_[at : at + 3]) for at in range(0, len(list_), 3)])
+    return Comparison(number, [Spot(*list_[at : at + width]) for at in range(0, len(list_), width)])
 
 
 def _packed(type_, value):
@@ -478,21 +488,23 @@ def _block(type_, fill):
 
 
 def _entry(element):
-    """G Table 8, with an empty label, description and unit."""
+    """G Table 8, with an empty label and description."""
     try:
-        name, type_, fill = element
-        name = name.encode()
+        name, type_, fill, *unit = element
+        [unit] = unit or [""]
+        name, unit = name.encode(), unit.encode()
     except (TypeError, ValueError, AttributeError):
-        raise TypeError(f"an element is (name, type, fill), and not {element!r}") from None
+        raise TypeError(f"an element is (name, type, fill) or (name, type, fill, unit), and not {element!r}") from None
     block = _block(type_, fill.value if isinstance(fill, Fill) else fill)
     head = struct.pack("<B7xH", _TYPES.index(type_), _number(len(name), 65535, "the length of a name")) + name
-    return _padded(_padded(head + block, 4) + bytes(6), 4)
+    texts = struct.pack("<4xH", _number(len(unit), 65535, "the length of a unit")) + unit
+    return _padded(_padded(head + block, 4) + texts, 4)
 
 
 def front(rows, columns, tile_rows, tile_columns, elements, checksums=True, uuid=None):
-    """The identification block and the header of a new page, for lay_down. `elements` is a list of (name, type, fill), as Page.elements
-    has them; an integer-coded element has the scale 1 and the offset 0. `uuid` is 16 bytes, a new one unless given. No labels, units,
-    coordinates or metadata. Nothing is judged here: lay_down refuses a front that breaks a rule."""
+    """The identification block and the header of a new page, for lay_down. `elements` is a list of (name, type, fill), or of (name, type,
+    fill, unit) as Page.elements has them; an integer-coded element has the scale 1 and the offset 0. `uuid` is 16 bytes, a new one unless
+    given. No labels, coordinates or metadata. Nothing is judged here: lay_down refuses a front that breaks a rule."""
     names = ("rows", "columns", "tile_rows", "tile_columns")
     sides = [_number(side, 2**31 - 1, name) for side, name in zip((rows, columns, tile_rows, tile_columns), names)]
     entries = [_entry(element) for element in elements]
@@ -595,7 +607,7 @@ def pack(front, tiles, unread=None):
         if not isinstance(cells, dict) or set(cells) != set(names):
             given = ", ".join(map(str, cells)) if isinstance(cells, dict) else type(cells).__name__
             raise TypeError(f"tile {index}: wanted is a dict with the cells of {', '.join(names)}, and not {given}")
-        parts = [_Part(f"tile {index}, element {name!r}", type_, shape[2:4]) for name, type_, _ in elements]
+        parts = [_Part(f"tile {index}, element {name!r}", type_, shape[2:4]) for name, type_, *_ in elements]
         contents, masks = zip(*(part.cells(cells[name]) for part, name in zip(parts, names)))
         if not all(map(all, masks)):
             packed[index] = b"".join(

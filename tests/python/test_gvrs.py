@@ -61,15 +61,18 @@ class StoredPages(Tests):
         self.assertIs(page("packed").shape.checksums, False)
 
     def test_elements(self):
-        self.assertEqual(page("page").elements, (("z", "Short", Fill(7)),))
+        self.assertEqual(page("page").elements, (("z", "Short", Fill(7), ""),))
         fills = (Fill(-1), Fill(0), Fill(-1.5), Fill(-32768))
-        self.assertEqual(page("four-types").elements, tuple(zip("abcd", TYPES, fills)))
+        self.assertEqual(page("four-types").elements, tuple(zip("abcd", TYPES, fills, [""] * 4)))
+        self.assertEqual([element.unit for element in page("units").elements], ["m", "", "\xb5m \"\\\n\x1b[31m\x7f\x85\xa0"])
 
     def test_cell(self):
-        self.assertEqual(page("page").cell(2, 1, "z"), Cell("stored", 12, 12, 354))
-        self.assertEqual(page("page").cell(0, 0, 0), Cell("fill", Fill(7), None, None))
-        self.assertEqual(page("four-types").cell(1, 1, "d"), Cell("stored", -32768, 0x8000, 586))
-        self.assertEqual(page("packed", 3).cell(1, 3, "score"), Cell("unpacked", 904, 904, 488))
+        self.assertEqual(page("page").cell(2, 1, "z"), Cell("stored", 12, 12, 354, 2, 1))
+        self.assertEqual(page("page").cell(0, 0, 0), Cell("fill", Fill(7), None, None, 0, 0))
+        self.assertEqual(page("page").cell(2, 2, 0), Cell("fill", Fill(7), None, None, 3, 0))
+        self.assertEqual(page("four-types").cell(1, 1, "d"), Cell("stored", -32768, 0x8000, 586, 0, 3))
+        self.assertEqual(page("packed", 3).cell(1, 3, "score"), Cell("unpacked", 904, 904, 488, 0, 7))
+        self.assertEqual(page("packed", 3).cell(1, 14, "score"), Cell("fill", Fill(950), None, None, 3, 6))
 
     def test_float(self):
         cell = page("four-types").cell(0, 1, "c")
@@ -209,7 +212,7 @@ class Comparisons(Tests):
     def test_sample_sums(self):
         first = self.laid({0: [1, 2, 3, 4], 1: [5, 9, 6, 9]})
         second = self.laid({0: [1, 0, 3, 0]})
-        spots = [(0, 1, 0), (0, 2, 0), (1, 1, 0), (1, 2, 0)]
+        spots = [(0, 1, 0, 0, 1), (0, 2, 0, 1, 0), (1, 1, 0, 0, 3), (1, 2, 0, 1, 2)]
         for pages in ((first, second), (second, first)):
             self.assertEqual(gvrs.compare(*pages), Comparison(4, spots))
             self.assertEqual(gvrs.compare(*pages, most=1), (4, spots[:1]))
@@ -218,16 +221,19 @@ class Comparisons(Tests):
         self.assertEqual(gvrs.compare(first, first), (0, []))
         spot = gvrs.compare(first, second).spots[1]
         self.assertIsInstance(spot, Spot)
-        self.assertEqual((first.cell(*spot).value, second.cell(*spot).value), (5, Fill(5)))
+        cells = [page.cell(*spot[:3]) for page in (first, second)]
+        self.assertEqual([cell.value for cell in cells], [5, Fill(5)])
+        for cell in cells:
+            self.assertEqual((cell.tile, cell.inside), (spot.tile, spot.inside))
 
     def test_other_fills_and_names(self):
         first, second = self.laid({0: [1, 2, 3, 4]}), self.laid({0: [1, 2, 3, 4]}, [("other", "Short", 6)])
-        self.assertEqual(gvrs.compare(first, second), (2, [(0, 2, 0), (1, 2, 0)]))
+        self.assertEqual(gvrs.compare(first, second), (2, [(0, 2, 0, 1, 0), (1, 2, 0, 1, 2)]))
 
     def test_bits_are_compared(self):
         cells = [[math.nan, 0.0, 1.0, 2.0], [math.nan, -0.0, 1.0, 2.0]]
         pages = [self.laid({0: of_one}, [("z", "Float", 0.0)]) for of_one in cells]
-        self.assertEqual(gvrs.compare(*pages), (1, [(0, 1, 0)]))
+        self.assertEqual(gvrs.compare(*pages), (1, [(0, 1, 0, 0, 1)]))
 
     def test_unreadable_cells(self):
         packed = page("packed", 3)
@@ -370,7 +376,7 @@ class LayDown(Tests):
                 made = self.laid((2, 6, 2, 3), [(name, type_, values[1])], {1: {name: values}}, checksums=checksums)
                 made.check()
                 fill = Fill(values[1])
-                self.assertEqual(made.elements, ((name, type_, fill),))
+                self.assertEqual(made.elements, ((name, type_, fill, ""),))
                 self.assertIs(made.shape.checksums, checksums)
                 self.assertEqual(made.cells(name, 0, 0, 2, 6), [[fill] * 3 + values[:3], [fill] * 3 + values[3:]])
                 self.assertEqual(made.tile(1, 0), [values[:3], values[3:]])
@@ -387,11 +393,22 @@ class LayDown(Tests):
                 self.assertEqual(cell.value, 10 * index + e if index in tiles else Fill(fill))
         self.assertEqual(made.tile(5, "dddd"), [[53, 1], [Outside(2), Outside(3)]])
 
+    def test_units(self):
+        for units in itertools.product(("", "m", "mm", "\xb5m", "m\0s", "m" * 65535), repeat=2):
+            with self.subTest(lengths=[len(unit) for unit in units]):
+                elements = [("first", "Short", Fill(7), units[0]), ("second", "Float", Fill(0.5), units[1])]
+                self.assertEqual(self.laid((1, 1, 1, 1), elements, {}).elements, tuple(elements))
+        self.assertEqual(self.laid((1, 1, 1, 1), [("z", "Short", 7)], {}).elements[0].unit, "")
+        self.assertRaises(ValueError, gvrs.front, 1, 1, 1, 1, [("z", "Short", 7, "m" * 65536)])
+        self.assertRaises(TypeError, gvrs.front, 1, 1, 1, 1, [("z", "Short", 7, b"m")])
+        self.assertRaises(TypeError, gvrs.front, 1, 1, 1, 1, [("z", "Short", 7, "m", "m")])
+
     def test_page_laid_down_again(self):
-        old = page("four-types")
-        again = Page.of_bytes(gvrs.lay_down(gvrs.front(*old.shape[:4], old.elements), {}, 1))
-        self.assertEqual(again.elements, old.elements)
-        self.assertEqual(again.shape.stored_tiles, 0)
+        for name in ("four-types", "units"):
+            old = page(name)
+            again = Page.of_bytes(gvrs.lay_down(gvrs.front(*old.shape[:4], old.elements), {}, 1))
+            self.assertEqual(again.elements, old.elements)
+            self.assertEqual(again.shape.stored_tiles, 0)
         front = page("page").file[:336]
         kept = gvrs.lay_down(front, gvrs.pack(front, {2: {"z": [11, 12, 13, 14]}}), 1)
         self.assertEqual(kept, page("page").file)
@@ -789,7 +806,8 @@ class Arrays(Packing):
                 index = row // tile_rows * across + column // tile_columns
                 cell = tiles[index][element.name][row % tile_rows, column % tile_columns]
                 wanted = element.fill if index in whole else 5 if cell is numpy.ma.masked else cell
-                self.assertEqual(made.cell(row, column, element.name).value, wanted)
+                read = made.cell(row, column, element.name)
+                self.assertEqual((read.value, read.tile, read.inside), (wanted, index, row % tile_rows * tile_columns + column % tile_columns))
 
 
 class Library(Tests):
