@@ -35,7 +35,7 @@ use Rattle.unpack.specs.declared.Unpacked.the-variants as variant
 use Rattle.unpack.specs.Unpack.{cellAt}
 use Rattle.cells.specs.Asked.{inGrid}
 use Rattle.cells.specs.Demand3.{bytesOfCell}
-use Rattle.cells.specs.TileCells.{packed, unpackable, unpackedIn, packedCell, cellIn, offsetIn, placeIn, storedAt, fillOf}
+use Rattle.cells.specs.TileCells.{packed, unpackable, unpackedIn, packedCell, cellFrom, cellIn, offsetIn, placeIn, fillOf}
 use Rattle.cells.specs.Meaning.{meaning}
 use Rattle.cells.specs.Routes.{cellBy, meant}
 use Rattle.cells.proofs.CellLaws.{grid-means}
@@ -82,7 +82,7 @@ unpacked-not-stored : {C : Type 0} {w v : Value} {a p : ℕ} {t u : Location} �
 unpacked-not-stored q = let z : _≡_ {A = ℕ} 0 1 = cc in absurd (omega arith)
 
 packed-not-stored : {C : Type 0} (s : List ℕ) (ci x row column e : ℕ) (v : Value) (p : ℕ) (t : Location) → packedCell s ci x row column e ≡ Stored v p t → C
-unfolding packedCell
+unfolding packedCell unpackable unpackedIn
 packed-not-stored {C = C} s ci x row column e v p t q = go (unpackable s ci x e) refl (cellAt (unpackedIn s x e) (cellInside s row column)) refl
   where
     go : (b : Bool) → unpackable s ci x e ≡ b → (r : out.Unpacked) → cellAt (unpackedIn s x e) (cellInside s row column) ≡ r → C
@@ -91,7 +91,7 @@ packed-not-stored {C = C} s ci x row column e v p t q = go (unpackable s ci x e)
     go true i variant.Malformed j = refused-not-stored (rw (i, j) at q)
 
 stored-in : (s : List ℕ) (ci x row column e place : ℕ) (v : Value) (t : Location) → cellIn s ci x row column e ≡ Stored v place t → (packed s x e ≡ false) × (place ≡ placeIn s x row column e)
-unfolding cellIn storedAt
+unfolding cellIn cellFrom packed packedCell placeIn
 stored-in s ci x row column e place v t q = go (packed s x e) refl
   where
     go : (b : Bool) → packed s x e ≡ b → (packed s x e ≡ false) × (place ≡ placeIn s x row column e)

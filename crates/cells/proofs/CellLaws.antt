@@ -42,7 +42,7 @@ use Rattle.unpack.specs.declared.Unpacked.the-variants as out
 use Rattle.unpack.specs.Unpack.{unpacked, cellAt}
 use Rattle.cells.specs.Asked.{inGrid, inTiles}
 use Rattle.cells.specs.inner.Lookups.{sidesLawful, reachedBy, cellReached, contentReached, roomReached}
-use Rattle.cells.specs.TileCells.{offsetIn, packed, placeIn, storedAt, fillOf, unpackable, unpackedIn, packedCell, cellIn, contentIn, cellOf, contentOf, roomOf, locationOf}
+use Rattle.cells.specs.TileCells.{locationOf, offsetIn, packed, placeIn, storedAt, fillOf, unpackable, unpackedIn, packedCell, cellFrom, cellIn, contentIn, cellOf, contentOf, roomOf}
 
 -- what is asked for
 
@@ -238,29 +238,29 @@ cell-taken s c x row column e k i h w b r p q t u m n g = g ∙ rw (n, t, u, m, 
 
 module _ (s : List ℕ) (ci x row column e : ℕ) (b : Bool) (p : b ≡ unpackable s ci x e) where
   pub still-packed : b ≡ false → cell.Refused (refusal.Compressed x) ≡ packedCell s ci x row column e
-  unfolding packedCell
+  unfolding packedCell unpackable
   still-packed f = rw (← p, f)
 
   module _ (f : b ≡ true) (r : Unpacked) (q : r ≡ cellAt (unpackedIn s x e) (cellInside s row column)) where
     pub cell-malformed : r ≡ out.Malformed → cell.Refused (refusal.Malformed x) ≡ packedCell s ci x row column e
-    unfolding packedCell
+    unfolding packedCell unpackable unpackedIn
     cell-malformed g = rw (← p, f, ← q, g)
 
     pub cell-unpacked :
         (v k at : ℕ) (y : Value) (w : Location) → r ≡ out.Cell v → k ≡ element s e .kind → y ≡ valueOf k v → at ≡ sectionAt s x e → w ≡ locationOf s row column →
         cell.Unpacked y (at + 4) w ≡ packedCell s ci x row column e
-    unfolding packedCell elementContentAt
+    unfolding packedCell unpackable unpackedIn elementContentAt
     cell-unpacked v k at y w g t m n z = rw (← p, f, ← q, g, m, t, n, z)
 
 -- a cell and an element's content in a tile record
 
 module _ (s : List ℕ) (x e : ℕ) (b : Bool) (p : b ≡ packed s x e) where
   pub cell-packed : (ci row column : ℕ) (r : Cell) → b ≡ true → r ≡ packedCell s ci x row column e → r ≡ cellIn s ci x row column e
-  unfolding cellIn
+  unfolding cellIn cellFrom packed packedCell
   cell-packed ci row column r f q = rw (← p, f) q
 
   pub cell-whole : (ci row column at : ℕ) (w : Location) (r : Cell) → b ≡ false → w ≡ locationOf s row column → at ≡ placeIn s x row column e → r ≡ storedAt s w e at → r ≡ cellIn s ci x row column e
-  unfolding cellIn
+  unfolding cellIn cellFrom packed storedAt placeIn
   cell-whole ci row column at w r f z q t = rw (← p, f) (t ∙ rw (z, q))
 
   pub content-packed : b ≡ true → content.Refused (refusal.Compressed x) ≡ contentIn s x e

@@ -46,7 +46,7 @@ use Rattle.cells.specs.Asked.{inGrid, inTiles}
 use Rattle.cells.specs.Routes.{meant, tileBy, cellBy}
 use Rattle.cells.specs.Demand3.{bytesOfCell, InRecord, Demand3, ContentInside}
 use Rattle.cells.specs.Meaning.{meaning, contentMeaning, heldMeaning}
-use Rattle.cells.specs.TileCells.{contentIn, packed, fillOf, unpackable, unpackedIn, unpackedAt, packedCell, cellIn, storedAt, offsetIn, placeIn, heldIn, heldBits, heldCount, locationOf}
+use Rattle.cells.specs.TileCells.{locationOf, contentIn, packed, fillOf, unpackable, unpackedIn, unpackedAt, cellFrom, cellIn, storedAt, offsetIn, placeIn, heldIn, heldBits, heldCount}
 use Rattle.cells.specs.Reads.{readByDirectory, readByWalk, readByRecords}
 use Rattle.cells.specs.Demand2.{Demand2Bits, RightBits, ShortBits}
 use Rattle.cells.specs.Compressor.{OldReads, ContentStays, OnlyPacked, UnpackedWhere, EachCell, HeldEach, HeldCounted}
@@ -96,7 +96,7 @@ content-inside s a = sound-inside s (accepted-sound s a)
 located :
     (s : List ℕ) (ci row column e : ℕ) → cellVerdict (meaning s ci row column e) ≡ Accepted →
     (answerTile (meaning s ci row column e) ≡ cellTile s row column) × (answerInside (meaning s ci row column e) ≡ cellInside s row column)
-unfolding meaning cellBy fillOf cellIn packedCell storedAt locationOf
+unfolding meaning cellBy fillOf cellIn cellFrom packed unpackable unpackedIn locationOf
 located s ci row column e h = go (inGrid s row column e) refl (meant s (cellTile s row column)) refl
   where
     Said : Type 0
@@ -148,7 +148,7 @@ module _ (s : List ℕ) (o : Sound s) (ci row column e : ℕ) where
   in-record :
       (cellKind (meaning s ci row column e) ≡ 32) ⊎ (cellKind (meaning s ci row column e) ≡ 34) →
       InRecord s (answerTile (meaning s ci row column e)) (cellPlace (meaning s ci row column e))
-  unfolding meaning cellBy fillOf cellIn packedCell storedAt locationOf placeIn
+  unfolding meaning cellBy fillOf cellIn cellFrom packed unpackable unpackedIn locationOf placeIn
   in-record h = go (inGrid s row column e) refl (meant s (cellTile s row column)) refl
     where
       Said : Type 0
@@ -223,7 +223,7 @@ unpacked-bits s x e i v q =
         go false f l = bits-kept kind n (eqb-false _ _ f) l
 
 pub demand-2-bits : Demand2Bits
-unfolding meaning cellBy fillOf cellIn packedCell storedAt element entryAt fillBits
+unfolding meaning cellBy fillOf cellIn cellFrom packed unpackable unpackedIn placeIn element entryAt fillBits
 demand-2-bits s b ci row column e = go (inGrid s row column e) refl (meant s (cellTile s row column)) refl
   where
     go : (c : Bool) → inGrid s row column e ≡ c → (f : Found) → meant s (cellTile s row column) ≡ f → RightBits s ci row column e
@@ -266,7 +266,7 @@ demand-2-bits s b ci row column e = go (inGrid s row column e) refl (meant s (ce
             }
 
 pub short-bits : ShortBits
-unfolding meaning cellBy fillOf cellIn packedCell storedAt
+unfolding meaning cellBy fillOf cellIn cellFrom packed unpackable unpackedIn
 short-bits s ci row column e q = go (inGrid s row column e) refl (meant s (cellTile s row column)) refl
   where
     go : (c : Bool) → inGrid s row column e ≡ c → (f : Found) → meant s (cellTile s row column) ≡ f → cellBits (meaning s ci row column e) < 65536
@@ -285,7 +285,7 @@ short-bits s ci row column e q = go (inGrid s row column e) refl (meant s (cellT
 -- what the compressor index changes
 
 pub old-reads : OldReads
-unfolding cellIn packedCell
+unfolding cellIn cellFrom packed unpackable storedAt placeIn
 old-reads s ci x row column e h = rw (← above-bytes s ci x e h)
 
 pub content-stays : ContentStays
@@ -293,7 +293,7 @@ unfolding contentIn
 content-stays s x e p = rw p
 
 pub unpacked-where : UnpackedWhere
-unfolding cellIn packedCell storedAt
+unfolding cellIn cellFrom packed unpackable unpackedIn
 unpacked-where s ci x row column e = go (packed s x e) refl (unpackable s ci x e) refl (cellAt (unpackedIn s x e) (cellInside s row column)) refl
   where
     go :
@@ -332,7 +332,7 @@ content-long s x e w = whole-long _ (tileRows s) (tileColumns s) _ (ap isWhole (
 
 pub sound-each :
     (s : List ℕ) → Sound s → (ci row column e : ℕ) → inGrid s row column e ≡ true → EachCell s ci row column e (heldMeaning s ci (cellTile s row column) e)
-unfolding meaning cellBy heldMeaning tileBy fillOf cellIn packedCell storedAt heldIn placeIn offsetIn cellInside
+unfolding meaning cellBy heldMeaning tileBy fillOf cellIn cellFrom packed unpackable unpackedIn heldIn placeIn offsetIn cellInside
 sound-each s o ci row column e g = go (meant s (cellTile s row column)) refl
   where
     d : Sides s

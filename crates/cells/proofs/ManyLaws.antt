@@ -38,7 +38,7 @@ use Rattle.unpack.proofs.AnswerLaws.{whole-cell}
 use Rattle.page_check.specs.Accepted.{Sound}
 use Rattle.page_check.proofs.AcceptedLaws.{accepted-sound}
 use Rattle.cells.specs.Asked.{inGrid}
-use Rattle.cells.specs.TileCells.{fillOf, packed, unpackable, unpackedIn, unpackedAt, offsetIn, placeIn, storedAt, packedCell, cellIn, cellOf, heldRoom, roomOf, unpackedBits, locationOf}
+use Rattle.cells.specs.TileCells.{locationOf, fillOf, packed, unpackable, unpackedIn, unpackedAt, offsetIn, storedAt, cellFrom, cellIn, cellOf, heldRoom, roomOf, unpackedBits}
 use Rattle.cells.specs.Routes.{meant, cellBy, tileBy, referredTo}
 use Rattle.cells.specs.Meaning.{meaning}
 use Rattle.cells.specs.inner.Lookups.{guarded, lookedUp}
@@ -117,7 +117,7 @@ module _ (s : List ℕ) (o : Sound s) (ci row column e : ℕ) (m : List ℕ) (g 
   Told x y = toldBy s ci (put m 0 (unpackedBits s e y)) row column e y ≡ cellIn s ci x row column e
 
   by-record : (x : ℕ) → meant s (cellTile s row column) ≡ At x → Told x (heldRoom s ci x e (length m))
-  unfolding cellIn packedCell toldBy numberedCell storedFrom placeIn storedAt offsetIn locationOf
+  unfolding cellIn cellFrom packed unpackable unpackedIn toldBy numberedCell storedFrom storedAt offsetIn locationOf
   by-record x j = go (packed s x e) refl (unpackable s ci x e) refl (isWhole (unpackedIn s x e)) refl
     where
       at : ℕ

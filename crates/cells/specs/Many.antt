@@ -9,7 +9,7 @@ use lib.Dec.{eqb}
 use lib.ListN.{length, getD}
 use Rattle.wire.specs.Pick.{pick}
 use Rattle.wire.specs.Tests.{_≤?_, passes}
-use Rattle.wire.specs.Bytes.{put, numberAt}
+use Rattle.wire.specs.Bytes.{put}
 use Rattle.answer.specs.declared.Refusal.the-variants.{Directory}
 use Rattle.answer.specs.declared.Verdict.the-variants.{Accepted}
 use Rattle.answer.specs.declared.Cell.{Cell}
@@ -19,13 +19,13 @@ use Rattle.answer.specs.declared.Held.the-variants as held
 use Rattle.answer.specs.Values.{valueOf}
 use Rattle.answer.specs.Answers.{heldKind}
 use Rattle.header.specs.Fields.{elementCount}
-use Rattle.header.specs.Element.{cellSize, element}
+use Rattle.header.specs.Element.{element}
 use Rattle.geometry.specs.Tiles.{tileCount, cellTile, cellInside}
 use Rattle.geometry.specs.Sizes.{cellOffset}
 use Rattle.bodies.specs.TileDirectory.{tileDirectoryAt}
 use Rattle.page_check.specs.Stages.{check}
 use Rattle.cells.specs.Asked.{inGrid}
-use Rattle.cells.specs.TileCells.{unpackedBits}
+use Rattle.cells.specs.TileCells.{storedFor, unpackedBits}
 use Rattle.cells.specs.Routes.{referredTo}
 use Rattle.cells.specs.Meaning.{meaning}
 use Rattle.cells.specs.inner.Lookups.{guarded, lookedUp, lookedUpRoom}
@@ -39,7 +39,7 @@ heldByDirectory s ci tile e room = lookedUpRoom s ci (referredTo s (tileDirector
 unfoldable pub storedFrom : List ℕ → ℕ → ℕ → ℕ → ℕ → Cell
 storedFrom s kind at tile inside =
     pick (passes ((at + 1 ≤? length s) ∷ []))
-    (cell.Stored (valueOf kind (numberAt (cellSize kind) s (at + cellOffset kind inside))) (at + cellOffset kind inside) (record { tile = tile; inside = inside }))
+    (storedFor kind (record { tile = tile; inside = inside }) s (at + cellOffset kind inside) (at + cellOffset kind inside))
     (cell.Refused Directory)
 
 -- the cell with a number inside its tile, of an element of a type code and a fill, by what is held, without a look at the grid: stored, from

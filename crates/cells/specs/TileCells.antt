@@ -35,29 +35,29 @@ locationOf s row column = record { tile = cellTile s row column; inside = cellIn
 unfoldable pub fillOf : List ℕ → Location → ℕ → Cell
 fillOf s w e = cell.Fill (valueOf (element s e .kind) (element s e .fill)) w
 
--- element e of the tile record at x is compressed: its L is below U
-unfoldable pub packed : List ℕ → ℕ → ℕ → Bool
-packed s x e = passes ((sectionLength s x e + 1 ≤? elementBytes s e) ∷ [])
+-- The content of element e by its bytes, l bytes of b from `from` on: b is a file, or what a map from tiles to bytes gives for the element
+-- (`corrected`).
 
--- else a cell's place is the start of that element's content plus its number inside the tile times the cell size
+-- it is compressed: its L is below U
+abbrev pub isPacked : List ℕ → ℕ → ℕ → Bool
+isPacked s e l = passes ((l + 1 ≤? elementBytes s e) ∷ [])
+
+-- else a cell starts in it at its number inside the tile times the cell size
 unfoldable pub offsetIn : List ℕ → ℕ → ℕ → ℕ → ℕ
 offsetIn s row column e = cellOffset (element s e .kind) (cellInside s row column)
 
-unfoldable pub placeIn : List ℕ → ℕ → ℕ → ℕ → ℕ → ℕ
-placeIn s x row column e = elementContentAt s x e + offsetIn s row column e
-
--- the value that the bytes at a place give, 2 for Short, else 4
-unfoldable pub storedAt : List ℕ → Location → ℕ → ℕ → Cell
-storedAt s w e place = cell.Stored (valueOf (element s e .kind) (numberAt (cellSize (element s e .kind)) s place)) place w
+-- the value that the bytes there give, 2 for Short, else 4; in the file they stand at `place`
+abbrev pub storedFor : ℕ → Location → List ℕ → ℕ → ℕ → Cell
+storedFor kind w b from place = cell.Stored (valueOf kind (numberAt (cellSize kind) b from)) place w
 
 -- Req 01: the caller names the compressor index `ci`. A compressed content is unpacked where its first byte, the compressor index
 -- (G 6), is that one, and the element is no Float
-unfoldable pub unpackable : List ℕ → ℕ → ℕ → ℕ → Bool
-unpackable s ci x e = passes ((ci ≤? 255) ∷ (byteAt s (elementContentAt s x e) ≡? ci) ∷ (element s e .kind ≢? floatKind) ∷ [])
+abbrev pub canUnpack : List ℕ → ℕ → ℕ → ℕ → Bool
+canUnpack s ci e first = passes ((ci ≤? 255) ∷ (first ≡? ci) ∷ (element s e .kind ≢? floatKind) ∷ [])
 
--- what its L bytes hold
-unfoldable pub unpackedIn : List ℕ → ℕ → ℕ → Cells
-unpackedIn s x e = unpacked (part s (elementContentAt s x e) (sectionLength s x e)) (tileRows s) (tileColumns s) (eqb (element s e .kind) shortKind)
+-- what all its bytes c hold
+abbrev pub unpackedFor : List ℕ → ℕ → List ℕ → Cells
+unpackedFor s e c = unpacked c (tileRows s) (tileColumns s) (eqb (element s e .kind) shortKind)
 
 -- the cell that comes out, whose place is the start of its element's content; malformed content is 14 at the record's start
 abbrev pub unpackedCell : Location → ℕ → ℕ → ℕ → Unpacked → Cell
@@ -65,16 +65,44 @@ unpackedCell w kind x place (out.Cell bits) = cell.Unpacked (valueOf kind bits) 
 unpackedCell w kind x place out.Malformed = cell.Refused (refusal.Malformed x)
 
 -- any other index, or a Float element, 'is still 11', at the record's start
-unfoldable pub packedCell : List ℕ → ℕ → ℕ → ℕ → ℕ → ℕ → Cell
-packedCell s ci x row column e =
-    pick (unpackable s ci x e)
-    (unpackedCell (locationOf s row column) (element s e .kind) x (elementContentAt s x e) (cellAt (unpackedIn s x e) (cellInside s row column)))
+abbrev pub packedFor : List ℕ → ℕ → List ℕ → ℕ → ℕ → ℕ → ℕ → ℕ → ℕ → ℕ → Cell
+packedFor s ci b from l x place row column e =
+    pick (canUnpack s ci e (byteAt b from))
+    (unpackedCell (locationOf s row column) (element s e .kind) x place (cellAt (unpackedFor s e (part b from l)) (cellInside s row column)))
     (cell.Refused (refusal.Compressed x))
 
--- the cell, as the tile record at x has it: compressed as above, else it is stored, even if its bits are the fill's
+-- what an element's content says of a cell, where it stands at `place` in a tile record that starts at x: compressed as above, else the
+-- cell is stored, even if its bits are the fill's
+unfoldable pub cellFrom : List ℕ → ℕ → List ℕ → ℕ → ℕ → ℕ → ℕ → ℕ → ℕ → ℕ → Cell
+cellFrom s ci b from l x place row column e =
+    pick (isPacked s e l)
+    (packedFor s ci b from l x place row column e)
+    (storedFor (element s e .kind) (locationOf s row column) b (from + offsetIn s row column e) (place + offsetIn s row column e))
+
+-- The same of the tile record at x: the content of element e is the L bytes behind their length.
+
+unfoldable pub packed : List ℕ → ℕ → ℕ → Bool
+packed s x e = isPacked s e (sectionLength s x e)
+
+unfoldable pub placeIn : List ℕ → ℕ → ℕ → ℕ → ℕ → ℕ
+placeIn s x row column e = elementContentAt s x e + offsetIn s row column e
+
+unfoldable pub storedAt : List ℕ → Location → ℕ → ℕ → Cell
+storedAt s w e place = storedFor (element s e .kind) w s place place
+
+unfoldable pub unpackable : List ℕ → ℕ → ℕ → ℕ → Bool
+unpackable s ci x e = canUnpack s ci e (byteAt s (elementContentAt s x e))
+
+unfoldable pub unpackedIn : List ℕ → ℕ → ℕ → Cells
+unpackedIn s x e = unpackedFor s e (part s (elementContentAt s x e) (sectionLength s x e))
+
+unfoldable pub packedCell : List ℕ → ℕ → ℕ → ℕ → ℕ → ℕ → Cell
+packedCell s ci x row column e =
+    packedFor s ci s (elementContentAt s x e) (sectionLength s x e) x (elementContentAt s x e) row column e
+
 unfoldable pub cellIn : List ℕ → ℕ → ℕ → ℕ → ℕ → ℕ → Cell
 cellIn s ci x row column e =
-    pick (packed s x e) (packedCell s ci x row column e) (storedAt s (locationOf s row column) e (placeIn s x row column e))
+    cellFrom s ci s (elementContentAt s x e) (sectionLength s x e) x (elementContentAt s x e) row column e
 
 -- the uncompressed content of element e there: its U bytes
 unfoldable pub contentIn : List ℕ → ℕ → ℕ → Content
@@ -93,7 +121,7 @@ contentOf s e (At x) = contentIn s x e
 
 -- what the compressed content at a place holds: its L bytes, which stand behind L
 abbrev pub unpackedAt : List ℕ → ℕ → ℕ → Cells
-unpackedAt s e place = unpacked (part s place (u32At s (place - 4))) (tileRows s) (tileColumns s) (eqb (element s e .kind) shortKind)
+unpackedAt s e place = unpackedFor s e (part s place (u32At s (place - 4)))
 
 -- Req 01: all cells of element e, as the tile record at x has them, and what is said where the tile has none
 unfoldable pub heldIn : List ℕ → ℕ → ℕ → ℕ → Held

@@ -1,7 +1,8 @@
 -- Req 03: how the cells of a corrected page read, by the map. Assumes nothing.
 use Prim.Native.Nat.{ℕ, zero, suc, _+_, _≤_, _<_}
 use native.Mathlib.Omega.{arith}
-use mathlib.Core.Logic.{⊎-elim}
+use mathlib.Core.Logic.{⊎-elim, by-cases}
+use native.Mathlib.Decide.{decLe}
 use mathlib.Core.Path.{_≡_, refl, sym, _∙_, ap}
 use mathlib.Core.List.{List, [], _∷_, map}
 use mathlib.Core.Bool.{Bool, true, false}
@@ -10,8 +11,8 @@ use lib.Dec.{eqb, leb}
 use Rattle.wire.specs.Pick.{pick}
 use Rattle.wire.specs.Bytes.{byteAt, numberAt, part}
 use Rattle.wire.specs.Lists.{below}
-use Rattle.wire.proofs.TestLaws.{means, yes, no, not-both, below-each}
-use borrow.Author.Tests.{eqb-false, leb-true, leb-false}
+use Rattle.wire.proofs.TestLaws.{means, fails, not-both, below-each}
+use borrow.Author.Tests.{eqb-false}
 use Rattle.wire.proofs.ByteLaws.{part-length, part-whole}
 use Rattle.wire.proofs.ListLaws.{below-at}
 use Rattle.record.specs.declared.Found.{Found}
@@ -20,8 +21,7 @@ use Rattle.record.specs.Chain.{headerEnd, records}
 use Rattle.record.proofs.ChainLaws.{whole-extent}
 use Rattle.record.proofs.FindLaws.{of-type}
 use Rattle.header.specs.Fields.{elementCount}
-use Rattle.header.specs.Fields.{tileRows, tileColumns}
-use Rattle.header.specs.Element.{element, cellSize, entriesRead, shortKind}
+use Rattle.header.specs.Element.{element, cellSize, entriesRead}
 use Rattle.header.proofs.SameLaws.{element-same}
 use Rattle.geometry.specs.Tiles.{cellTile, cellInside}
 use Rattle.geometry.specs.Sizes.{elementBytes, packingOf, elementPacking}
@@ -30,15 +30,13 @@ use Rattle.check_records.specs.TileBody.{notFault, sectionPacking, sectionRight
 use Rattle.bodies.specs.TileRecord.{sectionLength, elementContentAt}
 use Rattle.answer.specs.declared.Refusal.the-variants as refusal
 use Rattle.answer.specs.declared.Cell.the-variants as cell
-use Rattle.answer.specs.Values.{valueOf}
-use Rattle.unpack.specs.Unpack.{cellAt, unpacked}
 use Rattle.check_header.specs.Judged.{SameJudged}
 use Rattle.check_header.proofs.Judged.{judged-sym, header-fit, rows, columns, tile-rows, tile-columns, sameRest}
 use Rattle.page_check.specs.Accepted.{Sound}
 use Rattle.page_check.proofs.GivenLaws.{sound-range, sound-tile}
 use Rattle.cells.specs.Asked.{inGrid}
 use Rattle.cells.specs.Routes.{meant, cellBy}
-use Rattle.cells.specs.TileCells.{locationOf, fillOf, packed, offsetIn, placeIn, storedAt, unpackable, unpackedIn, unpackedCell, packedCell, cellIn, cellOf}
+use Rattle.cells.specs.TileCells.{locationOf, fillOf, isPacked, offsetIn, cellFrom, cellIn, cellOf}
 use Rattle.cells.specs.Meaning.{meaning}
 use Rattle.cells.proofs.CellLaws.{grid-means}
 use Rattle.cells.proofs.ReadLaws.{sound-cells}
@@ -57,7 +55,7 @@ use Rattle.correct.specs.Front.{pageIn}
 use Rattle.correct.specs.Storing.{tileAt}
 use Rattle.page_laws.specs.Tiles.{contentsIn, contentsOf, tilesOf, recordOfTile, Follows}
 use Rattle.corrected.specs.Sequence.{pageOf, afterAll}
-use Rattle.corrected.specs.Cells.{contentIn, canUnpack, cellFrom, ReadsAs, Cells}
+use Rattle.corrected.specs.Cells.{contentIn, ReadsAs, Cells}
 use Rattle.corrected.proofs.SequenceLaws.{page-sound, sequence}
 
 -- a list made by a function, by its places
@@ -119,24 +117,6 @@ content-moved {s} {x} {e} k c f =
     let l : length c ≡ sectionLength s x e = ap length f ∙ k .long in
     record { in-first = k .inside; in-second = omega arith; bytes = sym (k .is) ∙ sym f ∙ sym (part-whole c) ∙ ap (part c 0) l }
 
--- how a cell of a record reads
-
-whole-is : (s : List ℕ) (x e : ℕ) → elementBytes s e ≤ sectionLength s x e → packed s x e ≡ false
-unfolding packed
-whole-is s x e h = sym (no _ (λ p. omega (arith, p .0)))
-
-packed-is : (s : List ℕ) (x e : ℕ) → sectionLength s x e < elementBytes s e → packed s x e ≡ true
-unfolding packed
-packed-is s x e h = sym (yes _ (omega arith, tt))
-
-whole-in : (s : List ℕ) (ci x row column e : ℕ) → elementBytes s e ≤ sectionLength s x e → cellIn s ci x row column e ≡ storedAt s (locationOf s row column) e (placeIn s x row column e)
-unfolding cellIn
-whole-in s ci x row column e h = rw (whole-is s x e h)
-
-packed-in : (s : List ℕ) (ci x row column e : ℕ) → sectionLength s x e < elementBytes s e → cellIn s ci x row column e ≡ packedCell s ci x row column e
-unfolding cellIn
-packed-in s ci x row column e h = rw (packed-is s x e h)
-
 -- two pages whose headers say the same
 
 few-in : (s : List ℕ) → Sound s → elementCount s ≤ 16
@@ -187,6 +167,12 @@ module _ (s t : List ℕ) (o : Sound s) (q : Sound t) (j : SameJudged s t) (row 
   size-too : elementBytes s e ≡ elementBytes t e
   size-too = header .sizes e asked
 
+  -- any content says the same by both
+  said-too : (ci : ℕ) (b : List ℕ) (from l x place : ℕ) → cellFrom t ci b from l x place row column e ≡ cellFrom s ci b from l x place row column e
+  unfolding cellFrom
+  said-too ci b from l x place =
+      rw (← size-too, ← element-too, ← offset-too, ← number-too, ← location-too, ← tile-rows s t j, ← tile-columns s t j) refl
+
   meant-too : (ci : ℕ) → meaning t ci row column e ≡ cellOf t ci row column e (tileAt t (cellTile s row column))
   meant-too ci = meant-by t ci row column e grid-too ∙ ap (λ (i : ℕ). cellOf t ci row column e (tileAt t i)) tile-too
 
@@ -231,59 +217,40 @@ module _ (s t : List ℕ) (o : Sound s) (q : Sound t) (j : SameJudged s t) (row 
     long-is : length c ≡ sectionLength t x e
     long-is = ap length (w .is) ∙ w .content .long
 
-    read-in : (ci : ℕ) → meaning t ci row column e ≡ cellIn t ci x row column e
+    abbrev at : ℕ
+    at = elementContentAt t x e
+
+    read-in : (ci : ℕ) → meaning t ci row column e ≡ cellFrom t ci t at (sectionLength t x e) x at row column e
+    unfolding cellIn
     read-in ci = meant-too ci ∙ ap (cellOf t ci row column e) (w .found)
 
-    -- whole, the cell's bytes are in it
-    bits-in : elementBytes s e ≤ length c → numberAt (cellSize (element s e .kind)) t (elementContentAt t x e + offsetIn s row column e) ≡ numberAt (cellSize (element s e .kind)) c (offsetIn s row column e)
-    bits-in l =
-        let z = cellSize (element s e .kind) in
-        let m = content-moved (w .content) c (w .is) in
-        let n : 0 + offsetIn s row column e ≡ offsetIn s row column e = omega arith in
-        offset-number m (offset-of (elementContentAt t x e) 0 (offsetIn s row column e)) z (omega (arith, offset-inside, long-is)) ∙ ap (numberAt z c) n
+    -- the bytes in the file and in the map: the first, all, and, where the content is whole, a cell's
 
-    stored-by :
-        (ci : ℕ) → elementBytes s e ≤ length c →
-        meaning t ci row column e
-        ≡ cell.Stored (valueOf (element s e .kind) (numberAt (cellSize (element s e .kind)) c (offsetIn s row column e))) (elementContentAt t x e + offsetIn s row column e)
-        (locationOf s row column)
-    unfolding storedAt placeIn
-    stored-by ci l =
-        read-in ci ∙ whole-in t ci x row column e (omega (arith, size-too, long-is)) ∙ rw (← element-too, ← offset-too, ← location-too, bits-in l) refl
+    moved : Moved t at c 0 (sectionLength t x e)
+    moved = content-moved (w .content) c (w .is)
 
-    -- compressed, it says what its bytes say
-    unpackable-by : (ci : ℕ) → unpackable t ci x e ≡ canUnpack (element s e .kind) ci c
-    unfolding unpackable canUnpack
-    unpackable-by ci =
-        let m = content-moved (w .content) c (w .is) in
-        let a = offset-byte m (offset-of (elementContentAt t x e) 0 0) (omega (arith, w .content .some-bytes)) in
-        let b : elementContentAt t x e + 0 ≡ elementContentAt t x e = omega arith in
-        let d : byteAt t (elementContentAt t x e) ≡ byteAt c 0 = ap (byteAt t) (sym b) ∙ a in
-        rw (d, ← element-too) refl
+    first-byte : byteAt t at ≡ byteAt c 0
+    first-byte =
+        let b : at + 0 ≡ at = omega arith in
+        ap (byteAt t) (sym b) ∙ offset-byte moved (offset-of at 0 0) (omega (arith, w .content .some-bytes))
 
-    unpacked-by : unpackedIn t x e ≡ unpacked c (tileRows s) (tileColumns s) (eqb (element s e .kind) shortKind)
-    unfolding unpackedIn
-    unpacked-by = rw (← w .content .is, ← w .is, ← tile-rows s t j, ← tile-columns s t j, ← element-too) refl
+    all-bytes : part t at (length c) ≡ part c 0 (length c)
+    all-bytes = ap (part t at) long-is ∙ sym (w .content .is) ∙ sym (w .is) ∙ sym (part-whole c)
 
-    packed-by :
-        (ci : ℕ) → length c < elementBytes s e →
-        meaning t ci row column e
-        ≡ pick (canUnpack (element s e .kind) ci c)
-        (unpackedCell (locationOf s row column) (element s e .kind) x (elementContentAt t x e)
-        (cellAt (unpacked c (tileRows s) (tileColumns s) (eqb (element s e .kind) shortKind)) (cellInside s row column)))
-        (cell.Refused (refusal.Compressed x))
-    unfolding packedCell
-    packed-by ci h =
-        read-in ci ∙ packed-in t ci x row column e (omega (arith, size-too, long-is))
-        ∙ rw (unpackable-by ci, unpacked-by, ← element-too, ← number-too, ← location-too) refl
+    bits-in :
+        elementBytes s e ≤ length c →
+        numberAt (cellSize (element s e .kind)) t (at + offsetIn s row column e) ≡ numberAt (cellSize (element s e .kind)) c (0 + offsetIn s row column e)
+    bits-in l = offset-number moved (offset-of at 0 (offsetIn s row column e)) _ (omega (arith, offset-inside, long-is))
 
-    cell-by : (ci : ℕ) → meaning t ci row column e ≡ cellFrom s ci c x (elementContentAt t x e) row column e
+    cell-by : (ci : ℕ) → meaning t ci row column e ≡ cellFrom s ci c 0 (length c) x at row column e
     unfolding cellFrom
-    cell-by ci = go (leb (elementBytes s e) (length c)) refl
+    cell-by ci = read-in ci ∙ said-too ci t at (sectionLength t x e) x at ∙ rw (← long-is) (go (isPacked s e (length c)) refl)
       where
-        go : (b : Bool) → leb (elementBytes s e) (length c) ≡ b → meaning t ci row column e ≡ cellFrom s ci c x (elementContentAt t x e) row column e
-        go true z = rw z (stored-by ci (leb-true _ _ z))
-        go false z = let y : length c < elementBytes s e = leb-false _ _ z in rw z (packed-by ci y)
+        go : (b : Bool) → isPacked s e (length c) ≡ b → cellFrom s ci t at (length c) x at row column e ≡ cellFrom s ci c 0 (length c) x at row column e
+        go true z = rw (z, first-byte, all-bytes) refl
+        go false z =
+            let l : elementBytes s e ≤ length c = by-cases (decLe (length c + 1) (elementBytes s e)) (λ h. absurd (fails _ z (h, tt))) (λ h. omega arith) in
+            rw (z, bits-in l) refl
 
 -- outside the grid
 
@@ -324,7 +291,7 @@ module _ (s t : List ℕ) (o : Sound s) (q : Sound t) (j : SameJudged s t) (row 
     both-same : (ci : ℕ) → meaning t ci row column e ≡ meaning s ci row column e
     both-same ci =
         cell-by s t o q j row column e g first (record { start = start; found = w .second; content = content-second; is = content-same }) ci
-        ∙ ap (λ (a : ℕ). cellFrom s ci first start a row column e) place-same
+        ∙ ap (λ (a : ℕ). cellFrom s ci first 0 (length first) start a row column e) place-same
         ∙ sym (cell-by s s o o self row column e g first (record { start = start; found = w .first; content = content-first; is = refl }) ci)
 
   stays-same : (ci : ℕ) → recordOfTile t (cellTile s row column) ≡ recordOfTile s (cellTile s row column) → meaning t ci row column e ≡ meaning s ci row column e

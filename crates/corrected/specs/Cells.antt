@@ -1,29 +1,20 @@
 -- Req 03: how the cells of a corrected page read. s is the page before the calls, t the page now, `named` are the tiles that the calls
 -- name, `tiles` is the map; e is an element, and the cell is at a row and a column.
-use Prim.Native.Nat.{ℕ, _+_}
+use Prim.Native.Nat.{ℕ}
 use mathlib.Core.Path.{_≡_}
 use mathlib.Core.Bool.{Bool, true, false}
-use mathlib.Core.List.{List, [], _∷_}
+use mathlib.Core.List.{List, []}
 use lib.ListN.{length, getD}
-use lib.Dec.{eqb, leb}
-use Rattle.wire.specs.Pick.{pick}
-use Rattle.wire.specs.Tests.{_≤?_, _≡?_, _≢?_, passes}
-use Rattle.wire.specs.Bytes.{Bytes, byteAt, numberAt}
+use Rattle.wire.specs.Bytes.{Bytes}
 use Rattle.record.specs.declared.Found.the-variants.{At}
-use Rattle.header.specs.Fields.{tileRows, tileColumns}
-use Rattle.header.specs.Element.{element, cellSize, floatKind, shortKind}
-use Rattle.geometry.specs.Tiles.{cellTile, cellInside}
-use Rattle.geometry.specs.Sizes.{elementBytes}
+use Rattle.geometry.specs.Tiles.{cellTile}
 use Rattle.bodies.specs.TileRecord.{elementContentAt}
-use Rattle.answer.specs.Values.{valueOf}
-use Rattle.answer.specs.declared.Refusal.the-variants.{OutsideGrid, Compressed}
-use Rattle.answer.specs.declared.Cell.{Cell}
+use Rattle.answer.specs.declared.Refusal.the-variants.{OutsideGrid}
 use Rattle.answer.specs.declared.Cell.the-variants as cell
 use Rattle.answer.specs.declared.Verdict.the-variants.{Accepted}
-use Rattle.unpack.specs.Unpack.{cellAt, unpacked}
 use Rattle.page_check.specs.Stages.{check}
 use Rattle.cells.specs.Asked.{inGrid}
-use Rattle.cells.specs.TileCells.{locationOf, fillOf, offsetIn, unpackedCell}
+use Rattle.cells.specs.TileCells.{locationOf, fillOf, cellFrom}
 use Rattle.cells.specs.Meaning.{meaning}
 use Rattle.cells.specs.Demand3.{OneAnswer, OneMeaning}
 use Rattle.correct.specs.Front.{pageIn}
@@ -35,29 +26,13 @@ use Rattle.corrected.specs.Sequence.{Call, State, AllGiven, AcceptedOrOp
 unfoldable pub contentIn : (ℕ → List (List ℕ)) → ℕ → ℕ → List ℕ
 contentIn tiles tile e = getD (tiles tile) e []
 
--- Req 01: a compressed content is unpacked where its first byte is the compressor index that the caller names, and the element is no
--- Float
-unfoldable pub canUnpack : ℕ → ℕ → List ℕ → Bool
-canUnpack kind ci c = passes ((ci ≤? 255) ∷ (byteAt c 0 ≡? ci) ∷ (kind ≢? floatKind) ∷ [])
-
--- what the bytes c of element e's content say of a cell, where they stand at `at` in a tile record that starts at x: as many as the
--- element has uncompressed, the cell is stored, its bits and its place at its offset among them; fewer, it is unpacked from them, or is
--- refused with 11 or 14 at x
-unfoldable pub cellFrom : List ℕ → ℕ → List ℕ → ℕ → ℕ → ℕ → ℕ → ℕ → Cell
-cellFrom s ci c x at row column e =
-    pick (leb (elementBytes s e) (length c))
-    (cell.Stored (valueOf (element s e .kind) (numberAt (cellSize (element s e .kind)) c (offsetIn s row column e))) (at + offsetIn s row column e)
-    (locationOf s row column))
-    (pick (canUnpack (element s e .kind) ci c)
-    (unpackedCell (locationOf s row column) (element s e .kind) x at (cellAt (unpacked c (tileRows s) (tileColumns s) (eqb (element s e .kind) shortKind)) (cellInside s row column)))
-    (cell.Refused (Compressed x)))
-
--- a cell of a tile that the map has: the tile's record stands in t, and the map's bytes say what the cell is
+-- a cell of a tile that the map has: the tile's record stands in t, and the map's bytes say what the cell is, as those of a file do
 pub record HeldAs (s t : List ℕ) (tiles : ℕ → List (List ℕ)) (ci row column e : ℕ) : Type 0 where
   pub start : ℕ
   pub found : tileAt t (cellTile s row column) ≡ At start
   pub reads :
-      meaning t ci row column e ≡ cellFrom s ci (contentIn tiles (cellTile s row column) e) start (elementContentAt t start e) row column e
+      let c : List ℕ = contentIn tiles (cellTile s row column) e in
+      meaning t ci row column e ≡ cellFrom s ci c 0 (length c) start (elementContentAt t start e) row column e
 
 pub record ReadsAs (s t : List ℕ) (named : ℕ → Bool) (tiles : ℕ → List (List ℕ)) (ci row column e : ℕ) : Type 0 where
   -- outside the grid: 10

@@ -25,7 +25,7 @@ use Rattle.bodies.specs.TileRecord.{elementContentAt}
 use Rattle.check_directory.specs.Correspondence.{OneToOne}
 use Rattle.page_check.proofs.GivenLaws.{obeys-one}
 use Rattle.cells.specs.Asked.{inGrid, inTiles}
-use Rattle.cells.specs.TileCells.{locationOf, fillOf, offsetIn, placeIn, storedAt, cellIn, contentIn}
+use Rattle.cells.specs.TileCells.{locationOf, fillOf, offsetIn, packed, placeIn, cellFrom, cellIn, contentIn}
 use Rattle.cells.specs.Meaning.{meaning, contentMeaning}
 use Rattle.cells.specs.Demand3.{bytesOfCell}
 use Rattle.cells.proofs.CellLaws.{grid-means, tiles-mean}
@@ -149,7 +149,7 @@ module _ {f : List ℕ} {t : ℕ} {ix c : List ℕ} (l : Laying f t ix c) where
           (ci : ℕ) → meaning s ci row column e
           ≡ cell.Stored (valueOf (element f e .kind) (numberAt (cellSize (element f e .kind)) c (cellGiven f k row column e))) (cellLaid f k row column e)
           (locationOf f row column)
-      unfolding meaning cellBy cellIn storedAt numberAt
+      unfolding meaning cellBy cellIn cellFrom packed placeIn numberAt
       stored-read ci =
           let g = asked .1 .1 in
           let r : meant s (cellTile s row column) ≡ At (start k) = ap (meant s) (tile-kept (front-kept l) row column ∙ sym (q .tile)) ∙ listed-found k (q .among) in

@@ -9,7 +9,7 @@ use Rattle.bodies.specs.TileRecord.{elementContentAt, sectionAt, sectionEnd, se
 use Rattle.cells.specs.Asked.{inGrid}
 use Rattle.cells.specs.Meaning.{meaning}
 use Rattle.cells.specs.Routes.{carries, cellBy, meant, recordsWith}
-use Rattle.cells.specs.TileCells.{cellIn, fillOf, locationOf, offsetIn, packed, placeIn, storedAt}
+use Rattle.cells.specs.TileCells.{cellFrom, cellIn, fillOf, locationOf, offsetIn}
 use Rattle.check_directory.specs.References.{noOther, refersOrZero, refersTo}
 use Rattle.check_directory.specs.TileRules.{formRight, givesTile, rectangleRight, spanRight, tileDirectoryRight, tilesListed, tilesOnly}
 use Rattle.check_header.specs.Ceilings.{sidesWithin, withinCeilings}
@@ -43,5 +43,5 @@ use Rattle.wire.specs.Tests.{allBelow, passes, sumBelow}
 use Rattle.sample_page.specs.Reads.{SampleRead}
 
 pub sample-read : SampleRead
-unfolding advance allBelow blockAt blockSize bodyFault bodyRight byteAt bytesOf carries cellBy cellIn cellInside cellOffset cellSize cellTile chainFault check checkDirectories checkFromRecords checkHeader checkRecords checksumAt checksumFault checksumOf checksumRight closed contentLengthAt countBelow crcBit crcByte crcOf crcOver crcPart dataType descriptionAt directoriesRight element elementBytes elementContentAt elementName elementPacking elementRight elementsRight endOf endRight entriesRead entryAt entryCount entryEnd entryStart entryTexts every fieldsEnd fileSpaceAt fileSpaceRight fillBits fillOf fillOffset find findNot firstTwo firstWrong fiveRules following formRight frameRight freeCount freeEntryAt freeEntryIs freeEntryOf freeFits freeListed freeOnly gate givesTile goesOn headerEnd headerRight identified identifier inGrid inRectangle inSpan indexRight insideOf keysDistinct labelAt lastByte leastLength lengthRight letter listedOnce locationOf mark meaning meant metadataAt metadataCount metadataDescriptionAt metadataDirectoryRight metadataEnd metadataEntryAt metadataEntryEnd metadataEntryIs metadataEntryOf metadataEntrySize metadataFits metadataLength metadataListed metadataName metadataOnly metadataRight methodCount methodsAt nameByte nameBytes namesDiffer never nextTwo noOther nothingElse number numberAt numberOf octet offsetIn oneIf optionsRight packed packingOf padded part passes placeIn positive productLabelAt recordId recordIdAt recordLimit recordOk records recordsEnd recordsOf recordsWith rectangleRight referenceAt referenceFrom referenceOf referenceSize referencesEnd refersOrZero refersTo rightOf rows sameBytes sameKey sectionAt sectionEnd sectionLength sectionPacking sectionRight select sidesRight sidesWithin some spanRight stages starts startsGo storedAt storedSize stringEnd stringSize stringText sumBelow summedBytes tail tailRight textRight tileBytes tileCount tileDirectoryAt tileDirectoryRight tileEnd tileIn tileIndex tileOf tileRight tilesAcross tilesAlong tilesDown tilesIn tilesListed tilesOnly uncompressed unitAt unless unlessRefused utf8 valueOf versionRight within withinCeilings
+unfolding advance allBelow blockAt blockSize bodyFault bodyRight byteAt bytesOf carries cellBy cellFrom cellIn cellInside cellOffset cellSize cellTile chainFault check checkDirectories checkFromRecords checkHeader checkRecords checksumAt checksumFault checksumOf checksumRight closed contentLengthAt countBelow crcBit crcByte crcOf crcOver crcPart dataType descriptionAt directoriesRight element elementBytes elementContentAt elementName elementPacking elementRight elementsRight endOf endRight entriesRead entryAt entryCount entryEnd entryStart entryTexts every fieldsEnd fileSpaceAt fileSpaceRight fillBits fillOf fillOffset find findNot firstTwo firstWrong fiveRules following formRight frameRight freeCount freeEntryAt freeEntryIs freeEntryOf freeFits freeListed freeOnly gate givesTile goesOn headerEnd headerRight identified identifier inGrid inRectangle inSpan indexRight insideOf keysDistinct labelAt lastByte leastLength lengthRight letter listedOnce locationOf mark meaning meant metadataAt metadataCount metadataDescriptionAt metadataDirectoryRight metadataEnd metadataEntryAt metadataEntryEnd metadataEntryIs metadataEntryOf metadataEntrySize metadataFits metadataLength metadataListed metadataName metadataOnly metadataRight methodCount methodsAt nameByte nameBytes namesDiffer never nextTwo noOther nothingElse number numberAt numberOf octet offsetIn oneIf optionsRight packingOf padded part passes positive productLabelAt recordId recordIdAt recordLimit recordOk records recordsEnd recordsOf recordsWith rectangleRight referenceAt referenceFrom referenceOf referenceSize referencesEnd refersOrZero refersTo rightOf rows sameBytes sameKey sectionAt sectionEnd sectionLength sectionPacking sectionRight select sidesRight sidesWithin some spanRight stages starts startsGo storedSize stringEnd stringSize stringText sumBelow summedBytes tail tailRight textRight tileBytes tileCount tileDirectoryAt tileDirectoryRight tileEnd tileIn tileIndex tileOf tileRight tilesAcross tilesAlong tilesDown tilesIn tilesListed tilesOnly uncompressed unitAt unless unlessRefused utf8 valueOf versionRight within withinCeilings
 sample-read = record { accepted = refl; stored = λ ci. refl; fill = λ ci. refl }
