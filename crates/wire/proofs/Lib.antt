@@ -7,3 +7,5 @@ pub mod PutLaws
 pub mod PlaceLaws
 pub mod ListLaws
 pub mod CountLaws
+pub mod BigLaws
+pub mod RunLaws

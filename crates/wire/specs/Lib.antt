@@ -6,6 +6,7 @@
 pub mod Pick
 pub mod Tests
 pub mod Bytes
+pub mod Big
 pub mod Compare
 pub mod CompareSamples
 pub mod Items

@@ -1,4 +1,5 @@
 // Little-endian numbers in bytes. Reading is total: what does not lie whole in the slice reads as nothing, or as 0.
+pub mod big;
 pub mod writing;
 
 ghost use mathlib.Core.Path.{_≡_};
