@@ -5,6 +5,7 @@ use mathlib.Core.List.{[], _∷_}
 use mathlib.Core.Bool.{Bool, true, false}
 use native.Mathlib.Omega.{arith}
 use lib.IntN.{ℤ, pos, negsuc}
+use lib.Dec.{eqb}
 use lib.Signed.{leZ, mag}
 use mir.Syntax.{w16}
 use mir.Val.{toZ, ofZ, Fits, hbits}
@@ -23,7 +24,7 @@ use Rattle.deeds.specs.declared.Lowest.{Lowest}
 use Rattle.deeds.specs.declared.Lowest.the-variants.{Score, None}
 use Rattle.deeds.specs.declared.Deed.{Deed}
 use Rattle.deeds.specs.declared.Deed.the-variants.{Graded}
-use Rattle.deeds.specs.Deeds.{isFill, isStored, scoreOf, lesser, scoreWithin, lowestBits, deedScale}
+use Rattle.deeds.specs.Deeds.{isFill, isStored, minusOne, countsAsFill, isScored, scoreOf, lesser, scoreWithin, lowestBits, deedScale}
 
 -- the order of signed numbers
 
@@ -114,18 +115,59 @@ truths = record { unit-left = λ x. refl; unit-right = right; assoc = assoc }
 
 -- kinds of cells
 
-module _ (x : Cell) (k : ℕ) (e : k ≡ cellKind x) where
-  pub kind-fill : k ≡ 33 → true ≡ isFill x
-  unfolding isFill
-  kind-fill h = yes ((cellKind x ≡? 33) ∷ []) (omega arith, tt)
-
-  pub kind-not-fill : (k ≡ 33 → ⊥) → false ≡ isFill x
-  unfolding isFill
-  kind-not-fill h = no ((cellKind x ≡? 33) ∷ []) (λ y. h (omega arith))
+pub kind-fill : (x : Cell) → cellKind x ≡ 33 → true ≡ countsAsFill x
+unfolding countsAsFill isStored isFill passes
+kind-fill x e = rw e
 
 pub fill-no-score : (x : Cell) → cellKind x ≡ 33 → scoreOf x ≡ None
-unfolding scoreOf isStored
+unfolding scoreOf isScored isStored
 fill-no-score x e = rw e
+
+module _ (x : Cell) (k : ℕ) (e : k ≡ cellKind x) where
+  pub stored-first : k ≡ 32 → true ≡ isStored x
+  unfolding isStored
+  stored-first h = rw (← e, h)
+
+  pub stored-second : (k ≡ 32 → ⊥) → eqb k 34 ≡ isStored x
+  unfolding isStored
+  stored-second h = rw (← e, ne-eqb k 32 h)
+
+  pub counts-kind : (s : Bool) → s ≡ isStored x → s ≡ false → k ≡ 33 → _≡_ {A = ℕ} 1 (pick (countsAsFill x) 1 0)
+  unfolding countsAsFill isFill passes
+  counts-kind s p q h = rw (← p, q, ← e, h)
+
+  pub counts-none : (s : Bool) → s ≡ isStored x → s ≡ false → (k ≡ 33 → ⊥) → _≡_ {A = ℕ} 0 (pick (countsAsFill x) 1 0)
+  unfolding countsAsFill isFill passes
+  counts-none s p q h = rw (← p, q, ← e, ne-eqb k 33 h)
+
+pub minus-is : (x : Cell) (n : ℕ) → n ≡ cellBits x → eqb (n % 65536) 65535 ≡ minusOne x
+unfolding minusOne passes
+minus-is x n e = rw e (alone (eqb (cellBits x % 65536) 65535))
+  where
+    alone : (b : Bool) → b ≡ both b true
+    alone true = refl
+    alone false = refl
+
+module _ (x : Cell) (s m : Bool) (p : s ≡ isStored x) (q : m ≡ minusOne x) where
+  pub counts-stored : s ≡ true → m ≡ true → _≡_ {A = ℕ} 1 (pick (countsAsFill x) 1 0)
+  unfolding countsAsFill
+  counts-stored e f = rw (← p, e, ← q, f)
+
+  pub counts-score : s ≡ true → m ≡ false → _≡_ {A = ℕ} 0 (pick (countsAsFill x) 1 0)
+  unfolding countsAsFill
+  counts-score e f = rw (← p, e, ← q, f)
+
+  pub score-minus : s ≡ true → m ≡ true → None ≡ scoreOf x
+  unfolding scoreOf isScored
+  score-minus e f = rw (← p, e, ← q, f)
+
+  pub score-stored : s ≡ true → m ≡ false → (z : ℤ) → z ≡ toZ w16 (cellBits x % 65536) → Score (toZ w16 (ofZ w16 z)) ≡ scoreOf x
+  unfolding scoreOf isScored
+  score-stored e f z r = let g : Fits w16 (cellBits x % 65536) = record { fits = omega arith } in rw (← p, e, ← q, f) (ap Score (signed.kept w16 g r))
+
+pub score-none : (x : Cell) (s : Bool) → s ≡ isStored x → s ≡ false → None ≡ scoreOf x
+unfolding scoreOf isScored
+score-none x s p e = rw (← p, e)
 
 -- scores in the machine
 
@@ -142,19 +184,6 @@ scale-of x rule g k l r e h q = q ∙ rw e (ap (ofZ w16) (kept (rule .scale) h))
 
 pub signed-of : (n b : ℕ) (r : ℤ) → r ≡ toZ w16 (b % 65536) → b ≡ n → toZ w16 (ofZ w16 r) ≡ toZ w16 (n % 65536)
 signed-of n b r e q = let f : Fits w16 (b % 65536) = record { fits = omega arith } in signed.kept w16 f e ∙ rw q
-
-module _ (x : Cell) (k : ℕ) (e : k ≡ cellKind x) where
-  pub score-stored : (z : ℤ) → k ≡ 32 → z ≡ toZ w16 (cellBits x % 65536) → Score (toZ w16 (ofZ w16 z)) ≡ scoreOf x
-  unfolding scoreOf isStored
-  score-stored z h q = let f : Fits w16 (cellBits x % 65536) = record { fits = omega arith } in rw (← e, h) (ap Score (signed.kept w16 f q))
-
-  pub score-unpacked : (z : ℤ) → (k ≡ 32 → ⊥) → k ≡ 34 → z ≡ toZ w16 (cellBits x % 65536) → Score (toZ w16 (ofZ w16 z)) ≡ scoreOf x
-  unfolding scoreOf isStored
-  score-unpacked z g h q = let f : Fits w16 (cellBits x % 65536) = record { fits = omega arith } in rw (← e, h) (ap Score (signed.kept w16 f q))
-
-  pub score-none : (k ≡ 32 → ⊥) → (k ≡ 34 → ⊥) → None ≡ scoreOf x
-  unfolding scoreOf isStored
-  score-none g h = rw (← e, ne-eqb k 32 g, ne-eqb k 34 h)
 
 module _ (rule : Rule) (x : Lowest) where
   pub within-none : x ≡ None → true ≡ scoreWithin rule x

@@ -2,7 +2,7 @@
 use Prim.Native.Nat.{ℕ, suc, _+_, _-_, _*_, _%_, _≤_, _<_}
 use mathlib.Core.Path.{_≡_, refl, sym, ap, _∙_}
 use mathlib.Core.List.{List, [], _∷_}
-use mathlib.Core.Bool.{Bool, true, false}
+use mathlib.Core.Bool.{Bool, true, false, not}
 use mathlib.Core.Logic.{_⊎_, inl, inr, ⊎-elim, by-cases}
 use native.Mathlib.Decide.{decLe}
 use native.Mathlib.Omega.{arith}
@@ -16,7 +16,7 @@ use mir.Facts.{toZ-pos, toZ-neg}
 use borrow.Author.Tests.{leb-true, le-leb, eqb-true}
 use Rattle.wire.specs.Pick.{pick}
 use Rattle.wire.specs.Tests.{_≤?_, _≡?_, is, both, passes}
-use Rattle.wire.proofs.TestLaws.{means, yes, not-both}
+use Rattle.wire.proofs.TestLaws.{means, yes, no, not-both}
 use Rattle.answer.specs.declared.Refusal.{Refusal}
 use Rattle.answer.specs.declared.Refusal.the-variants.{Input}
 use Rattle.answer.specs.declared.Verdict.{Verdict}
@@ -42,8 +42,8 @@ use Rattle.deeds.specs.declared.Lowest.{Lowest}
 use Rattle.deeds.specs.declared.Lowest.the-variants.{Score, None}
 use Rattle.deeds.specs.declared.Deed.{Deed}
 use Rattle.deeds.specs.declared.Deed.the-variants.{Graded, Refused}
-use Rattle.deeds.specs.Deeds.{isFill, isStored, scoreOf, fillsIn, lesser, lowestIn, scoreWithin, certainBy, gradeFrom, gradeBy, graded, refusalIn, fromTo, firstRule, secondRule, deedBy, cellsOf, rectangleScored, deedSaid, deedIn, deed, hasLowest}
-use Rattle.deeds.specs.Sound.{storedIn, Sound, GradedSound, DeedSound, RuleOfPage, CertainCell, CertainExactly, InOrder, RefusedInOrder}
+use Rattle.deeds.specs.Deeds.{isFill, isStored, minusOne, countsAsFill, isScored, scoreOf, fillsIn, lesser, lowestIn, scoreWithin, certainBy, gradeFrom, gradeBy, graded, refusalIn, fromTo, firstRule, secondRule, deedBy, cellsOf, rectangleScored, deedSaid, deedIn, deed, hasLowest}
+use Rattle.deeds.specs.Sound.{scoredIn, Sound, GradedSound, DeedSound, RuleOfPage, CertainCell, CertainExactly, InOrder, RefusedInOrder}
 use Rattle.deeds.proofs.ScoreLaws.{le-either, scores, lesser-comm, truths}
 use Rattle.deeds.proofs.PieceLaws.{verdicts, stays}
 use Rattle.deeds.proofs.DeedLaws.{not-scored, all-scored, grade-unread, grade-certain, grade-doubtful, deed-wrong, deed-input, deed-scored, deed-refused, deed-outside, deed-inside}
@@ -88,41 +88,54 @@ unfolding lesser
 lesser-self None = refl
 lesser-self (Score a) = lower-self a (leZ a a)
 
--- a cell that is not refused is a fill, which has no score, or stored
+-- a cell that is not refused counts as a fill, which has no score, or has one
 
 pub record OneKind (x : Cell) : Type 0 where
-  pub one : pick (isFill x) 1 0 + pick (isStored x) 1 0 ≡ 1
-  pub no-score : scoreOf x ≡ None → _≡_ {A = ℕ} (pick (isStored x) 1 0) 0
-  pub fill-none : _≡_ {A = ℕ} (pick (isStored x) 1 0) 0 → scoreOf x ≡ None
+  pub one : pick (countsAsFill x) 1 0 + pick (isScored x) 1 0 ≡ 1
+  pub no-score : scoreOf x ≡ None → _≡_ {A = ℕ} (pick (isScored x) 1 0) 0
+  pub fill-none : _≡_ {A = ℕ} (pick (isScored x) 1 0) 0 → scoreOf x ≡ None
 
 score-some : (z : ℤ) → Score z ≡ None → ⊥
 score-some z e = let z : _≡_ {A = ℕ} 0 1 = cc in omega arith
 
+scored-none : (b : Bool) (z : ℤ) → pick b (Score z) None ≡ None → _≡_ {A = ℕ} (pick b 1 0) 0
+scored-none true z e = absurd (score-some z e)
+scored-none false z e = refl
+
+none-scored : (b : Bool) (z : ℤ) → _≡_ {A = ℕ} (pick b 1 0) 0 → pick b (Score z) None ≡ None
+none-scored true z e = absurd (omega arith)
+none-scored false z e = refl
+
+one-of-two : (b : Bool) → pick b 1 0 + pick (not b) 1 0 ≡ 1
+one-of-two true = refl
+one-of-two false = refl
+
+first-kind : (x : Cell) → cellKind x ≡ 32 → pick (countsAsFill x) 1 0 + pick (isScored x) 1 0 ≡ 1
+unfolding countsAsFill isScored isStored
+first-kind x h = rw h (one-of-two (minusOne x))
+
+second-kind : (x : Cell) → cellKind x ≡ 34 → pick (countsAsFill x) 1 0 + pick (isScored x) 1 0 ≡ 1
+unfolding countsAsFill isScored isStored
+second-kind x h = rw h (one-of-two (minusOne x))
+
+fill-kind : (x : Cell) → cellKind x ≡ 33 → pick (countsAsFill x) 1 0 + pick (isScored x) 1 0 ≡ 1
+unfolding countsAsFill isScored isStored isFill passes
+fill-kind x h = rw h
+
 pub one-kind : (x : Cell) → cellVerdict x ≡ verdict.Accepted → OneKind x
-unfolding isFill isStored scoreOf passes
-one-kind x e = ⊎-elim stored (⊎-elim fill unpacked) (cell-kinds x e)
-  where
-    stored : cellKind x ≡ 32 → OneKind x
-    stored h = record { one = rw h; no-score = λ s. absurd (score-some _ (rw h at s)); fill-none = λ s. let z : _≡_ {A = ℕ} 1 0 = rw h at s in absurd (omega arith) }
+unfolding scoreOf
+one-kind x e = record { one = ⊎-elim (first-kind x) (⊎-elim (fill-kind x) (second-kind x)) (cell-kinds x e); no-score = scored-none (isScored x) _; fill-none = none-scored (isScored x) _ }
 
-    fill : cellKind x ≡ 33 → OneKind x
-    fill h = record { one = rw h; no-score = λ s. rw h; fill-none = λ s. rw h }
-
-    unpacked : cellKind x ≡ 34 → OneKind x
-    unpacked h = record { one = rw h; no-score = λ s. absurd (score-some _ (rw h at s)); fill-none = λ s. let z : _≡_ {A = ℕ} 1 0 = rw h at s in absurd (omega arith) }
-
--- a fill counts, and what counts is one
-fill-counts : (x : Cell) → cellKind x ≡ 33 → _≡_ {A = ℕ} (pick (isFill x) 1 0) 1
-unfolding isFill passes
+-- what counts is one
+fill-counts : (x : Cell) → countsAsFill x ≡ true → _≡_ {A = ℕ} (pick (countsAsFill x) 1 0) 1
 fill-counts x e = rw e
 
-counts-fill : (x : Cell) → 1 ≤ pick (isFill x) 1 0 → cellKind x ≡ 33
-unfolding isFill
-counts-fill x h = go (passes ((cellKind x ≡? 33) ∷ [])) refl h
+counts-fill : (x : Cell) → 1 ≤ pick (countsAsFill x) 1 0 → countsAsFill x ≡ true
+counts-fill x h = go (countsAsFill x) h
   where
-    go : (b : Bool) → passes ((cellKind x ≡? 33) ∷ []) ≡ b → 1 ≤ pick b 1 0 → cellKind x ≡ 33
-    go true e h = means ((cellKind x ≡? 33) ∷ []) e .0
-    go false e h = absurd (omega arith)
+    go : (b : Bool) → 1 ≤ pick b 1 0 → b ≡ true
+    go true h = refl
+    go false h = absurd (omega arith)
 
 -- no score is below the lowest
 lower-least : (a z : ℤ) → lesser (Score a) (Score z) ≡ Score a → leZ a z ≡ true
@@ -158,10 +171,10 @@ lowest-some x h e = let z : hasLowest x ≡ 0 = ap hasLowest e in omega arith
 
 module _ (rule : Rule) (m n : ℕ) (f : ℕ → ℕ → Cell) (a : refusalIn 0 m 0 n f ≡ verdict.Accepted) where
   abbrev fill : ℕ → ℕ → ℕ
-  fill r c = pick (isFill (f r c)) 1 0
+  fill r c = pick (countsAsFill (f r c)) 1 0
 
   abbrev stored : ℕ → ℕ → ℕ
-  stored r c = pick (isStored (f r c)) 1 0
+  stored r c = pick (isScored (f r c)) 1 0
 
   none-refused-there : (r c : ℕ) → Inside 0 m 0 n r c → cellVerdict (f r c) ≡ verdict.Accepted
   unfolding refusalIn
@@ -170,8 +183,8 @@ module _ (rule : Rule) (m n : ℕ) (f : ℕ → ℕ → Cell) (a : refusalIn 0 m
   each-kind : (r c : ℕ) → Inside 0 m 0 n r c → OneKind (f r c)
   each-kind r c h = one-kind (f r c) (none-refused-there r c h)
 
-  all-cells : fillsIn 0 m 0 n f + storedIn m n f ≡ m * n
-  unfolding fillsIn storedIn
+  all-cells : fillsIn 0 m 0 n f + scoredIn m n f ≡ m * n
+  unfolding fillsIn scoredIn
   all-cells =
       let p = inside-both _+_ 0 sums (λ x y. omega arith) 0 m 0 n fill stored in
       let q = inside-ones 0 m 0 n (λ r c. fill r c + stored r c) (λ r c h. each-kind r c h .one) in
@@ -179,31 +192,31 @@ module _ (rule : Rule) (m n : ℕ) (f : ℕ → ℕ → Cell) (a : refusalIn 0 m
       let v : n - 0 ≡ n = omega arith in
       sym p ∙ q ∙ rw (u, v)
 
-  fill-there : (r c : ℕ) → Inside 0 m 0 n r c → cellKind (f r c) ≡ 33 → 1 ≤ fillsIn 0 m 0 n f
+  fill-there : (r c : ℕ) → Inside 0 m 0 n r c → countsAsFill (f r c) ≡ true → 1 ≤ fillsIn 0 m 0 n f
   unfolding fillsIn
   fill-there r c h e =
       by-cases (decLe 1 (foldInside _+_ 0 0 m 0 n fill)) (λ k. k)
       (λ k. absurd (omega (arith, inside-each _+_ 0 sum-parts 0 m 0 n fill (omega arith) r c h, fill-counts (f r c) e)))
 
-  some-fill : 1 ≤ fillsIn 0 m 0 n f → (r : ℕ) × (c : ℕ) × ((r < m) × (c < n)) × (cellKind (f r c) ≡ 33)
+  some-fill : 1 ≤ fillsIn 0 m 0 n f → (r : ℕ) × (c : ℕ) × ((r < m) × (c < n)) × (countsAsFill (f r c) ≡ true)
   unfolding fillsIn
   some-fill h = let y = inside-some 0 m 0 n fill h in (y .0, y .1, (omega arith, omega arith), counts-fill (f (y .0) (y .1)) (y .3))
 
-  no-fill-there : fillsIn 0 m 0 n f ≡ 0 → (r c : ℕ) → Inside 0 m 0 n r c → isStored (f r c) ≡ true
+  no-fill-there : fillsIn 0 m 0 n f ≡ 0 → (r c : ℕ) → Inside 0 m 0 n r c → isScored (f r c) ≡ true
   unfolding fillsIn
   no-fill-there e r c h =
       let z : fill r c ≡ 0 = inside-each _+_ 0 sum-parts 0 m 0 n fill e r c h in
-      one-true (isStored (f r c)) (omega (arith, each-kind r c h .one))
+      one-true (isScored (f r c)) (omega (arith, each-kind r c h .one))
 
-  no-score-there : lowestIn 0 m 0 n f ≡ None → storedIn m n f ≡ 0
-  unfolding lowestIn storedIn
+  no-score-there : lowestIn 0 m 0 n f ≡ None → scoredIn m n f ≡ 0
+  unfolding lowestIn scoredIn
   no-score-there e = inside-none _+_ 0 sums 0 m 0 n stored (λ r c h. each-kind r c h .no-score (inside-each lesser None lesser-parts 0 m 0 n _ e r c h))
 
-  none-stored : storedIn m n f ≡ 0 → lowestIn 0 m 0 n f ≡ None
-  unfolding lowestIn storedIn
+  none-stored : scoredIn m n f ≡ 0 → lowestIn 0 m 0 n f ≡ None
+  unfolding lowestIn scoredIn
   none-stored e = inside-none lesser None scores 0 m 0 n _ (λ r c h. each-kind r c h .fill-none (inside-each _+_ 0 sum-parts 0 m 0 n stored e r c h))
 
-  all-stored : ((r c : ℕ) → r < m → c < n → isStored (f r c) ≡ true) → fillsIn 0 m 0 n f ≡ 0
+  all-stored : ((r c : ℕ) → r < m → c < n → isScored (f r c) ≡ true) → fillsIn 0 m 0 n f ≡ 0
   unfolding fillsIn
   all-stored e =
       inside-none _+_ 0 sums 0 m 0 n fill
@@ -243,7 +256,7 @@ module _ (rule : Rule) (m n : ℕ) (f : ℕ → ℕ → Cell) (a : refusalIn 0 m
       (z, grade-is (fillsIn 0 m 0 n f) _ z .1 e)
 
   all-certain :
-      ((r c : ℕ) → r < m → c < n → (isStored (f r c) ≡ true) × (scoreWithin rule (scoreOf (f r c)) ≡ true)) → gradeBy rule 0 m 0 n f ≡ Certain
+      ((r c : ℕ) → r < m → c < n → (isScored (f r c) ≡ true) × (scoreWithin rule (scoreOf (f r c)) ≡ true)) → gradeBy rule 0 m 0 n f ≡ Certain
   unfolding gradeBy
   all-certain e = sym (grade-certain _ _ (all-stored (λ r c h k. e r c h k .0)) (all-within (λ r c h k. e r c h k .1)))
 
@@ -345,9 +358,17 @@ rule-of-page s ci e row column rows columns u g k l q = deed-ruled s ci e row co
 
 -- a score from a mark to a scale is one by its bits
 
-stored-kind : (x : Cell) → isStored x ≡ true → (cellKind x ≡ 32) ⊎ (cellKind x ≡ 34)
+scored-stored : (x : Cell) → isScored x ≡ true → isStored x ≡ true
+unfolding isScored
+scored-stored x e = go (isStored x) e
+  where
+    go : (b : Bool) → pick b (not (minusOne x)) false ≡ true → b ≡ true
+    go true e = refl
+    go false e = e
+
+stored-kind : (x : Cell) → isScored x ≡ true → (cellKind x ≡ 32) ⊎ (cellKind x ≡ 34)
 unfolding isStored
-stored-kind x e = go (cellKind x) e (eqb (cellKind x) 32) refl
+stored-kind x e = go (cellKind x) (scored-stored x e) (eqb (cellKind x) 32) refl
   where
     go : (n : ℕ) → pick (eqb n 32) true (eqb n 34) ≡ true → (b : Bool) → eqb n 32 ≡ b → (n ≡ 32) ⊎ (n ≡ 34)
     go n e true f = inl (eqb-true n 32 f)
@@ -374,7 +395,7 @@ module _ (mark scale : ℕ) where
       let v : leZ (pos n) (pos scale) ≡ true = rw (z, toZ-pos w16 l) at (y .1 .0) in
       (leb-true mark n u, leb-true n scale v))
 
-  certain-cell : (x : Cell) → cellBits x < 65536 → (isStored x ≡ true) × (scoreWithin (fromTo mark scale) (scoreOf x) ≡ true) → CertainCell mark scale x
+  certain-cell : (x : Cell) → cellBits x < 65536 → (isScored x ≡ true) × (scoreWithin (fromTo mark scale) (scoreOf x) ≡ true) → CertainCell mark scale x
   unfolding scoreOf
   certain-cell x h e =
       let w : scoreWithin (fromTo mark scale) (Score (toZ w16 (cellBits x % 65536))) ≡ true = rw (e .0) at (e .1) in
@@ -389,9 +410,13 @@ module _ (mark scale : ℕ) where
         let l : n < 32768 = omega arith in
         rw (z, toZ-pos w16 l) (sym (yes (is (leZ (pos mark) (pos n)) ∷ is (leZ (pos n) (pos scale)) ∷ []) (le-leb mark n h, (le-leb n scale k, tt))))
 
-    cell-certain : (x : Cell) → CertainCell mark scale x → (isStored x ≡ true) × (scoreWithin (fromTo mark scale) (scoreOf x) ≡ true)
+    kind-scored : (x : Cell) → (cellKind x ≡ 32) ⊎ (cellKind x ≡ 34) → cellBits x ≤ scale → isScored x ≡ true
+    unfolding isScored minusOne
+    kind-scored x e k = rw (kind-stored x e, ← no ((cellBits x % 65536 ≡? 65535) ∷ []) (λ h. absurd (omega (arith, h .0))))
+
+    cell-certain : (x : Cell) → CertainCell mark scale x → (isScored x ≡ true) × (scoreWithin (fromTo mark scale) (scoreOf x) ≡ true)
     unfolding scoreOf
-    cell-certain x c = let s = kind-stored x (c .stored) in (s, rw s (bits-certain (cellBits x) (c .from-mark) (c .to-scale)))
+    cell-certain x c = let s = kind-scored x (c .stored) (c .to-scale) in (s, rw s (bits-certain (cellBits x) (c .from-mark) (c .to-scale)))
 
   -- either rule's scale is the score of a Short
   scale-small : (x : Said) → ((x ≡ First) × (fromTo mark scale ≡ firstRule)) ⊎ ((x ≡ Second) × (fromTo mark scale ≡ secondRule)) → scale < 32768

@@ -19,7 +19,7 @@ use Rattle.deeds.specs.declared.Rule.{Rule}
 use Rattle.deeds.specs.declared.Lowest.{Lowest}
 use Rattle.deeds.specs.declared.Lowest.the-variants.{None}
 use Rattle.deeds.specs.declared.tally.Tally.{Tally}
-use Rattle.deeds.specs.Deeds.{isFill, scoreOf, fillsIn, lesser, lowestIn, scoreWithin, certainBy}
+use Rattle.deeds.specs.Deeds.{countsAsFill, scoreOf, fillsIn, lesser, lowestIn, scoreWithin, certainBy}
 use Rattle.deeds.specs.Tallies.{fillTally, cellTally, joinTally, tallyIn, tallyPassed}
 use Rattle.deeds.proofs.ScoreLaws.{scores, lesser-comm, truths, both-comm, kind-fill, fill-no-score}
 
@@ -67,8 +67,8 @@ module _ (top bottom left right : ℕ) (f : ℕ → ℕ → Cell) where
   pub fills-few : fillsIn top bottom left right f ≤ (bottom - top) * (right - left)
   unfolding fillsIn
   fills-few =
-      let p = inside-both _+_ 0 sums (λ x y. omega arith) top bottom left right (λ r c. pick (isFill (f r c)) 1 0) (λ r c. pick (isFill (f r c)) 0 1) in
-      let q = inside-ones top bottom left right (λ r c. pick (isFill (f r c)) 1 0 + pick (isFill (f r c)) 0 1) (λ r c h. one-of (isFill (f r c))) in
+      let p = inside-both _+_ 0 sums (λ x y. omega arith) top bottom left right (λ r c. pick (countsAsFill (f r c)) 1 0) (λ r c. pick (countsAsFill (f r c)) 0 1) in
+      let q = inside-ones top bottom left right (λ r c. pick (countsAsFill (f r c)) 1 0 + pick (countsAsFill (f r c)) 0 1) (λ r c h. one-of (countsAsFill (f r c))) in
       omega arith
 
 pub tally-few :
@@ -152,14 +152,14 @@ unfolding fillsIn certainBy lowestIn scoreWithin
 tally-all-fill rule f top bottom left right t e h =
     e
     ∙ tally-same _ _
-    (sym (tally-fills rule top bottom left right f ∙ inside-ones top bottom left right _ (λ r c k. rw (← kind-fill (f r c) _ refl (h r c k)))))
+    (sym (tally-fills rule top bottom left right f ∙ inside-ones top bottom left right _ (λ r c k. rw (← kind-fill (f r c) (h r c k)))))
     (sym (tally-certain rule top bottom left right f ∙ inside-none both true truths top bottom left right _ (λ r c k. rw (fill-no-score (f r c) (h r c k)))))
     (sym (tally-lowest rule top bottom left right f ∙ inside-none lesser None scores top bottom left right _ (λ r c k. fill-no-score (f r c) (h r c k))))
 
 -- a cell's count, and two counts together, as the functions below give them
 
 pub tally-cell-is :
-    (rule : Rule) (x : Cell) (n : ℕ) (b : Bool) (y : Lowest) → n ≡ pick (isFill x) 1 0 → y ≡ scoreOf x → b ≡ scoreWithin rule y →
+    (rule : Rule) (x : Cell) (n : ℕ) (b : Bool) (y : Lowest) → n ≡ pick (countsAsFill x) 1 0 → y ≡ scoreOf x → b ≡ scoreWithin rule y →
     _≡_ {A = Tally} (record { fills = n; certain = b; lowest = y }) (cellTally rule x)
 unfolding cellTally
 tally-cell-is rule x n b y e f g = tally-same _ _ e (g ∙ ap (scoreWithin rule) f) f

@@ -5,7 +5,7 @@
 -- counted goes by the rows from `top` to below `bottom` and the columns from `left` to below `right`.
 use Prim.Native.Nat.{ℕ, _+_, _%_}
 use mathlib.Core.List.{List, [], _∷_}
-use mathlib.Core.Bool.{Bool, true}
+use mathlib.Core.Bool.{Bool, true, false, not}
 use lib.Dec.{eqb}
 use lib.IntN.{pos}
 use lib.Signed.{leZ}
@@ -40,13 +40,24 @@ isFill x = passes ((cellKind x ≡? 33) ∷ [])
 unfoldable pub isStored : Cell → Bool
 isStored x = pick (eqb (cellKind x) 32) true (eqb (cellKind x) 34)
 
--- the score of a stored cell is its Short's signed number, of 16 bits; a fill or a refused cell has none
+-- Req 13, "a stored -1": of 16 bits, whatever the element's fill is
+unfoldable pub minusOne : Cell → Bool
+minusOne x = passes ((cellBits x % 65536 ≡? 65535) ∷ [])
+
+-- Req 13, "counts a stored -1 as a fill cell, never a score, under both rules"
+unfoldable pub countsAsFill : Cell → Bool
+countsAsFill x = pick (isStored x) (minusOne x) (isFill x)
+
+unfoldable pub isScored : Cell → Bool
+isScored x = pick (isStored x) (not (minusOne x)) false
+
+-- the score of a stored cell is its Short's signed number, of 16 bits; a fill, a -1 or a refused cell has none
 unfoldable pub scoreOf : Cell → Lowest
-scoreOf x = pick (isStored x) (Score (toZ w16 (cellBits x % 65536))) None
+scoreOf x = pick (isScored x) (Score (toZ w16 (cellBits x % 65536))) None
 
 -- "the number of fill cells"
 unfoldable pub fillsIn : ℕ → ℕ → ℕ → ℕ → (ℕ → ℕ → Cell) → ℕ
-fillsIn top bottom left right f = foldInside _+_ 0 top bottom left right (λ r c. pick (isFill (f r c)) 1 0)
+fillsIn top bottom left right f = foldInside _+_ 0 top bottom left right (λ r c. pick (countsAsFill (f r c)) 1 0)
 
 -- "the lowest stored score, if any"
 unfoldable pub lesser : Lowest → Lowest → Lowest

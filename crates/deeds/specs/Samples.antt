@@ -47,7 +47,9 @@ sums =
     ∷ row 1 1 1 3 (64 ∷ 0 ∷ 1 ∷ 900 ∷ 1000 ∷ 0 ∷ [])
     ∷ row 0 0 3 2 (66 ∷ 2 ∷ 1 ∷ 900 ∷ 1000 ∷ 0 ∷ [])
     ∷ row 2 0 1 2 (66 ∷ 2 ∷ 0 ∷ 0 ∷ 1000 ∷ 0 ∷ [])
-    ∷ row 2 2 1 2 (65 ∷ 0 ∷ 1 ∷ 65535 ∷ 1000 ∷ 0 ∷ [])
+    ∷ row 2 2 1 2 (66 ∷ 1 ∷ 1 ∷ 1001 ∷ 1000 ∷ 0 ∷ [])
+    ∷ row 0 0 3 4 (66 ∷ 3 ∷ 1 ∷ 899 ∷ 1000 ∷ 0 ∷ [])
+    ∷ row 2 2 1 1 (66 ∷ 1 ∷ 0 ∷ 0 ∷ 1000 ∷ 0 ∷ [])
     ∷ []
 
 -- 2 by 2 cells, each in a tile of its own: tiles 1 and 2 are compressed, their records at 456 and 432, and tile 3 is absent
@@ -76,7 +78,8 @@ pub record Edition : Type 0 where
 abbrev edition : Said → Cell → Cell → List ℕ → Edition
 edition rule a b l = record { rule = rule; cells = a ∷ b ∷ []; says = l }
 
--- a row of two cells: the same scores by either rule, one step off each end of the second, a score of 950, a fill, a compressed cell
+-- a row of two cells: the same scores by either rule, one step off each end of the second, a score of 950, a fill, -1 (Req 13) and -2, a
+-- compressed cell
 abbrev pub editions : List Edition
 editions =
     edition First (score (pos 9500)) (score (pos 10000)) (65 ∷ 0 ∷ 1 ∷ 9500 ∷ 1000 ∷ 0 ∷ [])
@@ -87,6 +90,8 @@ editions =
     ∷ edition Second (score (pos 950)) (score (pos 950)) (65 ∷ 0 ∷ 1 ∷ 950 ∷ 10000 ∷ 0 ∷ [])
     ∷ edition First (score (pos 950)) (score (pos 950)) (64 ∷ 0 ∷ 1 ∷ 950 ∷ 1000 ∷ 0 ∷ [])
     ∷ edition Second fill (score (pos 9600)) (66 ∷ 1 ∷ 1 ∷ 9600 ∷ 10000 ∷ 0 ∷ [])
+    ∷ edition Second (score (negsuc 0)) (score (pos 9600)) (66 ∷ 1 ∷ 1 ∷ 9600 ∷ 10000 ∷ 0 ∷ [])
+    ∷ edition Second (score (negsuc 1)) (score (pos 9600)) (65 ∷ 0 ∷ 1 ∷ 65534 ∷ 10000 ∷ 0 ∷ [])
     ∷ edition Second (Refused (Compressed 432)) (score (pos 9600)) (11 ∷ 0 ∷ 0 ∷ 0 ∷ 0 ∷ 432 ∷ [])
     ∷ edition Wrong (Refused (Compressed 432)) (score (pos 9600)) (12 ∷ 0 ∷ 0 ∷ 0 ∷ 0 ∷ 0 ∷ [])
     ∷ []

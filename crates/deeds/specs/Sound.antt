@@ -23,21 +23,21 @@ use Rattle.deeds.specs.declared.Grade.the-variants.{Certain, Unread}
 use Rattle.deeds.specs.declared.Lowest.{Lowest}
 use Rattle.deeds.specs.declared.Lowest.the-variants.{Score, None}
 use Rattle.deeds.specs.declared.Deed.the-variants.{Graded, Refused}
-use Rattle.deeds.specs.Deeds.{isStored, scoreOf, scoreWithin, fromTo, firstRule, secondRule, deedBy, cellsOf, deed, hasLowest}
+use Rattle.deeds.specs.Deeds.{countsAsFill, isScored, scoreOf, scoreWithin, fromTo, firstRule, secondRule, deedBy, cellsOf, deed, hasLowest}
 
--- how many cells are stored or unpacked
-unfoldable pub storedIn : ℕ → ℕ → (ℕ → ℕ → Cell) → ℕ
-storedIn m n f = foldInside _+_ 0 0 m 0 n (λ r c. pick (isStored (f r c)) 1 0)
+-- how many cells have a score
+unfoldable pub scoredIn : ℕ → ℕ → (ℕ → ℕ → Cell) → ℕ
+scoredIn m n f = foldInside _+_ 0 0 m 0 n (λ r c. pick (isScored (f r c)) 1 0)
 
 -- m rows and n columns of cells, and their grade, number of fills and lowest score
 pub record Sound (rule : Rule) (m n : ℕ) (f : ℕ → ℕ → Cell) (grade : Grade) (fills : ℕ) (lowest : Lowest) : Type 0 where
   -- no cell is refused
   pub none-refused : (r c : ℕ) → r < m → c < n → cellVerdict (f r c) ≡ verdict.Accepted
-  -- each is a fill or stored, and all are counted
-  pub counted : fills + storedIn m n f ≡ m * n
-  -- unread exactly if some cell is a fill
-  pub fill-unread : (r c : ℕ) → r < m → c < n → cellKind (f r c) ≡ 33 → grade ≡ Unread
-  pub unread-fill : grade ≡ Unread → (r : ℕ) × (c : ℕ) × ((r < m) × (c < n)) × (cellKind (f r c) ≡ 33)
+  -- each counts as a fill or has a score, and all are counted
+  pub counted : fills + scoredIn m n f ≡ m * n
+  -- unread exactly if some cell counts as a fill
+  pub fill-unread : (r c : ℕ) → r < m → c < n → countsAsFill (f r c) ≡ true → grade ≡ Unread
+  pub unread-fill : grade ≡ Unread → (r : ℕ) × (c : ℕ) × ((r < m) × (c < n)) × (countsAsFill (f r c) ≡ true)
   -- which is where any is counted; so certain and doubtful have none
   pub any-fill : 1 ≤ fills → grade ≡ Unread
   pub no-fill : (grade ≡ Unread → ⊥) → fills ≡ 0
@@ -46,13 +46,13 @@ pub record Sound (rule : Rule) (m n : ℕ) (f : ℕ → ℕ → Cell) (grade : G
   -- which no cell's score is below, and which is one cell's
   pub least : (r c : ℕ) → r < m → c < n → (a z : ℤ) → lowest ≡ Score a → scoreOf (f r c) ≡ Score z → leZ a z ≡ true
   pub found : hasLowest lowest ≡ 1 → (r : ℕ) × (c : ℕ) × ((r < m) × (c < n)) × (scoreOf (f r c) ≡ lowest)
-  -- there is none exactly if every cell is a fill
+  -- there is none exactly if every cell counts as a fill
   pub no-score : lowest ≡ None → fills ≡ m * n
   pub all-fill : fills ≡ m * n → lowest ≡ None
-  -- certain exactly if each cell is stored, and its score is from the mark to the scale
-  pub certain : grade ≡ Certain → (r c : ℕ) → r < m → c < n → (isStored (f r c) ≡ true) × (scoreWithin rule (scoreOf (f r c)) ≡ true)
+  -- certain exactly if each cell has a score, and its score is from the mark to the scale
+  pub certain : grade ≡ Certain → (r c : ℕ) → r < m → c < n → (isScored (f r c) ≡ true) × (scoreWithin rule (scoreOf (f r c)) ≡ true)
   pub each-certain :
-      ((r c : ℕ) → r < m → c < n → (isStored (f r c) ≡ true) × (scoreWithin rule (scoreOf (f r c)) ≡ true)) → grade ≡ Certain
+      ((r c : ℕ) → r < m → c < n → (isScored (f r c) ≡ true) × (scoreWithin rule (scoreOf (f r c)) ≡ true)) → grade ≡ Certain
 
 -- by any rule, of which the answer has a copy
 abbrev pub GradedSound : Type 0

@@ -17,7 +17,7 @@ use Rattle.deeds.specs.declared.Lowest.the-variants.{None}
 use Rattle.deeds.specs.declared.tally.Tally.{Tally}
 use Rattle.deeds.specs.declared.pieces.Judged.{Judged}
 use Rattle.deeds.specs.declared.pieces.Judged.the-variants.{Tallied, Refused}
-use Rattle.deeds.specs.Deeds.{isFill, scoreOf, lesser, scoreWithin, refusalIn}
+use Rattle.deeds.specs.Deeds.{countsAsFill, scoreOf, lesser, scoreWithin, refusalIn}
 
 -- n fill cells and no other
 abbrev pub fillTally : ℕ → Tally
@@ -25,7 +25,7 @@ fillTally n = record { fills = n; certain = true; lowest = None }
 
 -- one cell
 unfoldable pub cellTally : Rule → Cell → Tally
-cellTally rule x = record { fills = pick (isFill x) 1 0; certain = scoreWithin rule (scoreOf x); lowest = scoreOf x }
+cellTally rule x = record { fills = pick (countsAsFill x) 1 0; certain = scoreWithin rule (scoreOf x); lowest = scoreOf x }
 
 -- two counts together
 unfoldable pub joinTally : Tally → Tally → Tally

@@ -11,7 +11,7 @@ ghost use Rattle.wire.specs.Pick.{pick};
 ghost use Rattle.wire.specs.Tests as tests;
 ghost use Rattle.answer.specs.Answers.{cellBits};
 ghost use Rattle.deeds.specs.Deeds as deeds;
-ghost use Rattle.deeds.specs.Deeds.{isFill, scoreOf, scoreWithin};
+ghost use Rattle.deeds.specs.Deeds.{isStored, minusOne, countsAsFill, scoreOf, scoreWithin};
 ghost use Rattle.deeds.specs.Tallies.{fillTally, cellTally, joinTally};
 
 pub(crate) struct Tally {
@@ -38,23 +38,47 @@ fn signed_score(x: Cell) -> i16
     answer::signed_16((answer::cell_bits(x) % 65536) as u16)
 }
 
-// The score of a stored or unpacked cell; a fill has none.
-fn score_of(x: Cell) -> Lowest
-    ensures { λ r. ⌜ r ≡ scoreOf x ⌝ }
+// Whether a cell is stored or unpacked.
+fn is_stored(x: Cell) -> bool
+    ensures { λ r. ⌜ r ≡ isStored x ⌝ }
 {
     let kind = answer::cell_kind(x);
     if kind == 32 {
-        return Lowest::Score(signed_score(x));
+        return true;
     }
-    if kind == 34 {
+    kind == 34
+}
+
+// Whether its 16 bits are those of -1.
+fn is_minus_one(x: Cell) -> bool
+    ensures { λ r. ⌜ r ≡ minusOne x ⌝ }
+{
+    answer::cell_bits(x) % 65536 == 65535
+}
+
+// The score of a stored or unpacked cell; a fill or a -1 has none.
+fn score_of(x: Cell) -> Lowest
+    ensures { λ r. ⌜ r ≡ scoreOf x ⌝ }
+{
+    if is_stored(x) {
+        if is_minus_one(x) {
+            return Lowest::None;
+        }
         return Lowest::Score(signed_score(x));
     }
     Lowest::None
 }
 
+// 1 of a fill, and of a stored -1.
 fn fill_count(x: Cell) -> u64
-    ensures { λ r. ⌜ r ≡ pick (isFill x) 1 0 ⌝ }
+    ensures { λ r. ⌜ r ≡ pick (countsAsFill x) 1 0 ⌝ }
 {
+    if is_stored(x) {
+        if is_minus_one(x) {
+            return 1;
+        }
+        return 0;
+    }
     if answer::cell_kind(x) == 33 {
         return 1;
     }

@@ -1,5 +1,5 @@
 -- `deeds::tally::fill_count` meets its contract. Assumes nothing.
-use Rattle.deeds.proofs.ScoreLaws.{kind-fill, kind-not-fill}
+use Rattle.deeds.proofs.ScoreLaws.{counts-stored, counts-score, counts-kind, counts-none}
 use borrow.Author.Needs.{needs}
 use Rattle.deeds.proofs.tally.fill_count.Statement.{statement}
 use Rattle.deeds.proofs.tally.fill_count.Tie as tie
@@ -9,5 +9,9 @@ fill-count-spec =
     tie.close
     (tie.spec
     (λ c κs. search needs)
-    (λ c. rw (← kind-fill _ _ (c .before .cell-kind .ensures) (c .if1 .taken)))
-    (λ c. rw (← kind-not-fill _ _ (c .before .cell-kind .ensures) (c .if1 .left))))
+    (λ c κs. search needs)
+    (λ c. counts-stored _ _ _ (c .before .before .before .is-stored .ensures) (c .before .is-minus-one .ensures) (c .before .before .if1 .taken) (c .if2 .taken))
+    (λ c. counts-score _ _ _ (c .before .before .before .is-stored .ensures) (c .before .is-minus-one .ensures) (c .before .before .if1 .taken) (c .if2 .left))
+    (λ c κs. search needs)
+    (λ c. counts-kind _ _ (c .before .cell-kind .ensures) _ (c .before .before .before .is-stored .ensures) (c .before .before .if1 .left) (c .if3 .taken))
+    (λ c. counts-none _ _ (c .before .cell-kind .ensures) _ (c .before .before .before .is-stored .ensures) (c .before .before .if1 .left) (c .if3 .left)))

@@ -1,5 +1,5 @@
 -- `deeds::tally::score_of` meets its contract. Assumes nothing.
-use Rattle.deeds.proofs.ScoreLaws.{score-stored, score-unpacked, score-none}
+use Rattle.deeds.proofs.ScoreLaws.{score-minus, score-stored, score-none}
 use borrow.Author.Needs.{needs}
 use Rattle.deeds.proofs.tally.score_of.Statement.{statement}
 use Rattle.deeds.proofs.tally.score_of.Tie as tie
@@ -10,7 +10,7 @@ score-of-spec =
     (tie.spec
     (λ c κs. search needs)
     (λ c κs. search needs)
-    (λ c. score-stored _ _ (c .before .before .cell-kind .ensures) _ (c .before .if1 .taken) (c .signed-score .ensures))
+    (λ c. score-minus _ _ _ (c .before .before .before .is-stored .ensures) (c .before .is-minus-one .ensures) (c .before .before .if1 .taken) (c .if2 .taken))
     (λ c κs. search needs)
-    (λ c. score-unpacked _ _ (c .before .before .before .cell-kind .ensures) _ (c .before .before .if1 .left) (c .before .if2 .taken) (c .signed-score2 .ensures))
-    (λ c. score-none _ _ (c .before .before .cell-kind .ensures) (c .before .if1 .left) (c .if2 .left)))
+    (λ c. score-stored _ _ _ (c .before .before .before .before .is-stored .ensures) (c .before .before .is-minus-one .ensures) (c .before .before .before .if1 .taken) (c .before .if2 .left) _ (c .signed-score .ensures))
+    (λ c. score-none _ _ (c .before .is-stored .ensures) (c .if1 .left)))
