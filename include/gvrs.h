@@ -1,12 +1,13 @@
 /* Gridfour Virtual Raster Store files, version 1.4: the check of a file, whole or in two halves, what a page is, reads of its cells,
    compressed ones too, whether its scores are certain, in which cells two pages differ, M32 codes, its elements by their names, the
-   laying down of a new one, the correcting of one where it lies, and the listing of a file.
+   laying down of a new one, score sheets moved in and out, the correcting of one where it lies, and the listing of a file.
 
    Link with libgvrs_c.a, which `rt staticlib gvrs_c` writes to target/staticlib/. A file is the bytes of the whole file, n of
    them, but for gvrs_check_start. `out` takes the numbers that a function names, in their order; a shorter one takes those that
-   fit, and the answer is the same. A lay-down also writes the buffer that it is given for the file, a correction the one that the page
-   lies in, a listing the buffer for its text, an unpacking that for the cells, gvrs_cells those for kinds and bits, gvrs_compare its
-   list, M32 those for bytes and numbers; gvrs_cells, gvrs_deed and gvrs_compare the memory lent to them. Nothing else is written.
+   fit, and the answer is the same. A lay-down also writes the buffer that it is given for the file, and so does a move of a score sheet,
+   out of a page that for the sheet; a correction the one that the page lies in, a listing the buffer for its text, an unpacking that for
+   the cells, gvrs_cells those for kinds and bits, gvrs_compare its list, M32 those for bytes and numbers; gvrs_cells, gvrs_deed,
+   gvrs_compare and gvrs_sheet_out the memory lent to them. Nothing else is written.
 
    The caller sees to it that each pointer is that of as many elements as are named, and that none is null, also where it names
    none; that what is written (`out`, the buffers and the memory) overlaps nothing else that is passed; that numbers of 32 bits are
@@ -23,7 +24,7 @@ extern "C" {
 
 /* What a function answers: a refusal's number, or what it found. */
 enum {
-    GVRS_ACCEPTED = 0,     /* the file is accepted, the page is laid down or corrected, the page, the element or the rectangle is there */
+    GVRS_ACCEPTED = 0,     /* the file is accepted; the page is laid down, moved out or corrected; the page, the element or the rectangle is there */
     GVRS_NOT_GVRS = 1,     /* fewer than 16 bytes, or the first twelve differ */
     GVRS_VERSION = 2,      /* not version 1.4 */
     GVRS_HEADER = 3,       /* header record at fault: also a name or a text, as gvrs_is_identifier and gvrs_is_utf8 say */
@@ -35,18 +36,18 @@ enum {
     GVRS_DIRECTORY = 9,    /* directory at fault */
     GVRS_OUTSIDE = 10,     /* row, column, element, tile or rectangle asked for, or tile to correct, not in the grid */
     GVRS_COMPRESSED = 11,  /* content asked for is compressed; of a cell: and not of the compressor index named, or of a Float */
-    GVRS_INPUT = 12,       /* input wrong: of a lay-down, a correction or a deed, or more first bytes than the stated length; of a
+    GVRS_INPUT = 12,       /* input wrong: of a lay-down, a score sheet, a correction or a deed, or more first bytes than the stated length; of a
                               comparison, two pages that differ in grid, tile sides or element types */
-    GVRS_ROOM = 13,        /* lay-down output, a page's buffer for a correction, or one for the cells of a rectangle, too short */
+    GVRS_ROOM = 13,        /* lay-down output, a score sheet's buffer, a page's for a correction, or one for the cells of a rectangle, too short */
     GVRS_MALFORMED = 14,   /* compressed content malformed, or a Short in it out of range */
     GVRS_NOT_OPEN = 15,    /* no page that is open for writing */
     GVRS_INCOMPLETE = 16,  /* a byte that a stage needs is not given */
     GVRS_STORED = 32,      /* the cell is stored, the content is present, the name is found */
     GVRS_FILL = 33,        /* the cell is fill, the tile is absent, no element has the name */
     GVRS_UNPACKED = 34,    /* the cell comes out of compressed content */
-    GVRS_CERTAIN = 64,     /* no cell is fill, and every score is from 900 to 1000, or by the second rule from 9500 to 10000 */
-    GVRS_DOUBTFUL = 65,    /* no cell is fill, and some score is not */
-    GVRS_UNREAD = 66       /* some cell is fill */
+    GVRS_CERTAIN = 64,     /* no cell is fill or -1, and every score is from 900 to 1000, or by the second rule from 9500 to 10000 */
+    GVRS_DOUBTFUL = 65,    /* no cell is fill or -1, and some score is not */
+    GVRS_UNREAD = 66       /* some cell is fill or -1 */
 };
 
 /* A refusal in words, by its number; README.md's table of refusals says more of each. Of any other number `no refusal`. */
@@ -152,8 +153,9 @@ uint32_t gvrs_cells(const uint8_t *file, uint64_t n, uint32_t compressor, uint64
    66 unread. out[0] is the number of fill cells; out[1] is 1 where there is a lowest stored score, else 0; out[2] is that score's 16
    bits, as gvrs_cell gives a Short's, else 0; out[3] is the scale, 1000 or 10000: of 1000, scores are certain from 900 to 1000, of
    10000 from 9500 to 10000. The page says the second by a metadata record named score_rule with record ID 2, the first by one with ID
-   1, or by none. A stored cell's number is its score, signed, whatever it is, also where it is the fill value; an unpacked cell counts
-   as stored; a fill has no score, whatever its value is. Else the refusal's number, out[0] is its place, and out[1] to out[3] are 0.
+   1, or by none. A stored cell's number is its score, signed, also where it is the fill value; but -1 is unread, and a cell that has it
+   counts as a fill and has no score. An unpacked cell counts as stored; a fill has no score, whatever its value is. Else the refusal's
+   number, out[0] is its place, and out[1] to out[3] are 0.
    Refused, in this order: as by gvrs_check; 10 as by gvrs_cells; 12, at 0, where rows or columns is 0, the element is no Short, or
    metadata records named score_rule have any other ID, or both; 11 or 14 where a cell of the rectangle has it, of the first by rows.
 
@@ -205,6 +207,33 @@ uint32_t gvrs_content(const uint8_t *file, uint64_t n, uint64_t tile, uint64_t e
    named in indexes is stored in it with the bytes given, every other grid cell is fill. Refused, the whole buffer is as it was. */
 uint32_t gvrs_lay_down(const uint8_t *front, uint64_t front_n, uint64_t time, const uint32_t *indexes, uint64_t indexes_n,
                        const uint8_t *cells, uint64_t cells_n, uint8_t *file, uint64_t file_n, uint64_t *out, uint64_t out_n);
+
+/* A score sheet is bytes, each number with its highest byte first: four of the length of all that follows, a version byte 1, two each of
+   rows and columns, at least 1, then two of each score by rows: -1 for unread, else 0 to 1000.
+
+   Moves a sheet into a page: 0 done, and out[0] is the file's length; else the refusal's number, and out[0] is its place, 0. front and
+   time are as for gvrs_lay_down. Refused, in this order: 1 to 4 of the front; 12 where the sheet is not as above, where the front has not
+   the sheet's rows and columns for its grid, or where it has not one element only, a Short, with the fill value -1; 12 where the time is
+   zero; 4 where the file would be longer than 16,777,216 bytes; 13 where file_n is less than the file's length.
+
+   Done, the buffer holds the file that gvrs_lay_down would make of the tiles that have a score: a tile all -1 is not stored, and what a
+   tile holds past the grid is -1. The bytes behind it are as they were. Refused, the whole buffer is as it was. */
+uint32_t gvrs_sheet_in(const uint8_t *front, uint64_t front_n, uint64_t time, const uint8_t *sheet, uint64_t sheet_n,
+                       uint8_t *file, uint64_t file_n, uint64_t *out, uint64_t out_n);
+
+/* Moves a page out to a score sheet: 0 done, and out[0] is the sheet's length, 9 + 2 * rows * columns of the grid; else the refusal's
+   number, and out[0] is its place. Refused, in this order: as by gvrs_check; 12, at 0, where the page has not one element only, a Short,
+   where its fill value is not -1, where its metadata records named score_rule do not say the first rule, where a side of the grid is more
+   than 65,535, or where the length would not fit its four bytes; then the first cell of the grid by rows that has 11 or 14 with that
+   compressor index, or 12, at 0, where its number is neither -1 nor from 0 to 1000; then 13, at 0, where sheet_n is less than the sheet's
+   length. Done, the bytes behind the sheet are as they were; refused, the whole buffer is as it was.
+
+   A sheet that gvrs_sheet_in takes comes back byte for byte. A page that is moved out and in again, with its own front, has the same cells
+   in the grid; but tiles whose cells there are all -1 are not stored, packed tiles are stored plain, and metadata is lost.
+
+   memory as for gvrs_cells: 524,288 numbers let every tile be unpacked twice at most; fewer, or none, cost time and change no answer. */
+uint32_t gvrs_sheet_out(const uint8_t *file, uint64_t n, uint32_t compressor, uint32_t *memory, uint64_t memory_n,
+                        uint8_t *sheet, uint64_t sheet_n, uint64_t *out, uint64_t out_n);
 
 /* A page is corrected where it lies: opened, its tiles stored or removed one by one, closed. file is a buffer of file_n bytes, of which
    the first n are the page; each call is given the length that the last one answered.

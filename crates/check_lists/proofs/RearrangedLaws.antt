@@ -1,18 +1,18 @@
 -- A list names each record once, and nothing else, just where it is a rearrangement of the records. Assumes nothing.
 use Prim.Native.Nat.{ℕ, zero, suc, _+_, _≤_, _<_}
 use mathlib.Core.Path.{_≡_, refl, sym, ap, _∙_}
-use mathlib.Core.List.{List, [], _∷_, _++_, map, map-append, append-nil, List·Memᴰ, List·Memᴰ·head, List·Memᴰ·tail, List·Memᴰ·not-nil, List·Memᴰ·cases-cons, List·Memᴰ·append-cases, Memᴰ·append-left, Memᴰ·append-right, List·Memᴰ·eq-of-singleton}
+use mathlib.Core.List.{List, [], _∷_, _++_, map, map-append, append-nil, List·Memᴰ, List·Memᴰ·head, List·Memᴰ·tail, List·Memᴰ·not-nil, List·Memᴰ·cases-cons, List·Memᴰ·append-cases, Memᴰ·append-left, Memᴰ·append-right}
 use mathlib.Core.Logic.{_⊎_, inl, inr, ⊎-elim}
 use mathlib.Core.Bool.{Bool, true, false}
 use native.Mathlib.Omega.{arith}
-use lib.Dec.{eqb}
-use borrow.Author.Tests.{eqb-true, eqb-false, eq-eqb}
+use borrow.Author.Tests.{eqb-true, eq-eqb}
 use Rattle.wire.proofs.TestLaws.{means, yes, no-true, not-both, below-each, below-all}
 use Rattle.wire.proofs.ByteLaws.{same-is, is-same}
 use Rattle.record.proofs.FindLaws.{records-behind}
 use Rattle.record.specs.Chain.{recordsOf}
 use Rattle.wire.specs.Lists.{below, oneIf, countBelow}
 use Rattle.wire.proofs.ListLaws.{Behind, every-member, member-every, some-member, member-some}
+use Rattle.wire.proofs.RunLaws.{member-below, below-member}
 use Rattle.check_lists.specs.declared.ListKind.the-variants.{FreeSpace, Metadata}
 use Rattle.check_lists.specs.Listed.{listedOnce, nothingElse}
 use Rattle.check_lists.specs.FileSpace.{freeEntryOf, freeEntryIs, freeListed, freeOnly}
@@ -36,22 +36,6 @@ member-behind : (a : ℕ) (l : List ℕ) → Behind a l → {x : ℕ} → List·
 member-behind a [] i m = absurd (List·Memᴰ·not-nil m)
 member-behind a (y ∷ ys) i m =
     ⊎-elim (λ e. omega (arith, i .0)) (λ n. let h = member-behind (y + 1) ys (i .1) n in omega (arith, i .0)) (List·Memᴰ·cases-cons m)
-
-member-below : (n : ℕ) {k : ℕ} → List·Memᴰ k (below n) → k < n
-unfolding below
-member-below zero m = absurd (List·Memᴰ·not-nil m)
-member-below (suc n) m =
-    ⊎-elim (λ h. let i = member-below n h in omega arith) (λ h. let i = List·Memᴰ·eq-of-singleton h in omega arith)
-    (List·Memᴰ·append-cases (below n) m)
-
-below-member : (n k : ℕ) → k < n → List·Memᴰ k (below n)
-unfolding below
-below-member zero k h = absurd (omega arith)
-below-member (suc n) k h = go (eqb k n) refl (below-member n k)
-  where
-    go : (b : Bool) → eqb k n ≡ b → (k < n → List·Memᴰ k (below n)) → List·Memᴰ k (below n ++ (n ∷ []))
-    go true e r = Memᴰ·append-right (below n) (List·Memᴰ·head (eqb-true k n e))
-    go false e r = let f = eqb-false k n e in Memᴰ·append-left _ (r (omega arith))
 
 -- how many of a list p holds of
 

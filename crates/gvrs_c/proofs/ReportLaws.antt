@@ -19,7 +19,7 @@ use Rattle.answer.specs.declared.Content.{Content}
 use Rattle.answer.specs.declared.Held.{Held}
 use Rattle.answer.specs.declared.Laid.{Laid}
 use Rattle.answer.specs.Refusals.{verdictNumber, verdictPlace}
-use Rattle.answer.specs.Answers.{cellKind, cellType, cellBits, cellPlace, contentKind, contentPlace, contentLength, heldKind, heldPlace, laidNumber, answerTile, answerInside}
+use Rattle.answer.specs.Answers.{cellKind, cellType, cellBits, cellPlace, contentKind, contentPlace, contentLength, heldKind, heldPlace, laidNumber, written, answerTile, answerInside}
 use Rattle.check_header.specs.Start.{checkStart, needed}
 use Rattle.page_check.specs.Stages.{check}
 use Rattle.cells.specs.Reads.{readByDirectory, readByWalk, readByRecords, readMeaning, recordsMeaning}
@@ -162,6 +162,12 @@ pub laid-handed :
     (o p f g : List ℕ) (x y : Laid) (n : ℕ) → x ≡ y → f ≡ g → n ≡ laidNumber x → p ≡ reported (laidReport x ∷ []) o →
     (n ≡ laidNumber y) × ((p ≡ reported (laidReport y ∷ []) o) × (f ≡ g))
 laid-handed o p f g x y n e h i j = (rw (← e) i, (rw (← e) j, h))
+
+-- the same, where the buffer is said by the answer
+pub moved-handed :
+    (o p f v b : List ℕ) (x y : Laid) (n : ℕ) → x ≡ y → f ≡ written x v b → n ≡ laidNumber x → p ≡ reported (laidReport x ∷ []) o →
+    (n ≡ laidNumber y) × ((p ≡ reported (laidReport y ∷ []) o) × (f ≡ written y v b))
+moved-handed o p f v b x y n e h i j = laid-handed o p f (written y v b) x y n e (h ∙ ap (λ (z : Laid). written z v b) e) i j
 
 -- and of a call that stops, with the number of stores
 pub stopped-handed :

@@ -4,6 +4,7 @@ mod correction;
 mod deed;
 mod description;
 mod rectangle;
+mod sheet;
 
 use answer::Cell;
 use answer::Held;

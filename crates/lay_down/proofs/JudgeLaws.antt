@@ -20,7 +20,7 @@ use Rattle.geometry.specs.Sizes.{cap, tileBytes, plainTileLength}
 use Rattle.check_header.specs.Stages.{checkFront}
 use Rattle.written_records.specs.Pieces.{recordLength}
 use Rattle.lay_down.specs.Page.{directoryStart, fileLength}
-use Rattle.lay_down.specs.Answer.{ascending, inputRight, lengthAllowed, fitsIn, inputVerdict, layDownVerdict}
+use Rattle.lay_down.specs.Answer.{ascending, inputRight, lengthAllowed, fitsIn, lengthVerdict, inputVerdict, layDownVerdict}
 use Rattle.lay_down.proofs.FrontLaws.{Front, front-of, tile-exact}
 use Rattle.lay_down.proofs.AscendLaws.{ascending-few}
 
@@ -58,24 +58,29 @@ pub length-is : (f ix : List ℕ) (n : ℕ) → n ≡ length f + length ix * pla
 unfolding fileLength directoryStart
 length-is f ix n e = e
 
+-- and what is judged of it
+module _ (f ix : List ℕ) (room n : ℕ) (e : n ≡ fileLength f ix) where
+  pub judged-ceiling : 16777216 < n → Refused Ceiling ≡ lengthVerdict f ix room
+  unfolding lengthVerdict gate lengthAllowed passes
+  judged-ceiling h = rw (lt-leb (fileLength f ix) 16777216 (omega arith))
+
+  pub judged-room : n ≤ 16777216 → room < n → Refused Room ≡ lengthVerdict f ix room
+  unfolding lengthVerdict gate lengthAllowed fitsIn passes
+  judged-room h k = rw (le-leb (fileLength f ix) 16777216 (omega arith), lt-leb (fileLength f ix) room (omega arith))
+
+  pub judged-done : n ≤ 16777216 → n ≤ room → Accepted ≡ lengthVerdict f ix room
+  unfolding lengthVerdict gate lengthAllowed fitsIn passes
+  judged-done h k = rw (le-leb (fileLength f ix) 16777216 (omega arith), le-leb (fileLength f ix) room (omega arith))
+
 -- behind the front
 module _ (f : List ℕ) (t : ℕ) (ix c : List ℕ) (room : ℕ) (b : Bool) (p : b ≡ inputRight f t ix c) where
   pub judged-input : b ≡ false → Refused Input ≡ inputVerdict f t ix c room
   unfolding inputVerdict gate
   judged-input q = rw (← p, q)
 
-  module _ (q : b ≡ true) (n : ℕ) (e : n ≡ fileLength f ix) where
-    pub judged-ceiling : 16777216 < n → Refused Ceiling ≡ inputVerdict f t ix c room
-    unfolding inputVerdict gate lengthAllowed passes
-    judged-ceiling h = rw (← p, q, lt-leb (fileLength f ix) 16777216 (omega arith))
-
-    pub judged-room : n ≤ 16777216 → room < n → Refused Room ≡ inputVerdict f t ix c room
-    unfolding inputVerdict gate lengthAllowed fitsIn passes
-    judged-room h k = rw (← p, q, le-leb (fileLength f ix) 16777216 (omega arith), lt-leb (fileLength f ix) room (omega arith))
-
-    pub judged-done : n ≤ 16777216 → n ≤ room → Accepted ≡ inputVerdict f t ix c room
-    unfolding inputVerdict gate lengthAllowed fitsIn passes
-    judged-done h k = rw (← p, q, le-leb (fileLength f ix) 16777216 (omega arith), le-leb (fileLength f ix) room (omega arith))
+  pub judged-length : (v : Verdict) → b ≡ true → v ≡ lengthVerdict f ix room → v ≡ inputVerdict f t ix c room
+  unfolding inputVerdict gate
+  judged-length v q e = rw (← p, q) e
 
 pub judged-front : (f : List ℕ) (t : ℕ) (ix c : List ℕ) (room : ℕ) (v : Verdict) (r : Refusal) → v ≡ checkFront f → v ≡ Refused r → Refused r ≡ layDownVerdict f t ix c room
 unfolding layDownVerdict unlessRefused
@@ -100,7 +105,7 @@ pub record Passed (f : List ℕ) (t : ℕ) (ix c : List ℕ) (room : ℕ) : Type
   pub long : fileLength f ix ≡ directoryStart f ix + recordLength (24 + 4 * tileCount f)
 
 pub passed-of : (f : List ℕ) (t : ℕ) (ix c : List ℕ) (room : ℕ) → layDownVerdict f t ix c room ≡ Accepted → Passed f t ix c room
-unfolding layDownVerdict inputVerdict lengthAllowed fitsIn fileLength directoryStart
+unfolding layDownVerdict inputVerdict lengthVerdict lengthAllowed fitsIn fileLength directoryStart
 passed-of f t ix c room e =
     let a = behind-passed _ _ e in
     let b = gate-passed _ _ _ (a .1) in

@@ -12,3 +12,5 @@ pub mod TileWriting
 pub mod ReferenceWriting
 pub mod DirectoryWriting
 pub mod PageWriting
+pub mod SheetLaws
+pub mod SheetWriting

@@ -34,9 +34,13 @@ lengthAllowed f ix = passes ((fileLength f ix ≤? mostFileBytes) ∷ [])
 unfoldable pub fitsIn : List ℕ → List ℕ → ℕ → Bool
 fitsIn f ix room = passes ((fileLength f ix ≤? room) ∷ [])
 
--- 12; then 4 if the file would pass its ceiling; then 13 exactly if the buffer is shorter than the file
+-- 4 if the file would pass its ceiling; then 13 exactly if the buffer is shorter than the file
+unfoldable pub lengthVerdict : List ℕ → List ℕ → ℕ → Verdict
+lengthVerdict f ix room = gate (lengthAllowed f ix) Ceiling (gate (fitsIn f ix room) Room verdict.Accepted)
+
+-- 12 before them
 unfoldable pub inputVerdict : List ℕ → ℕ → List ℕ → List ℕ → ℕ → Verdict
-inputVerdict f t ix c room = gate (inputRight f t ix c) Input (gate (lengthAllowed f ix) Ceiling (gate (fitsIn f ix room) Room verdict.Accepted))
+inputVerdict f t ix c room = gate (inputRight f t ix c) Input (lengthVerdict f ix room)
 
 -- before that, the front passes stages 1 to 4 taken by itself
 unfoldable pub layDownVerdict : List ℕ → ℕ → List ℕ → List ℕ → ℕ → Verdict

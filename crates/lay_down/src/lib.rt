@@ -4,17 +4,15 @@
 // whole is not written. The writers here are private and have a `requires`: the input was judged, and what is written fits. Asking
 // again in each of them would decide nothing.
 //
-// The references of all tiles are set to zero, then that of each tile given is written at its index. The time grows with the number
-// of tiles plus the number of indexes; looking each tile up among the indexes would take their product.
-//
 // The elements' sizes are worked out once, into 16 numbers, and serve every tile record, since an element's entry is found by passing
 // over those before it. A front that passes stage 4 has at most 16, so a lay-down needs no memory that grows with the page.
 pub mod front;
+mod page;
+pub mod sheet;
 
 use answer::Laid;
 use answer::Refusal;
 use answer::Verdict;
-use check_header::ceilings;
 use check_header::stages;
 use geometry::sizes;
 use geometry::tiles;
@@ -22,7 +20,6 @@ use header::entries;
 use header::fields;
 use tile_sizes;
 use wire::writing;
-use written_records::directory;
 use written_records::pieces;
 ghost use mathlib.Core.Path.{_≡_};
 ghost use mathlib.Core.Bool.{true};
@@ -44,10 +41,8 @@ ghost use Rattle.lay_down.specs.Page.{tileRecords, references, directory
 ghost use Rattle.lay_down.specs.Answer.{ascending, inputRight, inputVerdict, layDownVerdict, laid, laidOut};
 ghost use Rattle.lay_down.specs.Ready.{SizesOf, TileReady, TilesReady, IndexesReady};
 
-// The types of the records that are written, each as the byte that it is.
+// The type of a tile record, as the byte that it is.
 const TILE: u8 = record::TILE as u8;
-
-const TILE_DIRECTORY: u8 = record::TILE_DIRECTORY as u8;
 
 // Whether the indexes are strictly ascending, each below n.
 fn is_ascending(indexes: &[u32], n: u64) -> bool
@@ -96,54 +91,13 @@ fn element_sizes(front: &[u8], sizes: &mut [u32])
     tile_sizes::element_sizes(front, sizes);
 }
 
-// The length of a tile record whose elements are all uncompressed.
-fn tile_length(front: &[u8]) -> usize
-    requires { ⌜ checkFront (now front) ≡ Accepted ⌝ }
-    ensures { λ r. ⌜ r ≡ plainTileLength (now (front .entry)) ⌝ }
-{
-    tile_sizes::plain_tile_length(front)
-}
-
-// The length of the tile directory.
-fn directory_length(front: &[u8]) -> usize
-    requires { ⌜ checkFront (now front) ≡ Accepted ⌝ }
-    ensures { λ r. ⌜ r ≡ recordLength (24 + 4 * tileCount (now (front .entry))) ⌝ }
-{
-    let count = tiles::tile_count(front);
-    sizes::least_length((32 + 4 * count) as u32) as usize
-}
-
-// Where the tile directory starts, behind the records of k tiles.
-fn directory_start(front: &[u8], k: usize) -> usize
-    requires { ⌜ (checkFront (now front) ≡ Accepted) × (k ≤ mostTiles) ⌝ }
-    ensures { λ r. ⌜ r ≡ length (now (front .entry)) + k * plainTileLength (now (front .entry)) ⌝ }
-{
-    let n = tile_length(front);
-    front.len() + k * n
-}
-
-// The file's length.
-fn file_length(front: &[u8], k: usize) -> usize
-    requires { ⌜ (checkFront (now front) ≡ Accepted) × (k ≤ mostTiles) ⌝ }
-    ensures { λ r. ⌜ r ≡ length (now (front .entry)) + k * plainTileLength (now (front .entry)) + recordLength (24 + 4 * tileCount (now (front .entry))) ⌝ }
-{
-    directory_start(front, k) + directory_length(front)
-}
-
 // What is judged behind the front: 12, then 4, then 13.
 fn input_verdict(front: &[u8], time: u64, indexes: &[u32], cells: &[u8], room: usize) -> Verdict
     requires { ⌜ checkFront (now front) ≡ Accepted ⌝ }
     ensures { λ r. ⌜ r ≡ inputVerdict (now (front .entry)) time (now (indexes .entry)) (now (cells .entry)) room ⌝ }
 {
     if input_right(front, time, indexes, cells) {
-        let n = file_length(front, indexes.len());
-        if ceilings::MOST_FILE_BYTES < n {
-            return Verdict::Refused(Refusal::Ceiling);
-        }
-        if room < n {
-            return Verdict::Refused(Refusal::Room);
-        }
-        return Verdict::Accepted;
+        return page::length_verdict(front, indexes, room);
     }
     Verdict::Refused(Refusal::Input)
 }
@@ -156,18 +110,6 @@ fn lay_down_verdict(front: &[u8], time: u64, indexes: &[u32], cells: &[u8], room
         Verdict::Refused(r) => Verdict::Refused(r),
         Verdict::Accepted => input_verdict(front, time, indexes, cells, room),
     }
-}
-
-// The front, with its fields set and its checksum made anew.
-fn put_front(out: &mut [u8], front: &[u8], time: u64, directory: u64)
-    requires { ⌜ (checkFront (now front) ≡ Accepted) × (length (now front) ≤ length (now out)) ⌝ }
-    ensures { λ _. ⌜ now (out .exit) ≡ put (now (out .entry)) 0 (laidFront (now (front .entry)) time directory) ⌝ }
-{
-    let flag = fields::checksum_enabled(front);
-    let n = front.len() - 16;
-    writing::put_bytes(out, 0, front);
-    front::set_fields(out, time, directory);
-    pieces::seal(out, 16, n, flag);
 }
 
 // The sections of a tile's elements, and where they end.
@@ -235,38 +177,6 @@ fn put_tiles(out: &mut [u8], n: usize, front: &[u8], sizes: &[u32], indexes: &[u
     }
 }
 
-// The references of all tiles of the grid: zero, but for the tiles that are given, whose records are n bytes each.
-fn put_references(out: &mut [u8], at: usize, n: usize, front: &[u8], indexes: &[u32])
-    requires { ⌜ IndexesReady (now front) (now indexes) × ((n ≡ plainTileLength (now front)) × (at + 4 * tileCount (now front) ≤ length (now out))) ⌝ }
-    ensures { λ _. ⌜ now (out .exit) ≡ put (now (out .entry)) at (references (now (front .entry)) (now (indexes .entry)) (tileCount (now (front .entry)))) ⌝ }
-{
-    let count = tiles::tile_count(front) as usize;
-    writing::put_zeros(out, at, 4 * count);
-    let mut start = front.len();
-    let mut k = 0;
-    while k < indexes.len() {
-        directory::put_reference(out, at, indexes[k], start);
-        start += n;
-        k += 1;
-    }
-}
-
-// The tile directory.
-fn put_directory(out: &mut [u8], at: usize, n: usize, front: &[u8], indexes: &[u32])
-    requires { ⌜ IndexesReady (now front) (now indexes) × ((n ≡ plainTileLength (now front)) × (at + recordLength (24 + 4 * tileCount (now front)) ≤ length (now out))) ⌝ }
-    ensures { λ _. ⌜ now (out .exit) ≡ put (now (out .entry)) at (directoryRecord (now (front .entry)) (now (indexes .entry))) ⌝ }
-{
-    let flag = fields::checksum_enabled(front);
-    let down = tiles::tiles_down(front);
-    let across = tiles::tiles_across(front);
-    let count = tiles::tile_count(front) as usize;
-    let long = directory_length(front);
-    pieces::put_head(out, at, long as u32, TILE_DIRECTORY);
-    directory::put_form(out, at + 8, down, across);
-    put_references(out, at + 32, n, front, indexes);
-    pieces::close(out, at, at + 32 + 4 * count, long, flag);
-}
-
 // The whole file.
 fn put_page(front: &[u8], time: u64, indexes: &[u32], cells: &[u8], file: &mut [u8])
     requires { ⌜ layDownVerdict (now front) time (now indexes) (now cells) (length (now file)) ≡ Accepted ⌝ }
@@ -274,11 +184,11 @@ fn put_page(front: &[u8], time: u64, indexes: &[u32], cells: &[u8], file: &mut [
 {
     let mut sizes = [0u32; entries::MOST_ELEMENTS as usize];
     element_sizes(front, &mut sizes);
-    let n = tile_length(front);
-    let at = directory_start(front, indexes.len());
-    put_front(file, front, time, at as u64 + 8);
+    let n = page::tile_length(front);
+    let at = page::directory_start(front, indexes.len());
+    page::put_front(file, front, time, at as u64 + 8);
     put_tiles(file, n, front, &sizes, indexes, cells);
-    put_directory(file, at, n, front, indexes);
+    page::put_directory(file, at, n, front, indexes);
 }
 
 // Lays a page down: a front, the time modified, tile indexes, and the cell bytes of those tiles one after another, all elements in
@@ -292,7 +202,7 @@ pub fn lay_down(front: &[u8], time: u64, indexes: &[u32], cells: &[u8], file: &m
         Verdict::Refused(r) => Laid::Refused(r),
         Verdict::Accepted => {
             put_page(front, time, indexes, cells, file);
-            Laid::Length(file_length(front, indexes.len()))
+            Laid::Length(page::file_length(front, indexes.len()))
         }
     }
 }

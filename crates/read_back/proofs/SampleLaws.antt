@@ -29,7 +29,7 @@ use Rattle.utf8.specs.Utf8.{following, goesOn, never, octet, rows, tail, utf8}
 use Rattle.written_records.specs.Pieces.{checksumFor, recordHead, recordLength, recordOf, sealed, section, unclosed}
 use Rattle.written_records.specs.Tile.{sections, sectionsOf, plainRecord, tileRecord}
 use Rattle.written_records.specs.Directory.{directoryForm, referencesOf, directoryOf}
-use Rattle.lay_down.specs.Answer.{ascending, fitsIn, inputRight, inputVerdict, laid, layDownVerdict, lengthAllowed}
+use Rattle.lay_down.specs.Answer.{ascending, fitsIn, inputRight, inputVerdict, laid, layDownVerdict, lengthAllowed, lengthVerdict}
 use Rattle.lay_down.specs.Page.{compactFrom, directoryBody, directoryRecord, directoryStart, fieldsSet, fileLength, laidFile, laidFront, references, tileRecords}
 use Rattle.page_check.specs.Stages.{unless}
 use Rattle.record.specs.Chain.{endOf, find, findNot, headerEnd, records, recordsEnd, recordsOf, starts, startsGo}
@@ -41,5 +41,5 @@ use Rattle.wire.specs.Tests.{allBelow, passes, sumBelow}
 use Rattle.read_back.specs.Sample.{SampleLaid}
 
 pub sample-laid : SampleLaid
-unfolding advance allBelow ascending blockAt blockSize byteAt bytesOf cellOffset cellSize checkFront checkHeader checksumFor closed compactFrom contentLengthAt countBelow crcBit crcByte crcOf crcOver crcPart dataType descriptionAt directoryBody directoryForm directoryRecord directoryStart element elementBytes elementContentAt elementName elementPacking elementRight elementsRight endOf entriesRead entryAt entryCount entryEnd entryStart entryTexts every fieldsEnd fieldsSet fileLength fileSpaceAt fileSpaceRight fillBits fillOffset find findNot firstTwo fitsIn fiveRules following formRight frameRight freeCount freeEntryAt freeEntryIs freeEntryOf freeFits freeListed freeOnly frontRight gate givesTile goesOn headerEnd headerRight identified identifier inRectangle inSpan indexRight inputRight inputVerdict insideOf keysDistinct labelAt laid laidFile laidFront lastByte layDownVerdict leastLength lengthAllowed lengthRight letter listedOnce mark metadataAt metadataCount metadataDescriptionAt metadataDirectoryRight metadataEnd metadataEntryAt metadataEntryEnd metadataEntryIs metadataEntryOf metadataEntrySize metadataFits metadataLength metadataListed metadataName metadataOnly metadataRight methodCount methodsAt nameByte nameBytes namesDiffer never nextTwo noOther nothingElse number numberAt numberOf octet oneIf optionsRight packingOf padded part passes plainRecord plainTileLength positive productLabelAt put recordHead recordId recordIdAt recordLength recordLimit recordOf recordOk records recordsEnd recordsOf rectangleRight referenceAt referenceFrom referenceOf referenceSize references referencesOf directoryOf referencesEnd refersOrZero refersTo rows sameBytes sameKey sealed section sectionAt sectionEnd sectionLength sectionPacking sectionRight sections sectionsOf select sidesRight sidesWithin some spanRight stages starts startsGo storedSize stringEnd stringSize stringText sumBelow summedBytes tail tailRight textRight tileBytes tileCount tileDirectoryAt tileDirectoryRight tileEnd tileIn tileIndex tileLength tileOf tileRecord tileRecords tileRight tilesAcross tilesAlong tilesDown tilesIn tilesListed tilesOnly unclosed uncompressed unitAt unless unlessRefused utf8 valueOf versionRight within withinCeilings zeros
+unfolding advance allBelow ascending blockAt blockSize byteAt bytesOf cellOffset cellSize checkFront checkHeader checksumFor closed compactFrom contentLengthAt countBelow crcBit crcByte crcOf crcOver crcPart dataType descriptionAt directoryBody directoryForm directoryRecord directoryStart element elementBytes elementContentAt elementName elementPacking elementRight elementsRight endOf entriesRead entryAt entryCount entryEnd entryStart entryTexts every fieldsEnd fieldsSet fileLength fileSpaceAt fileSpaceRight fillBits fillOffset find findNot firstTwo fitsIn fiveRules following formRight frameRight freeCount freeEntryAt freeEntryIs freeEntryOf freeFits freeListed freeOnly frontRight gate givesTile goesOn headerEnd headerRight identified identifier inRectangle inSpan indexRight inputRight inputVerdict insideOf keysDistinct labelAt laid laidFile laidFront lastByte layDownVerdict leastLength lengthAllowed lengthRight lengthVerdict letter listedOnce mark metadataAt metadataCount metadataDescriptionAt metadataDirectoryRight metadataEnd metadataEntryAt metadataEntryEnd metadataEntryIs metadataEntryOf metadataEntrySize metadataFits metadataLength metadataListed metadataName metadataOnly metadataRight methodCount methodsAt nameByte nameBytes namesDiffer never nextTwo noOther nothingElse number numberAt numberOf octet oneIf optionsRight packingOf padded part passes plainRecord plainTileLength positive productLabelAt put recordHead recordId recordIdAt recordLength recordLimit recordOf recordOk records recordsEnd recordsOf rectangleRight referenceAt referenceFrom referenceOf referenceSize references referencesOf directoryOf referencesEnd refersOrZero refersTo rows sameBytes sameKey sealed section sectionAt sectionEnd sectionLength sectionPacking sectionRight sections sectionsOf select sidesRight sidesWithin some spanRight stages starts startsGo storedSize stringEnd stringSize stringText sumBelow summedBytes tail tailRight textRight tileBytes tileCount tileDirectoryAt tileDirectoryRight tileEnd tileIn tileIndex tileLength tileOf tileRecord tileRecords tileRight tilesAcross tilesAlong tilesDown tilesIn tilesListed tilesOnly unclosed uncompressed unitAt unless unlessRefused utf8 valueOf versionRight within withinCeilings zeros
 sample-laid = record { answer = refl; bytes = refl }

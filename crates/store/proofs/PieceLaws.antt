@@ -18,7 +18,8 @@ use Rattle.answer.specs.declared.Verdict.the-variants.{Accepted}
 use Rattle.answer.specs.declared.Held.{Held}
 use Rattle.answer.specs.declared.Held.the-variants as held
 use Rattle.answer.specs.Refusals.{refusalNumber}
-use Rattle.answer.specs.Answers.{cellBits, heldKind, heldVerdict}
+use Rattle.answer.specs.Values.{valueOf, valueBits}
+use Rattle.answer.specs.Answers.{cellBits, cellVerdict, heldKind, heldVerdict}
 use Rattle.record.specs.Chain.{records}
 use Rattle.header.specs.Fields.{gridRows, gridColumns, tileRows, tileColumns, elementCount}
 use Rattle.header.specs.Element.{mostElements, element}
@@ -349,3 +350,11 @@ pub numbered-row :
     start ≡ p .inside + (r - p .top) * tileColumns s → kind ≡ element s (a .e) .kind → fill ≡ element s (a .e) .fill → p .top ≤ r → r < p .bottom →
     Numbered s ci a x m kind fill (p .tile) start r (p .left) (p .right)
 numbered-row s ci a p x m r n kind fill start w e f q k t b u = rw (q, k, t) (w .numbered (λ z. f (e ∙ z)) r b u)
+
+-- in an absent tile each cell is the fill
+pub numbered-absent :
+    (s : List ℕ) (kind fill : ℕ) (m : List ℕ) (tile inside : ℕ) →
+    (cellBits (numberedCell s kind fill m tile inside held.Absent) ≡ valueBits (valueOf kind fill))
+    × (cellVerdict (numberedCell s kind fill m tile inside held.Absent) ≡ Accepted)
+unfolding numberedCell
+numbered-absent s kind fill m tile inside = (refl, refl)

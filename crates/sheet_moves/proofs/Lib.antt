@@ -1,0 +1,4 @@
+pub mod KeptLaws
+pub mod MoveLaws
+pub mod OutLaws
+pub mod Samples
