@@ -126,6 +126,28 @@ extern "C" {
         out: *mut u64,
         out_n: u64,
     ) -> u32;
+    fn gvrs_sheet_in(
+        front: *const u8,
+        front_n: u64,
+        time: u64,
+        sheet: *const u8,
+        sheet_n: u64,
+        file: *mut u8,
+        file_n: u64,
+        out: *mut u64,
+        out_n: u64,
+    ) -> u32;
+    fn gvrs_sheet_out(
+        file: *const u8,
+        n: u64,
+        compressor: u32,
+        memory: *mut u32,
+        memory_n: u64,
+        sheet: *mut u8,
+        sheet_n: u64,
+        out: *mut u64,
+        out_n: u64,
+    ) -> u32;
     fn gvrs_open_page(
         file: *mut u8,
         file_n: u64,
@@ -479,6 +501,56 @@ pub fn lay_down_into(
             cells.len() as u64,
             file.as_mut_ptr(),
             file.len() as u64,
+            out.as_mut_ptr(),
+            out.len() as u64,
+        )
+    }
+}
+
+/// The number. The file goes into the caller's buffer, its length or the place into `out`, each of any
+/// length.
+pub fn sheet_in_into(
+    front: &[u8],
+    time: u64,
+    sheet: &[u8],
+    file: &mut [u8],
+    out: &mut [u64],
+) -> u32 {
+    // All four slices are alive for the whole call and do not overlap.
+    unsafe {
+        gvrs_sheet_in(
+            front.as_ptr(),
+            front.len() as u64,
+            time,
+            sheet.as_ptr(),
+            sheet.len() as u64,
+            file.as_mut_ptr(),
+            file.len() as u64,
+            out.as_mut_ptr(),
+            out.len() as u64,
+        )
+    }
+}
+
+/// The number. The sheet goes into the caller's buffer, its length or the place into `out`; `memory` is
+/// lent. Each has any length.
+pub fn sheet_out_into(
+    file: &[u8],
+    compressor: u32,
+    memory: &mut [u32],
+    sheet: &mut [u8],
+    out: &mut [u64],
+) -> u32 {
+    // All four slices are alive for the whole call and do not overlap.
+    unsafe {
+        gvrs_sheet_out(
+            file.as_ptr(),
+            file.len() as u64,
+            compressor,
+            memory.as_mut_ptr(),
+            memory.len() as u64,
+            sheet.as_mut_ptr(),
+            sheet.len() as u64,
             out.as_mut_ptr(),
             out.len() as u64,
         )

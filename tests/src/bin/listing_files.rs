@@ -60,6 +60,9 @@ fn files() -> Vec<(&'static str, Vec<u8>)> {
         ("other-type", none_stored_of(&[INTEGER])),
         ("more-elements", none_stored_of(&[SHORT, SHORT])),
         ("units", units()),
+        ("right-scores", scores([900, -1])),
+        ("no-scores", scores([900, -2])),
+        ("tall", bytes_of(&Page::of_sides([65_536, 1], [512, 1]))),
         ("wide", wide()),
         ("large-tiles", bytes_of(&Page::of_sides([4096, 4096], [512, 512]))),
         ("65535-bytes", of_length(65_536)[..65_535].to_vec()),
@@ -197,6 +200,19 @@ fn units() -> Vec<u8> {
     ];
     for (element, unit) in page.elements.iter_mut().zip(units) {
         element.unit = unit.into();
+    }
+    bytes_of(&page)
+}
+
+/// A page that a score sheet can be moved into, and with right scores out to: the first tile has these,
+/// the second 1,000, the third is absent, the last 0. Both that reach over the grid's edge have -1 there.
+fn scores(first: [i16; 2]) -> Vec<u8> {
+    let mut page = Page::of_sides([2, 3], [1, 2]);
+    page.elements = vec![Element::new(SHORT, b"score")];
+    page.elements[0].set_range_and_fill(0, 1000, 0xffff);
+    for (index, scores) in [(0, first), (1, [1_000, -1]), (3, [0, -1])] {
+        let contents = vec![scores.into_iter().flat_map(i16::to_le_bytes).collect()];
+        page.insert(page.records.len(), Body::Tile(Tile { index, contents }));
     }
     bytes_of(&page)
 }

@@ -29,6 +29,10 @@ pub const FIRST: Rule = Rule { mark: 900, scale: 1000 };
 /// Req 08: "New models count in ten-thousandths, certain from 9,500 to 10,000."
 pub const SECOND: Rule = Rule { mark: 9_500, scale: 10_000 };
 
+/// Req 13: "From now on the deeds product counts a stored -1 as a fill cell, never a score, under both
+/// rules." Unpacked ones too (reading 10).
+pub const NO_SCORE: i16 = -1;
+
 impl Rule {
     pub fn is_certain(self, score: i16) -> bool {
         (self.mark..=self.scale).contains(&score)
@@ -56,8 +60,8 @@ pub fn rule_of(records: &[Record]) -> Option<Rule> {
 /// The answer for a rectangle of scores.
 #[derive(Clone, Copy, Debug, PartialEq)]
 pub enum Deed {
-    /// The grade is one of the three numbers. No lowest score "exactly if every cell is fill"
-    /// (reading 7).
+    /// The grade is one of the three numbers. No lowest score where every cell is fill or -1 (Req 13,
+    /// reading 10).
     Graded {
         rule: Rule,
         grade: u32,
@@ -126,6 +130,10 @@ fn judged(file: &[u8], passed: &Passed, rectangle: Rectangle, compressor: u32, r
         match whole {
             Cells::Stored { bits, .. } | Cells::Unpacked { bits, .. } => {
                 let score = bits[number_inside(header, spot) as usize] as i16;
+                if score == NO_SCORE {
+                    fills += 1;
+                    continue;
+                }
                 all_certain &= rule.is_certain(score);
                 lowest = Some(lowest.map_or(score, |low: i16| low.min(score)));
             }

@@ -2,6 +2,7 @@
 //! often each refusal was met.
 
 use crate::run::Run;
+use crate::sheets::tally::Way;
 
 /// Comparisons that a whole run makes at least, all functions together.
 const LEAST: usize = 200_000;
@@ -81,6 +82,8 @@ impl Run {
             Function::new("gvrs_cell", self.reads.cell_answers()),
             Function::new("gvrs_content", self.reads.content_answers()),
             Function::new("gvrs_lay_down", self.lay_downs.answers()),
+            Function::new("gvrs_sheet_in", self.sheets.answers(Way::In)),
+            Function::new("gvrs_sheet_out", self.sheets.answers(Way::Out)),
             Function::new("gvrs_list", self.listings.answers()),
             Function::new("gvrs_is_identifier", [(0, self.names)].into_iter()),
             Function::new("gvrs_is_utf8", [(0, self.texts)].into_iter()),

@@ -29,6 +29,7 @@ mod packed;
 mod reads;
 mod run;
 mod sample_sums;
+mod sheets;
 mod stack;
 mod starts;
 mod texts;
@@ -64,7 +65,7 @@ fn main() -> ExitCode {
 
 /// Every section. Each has a generator of its own, so that one can change without the others.
 fn whole_run(seed: u64, small: bool) -> bool {
-    let sections: [fn(&mut Run, &mut Prng); 23] = [
+    let sections: [fn(&mut Run, &mut Prng); 24] = [
         sample_sums::section,
         made::section,
         allowed::section,
@@ -88,6 +89,7 @@ fn whole_run(seed: u64, small: bool) -> bool {
         keys::section,
         corrections::section,
         comparisons::section,
+        sheets::section,
     ];
     let mut run = Run::new(small);
     for (number, section) in sections.into_iter().enumerate() {

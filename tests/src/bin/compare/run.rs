@@ -15,6 +15,7 @@ use crate::lay_downs;
 use crate::listings;
 use crate::packed;
 use crate::reads;
+use crate::sheets;
 use crate::starts;
 
 /// Faults printed in full and files kept; the rest is only counted.
@@ -40,6 +41,7 @@ pub struct Run {
     pub deeds: deeds::tally::Tally,
     pub corrections: corrections::tally::Tally,
     pub comparisons: comparisons::tally::Tally,
+    pub sheets: sheets::tally::Tally,
     /// Names asked about.
     pub names: usize,
     /// Texts asked about.
@@ -83,6 +85,7 @@ impl Run {
             deeds: deeds::tally::Tally::new(),
             corrections: corrections::tally::Tally::new(),
             comparisons: comparisons::tally::Tally::new(),
+            sheets: sheets::tally::Tally::new(),
             names: 0,
             texts: 0,
             name_pairs: 0,
@@ -219,6 +222,7 @@ impl Run {
         self.deeds.report();
         self.corrections.report();
         self.comparisons.report();
+        self.sheets.report();
         closing::report(&self.functions());
         if !self.small {
             self.missed();
@@ -298,6 +302,10 @@ impl Run {
         }
         for thing in self.comparisons.missed() {
             println!("FAULT: comparisons: never or wrongly reached: {thing}");
+            self.faults += 1;
+        }
+        for thing in self.sheets.missed() {
+            println!("FAULT: score sheets: never or wrongly reached: {thing}");
             self.faults += 1;
         }
         for number in self.look_ups_missed() {

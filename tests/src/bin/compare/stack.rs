@@ -21,10 +21,15 @@ use crate::packed::holder::Holder;
 use crate::packed::trees::deep_comb;
 use crate::reads::described::fill;
 use crate::run::Run;
+use crate::sheets::ask::MoveIn;
+use crate::sheets::pages::{empty_page, move_in, Scored, Temper};
 
 /// What the header asks for, and what the thread and the calls before the library's take.
 const ASKED: usize = 320 * 1024;
 const AROUND: usize = 16 * 1024;
+
+/// A page that can be a score sheet.
+const ALL_SCORES: Temper = Temper { absent: 3, refused: 0, wrong: 0 };
 
 pub fn section(run: &mut Run, random: &mut Prng) {
     for _ in 0..run.times(200) {
@@ -40,15 +45,16 @@ pub fn section(run: &mut Run, random: &mut Prng) {
         let deed = if comb.type_code() == SHORT { DOUBTFUL } else { 12 };
         let spot = comb.spots(random)[0].1;
         let compared = compared(&comb);
+        let sheet = move_in(random).1;
+        let scores = Scored::new(empty_page(random), ALL_SCORES, random);
         let asked = move || {
             let unpacked = ask_packed(&comb, spot);
-            (ask(&lent, &other, &given), unpacked)
+            (ask(&lent, &other, &given), unpacked, ask_sheets(&sheet, &scores))
         };
         let thread = thread::Builder::new().stack_size(ASKED + AROUND).spawn(asked);
         let answer = thread.expect("a thread is started").join().expect("the thread returns");
-        if answer
-            != (check(&file).0, [UNPACKED, UNPACKED, UNPACKED, deed, deed, compared, compared])
-        {
+        let packed = [UNPACKED, UNPACKED, UNPACKED, deed, deed, compared, compared];
+        if answer != (check(&file).0, packed, [0; 3]) {
             run.fault("little stack: another answer", &file);
         }
     }
@@ -69,6 +75,19 @@ fn ask_packed(comb: &Holder, spot: Spot) -> [u32; 7] {
     let [short, long] =
         [&mut [][..], &mut [0; 2000][..]].map(|memory| same(file, compressor, memory));
     [whole, kind(&mut cells), kind(&mut []), deed(&mut cells), deed(&mut []), short, long]
+}
+
+/// The numbers of a sheet moved in, and of a page with packed tiles moved out, with memory and without.
+fn ask_sheets(given: &MoveIn, scores: &Scored) -> [u32; 3] {
+    let MoveIn { front, time, sheet } = given;
+    let mut file = vec![0; 1 << 20];
+    let moved_in = library::sheet_in_into(front, *time, sheet, &mut file, &mut [0]);
+    let mut back = vec![0; 1 << 16];
+    let mut out = |memory: &mut [u32]| {
+        let (file, compressor) = (&scores.built.bytes, scores.compressor);
+        library::sheet_out_into(file, compressor, memory, &mut back, &mut [0])
+    };
+    [moved_in, out(&mut vec![0; 4096]), out(&mut [])]
 }
 
 /// The kind of a cell.

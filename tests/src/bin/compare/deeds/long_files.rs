@@ -231,7 +231,8 @@ fn many_tiles(run: &mut Run, random: &mut Prng) {
     let file = bytes_of(&page_of_many_tiles(random));
     let graded = |grade, lowest| Deed::by_first(grade, 0, Some(lowest));
     let deeds = [
-        ([0, 0, 256, 256], graded(DOUBTFUL, i16::MIN)),
+        // -1 among them.
+        ([0, 0, 256, 256], Deed::by_first(UNREAD, 1, Some(i16::MIN))),
         ([0, 0, 128, 256], graded(DOUBTFUL, 0)),
         ([3, 132, 1, 101], graded(CERTAIN, 900)),
         ([3, 131, 1, 102], graded(DOUBTFUL, 899)),

@@ -5,7 +5,7 @@ use gvrs_tests::build::build;
 use gvrs_tests::page::Page;
 use gvrs_tests::prng::Prng;
 use gvrs_tests::random_page::random_page;
-use gvrs_tests::second::deeds::{Deed, Rule, CERTAIN, DOUBTFUL, SECOND, UNREAD};
+use gvrs_tests::second::deeds::{Deed, Rule, CERTAIN, DOUBTFUL, NO_SCORE, SECOND, UNREAD};
 use gvrs_tests::second::rectangles::Rectangle;
 
 use super::ask::is_the_deed;
@@ -33,6 +33,11 @@ const EQUAL_TO_FILL: [&str; 2] = [
     "not unread: a stored cell whose bits equal the fill",
     "not unread: an unpacked cell whose bits equal the fill",
 ];
+const NO_SCORES: [&str; 3] = [
+    "unread: no fill, but a stored -1",
+    "unread: no fill, but an unpacked -1",
+    "unread: no fill, each cell -1, no lowest",
+];
 const OTHER_TILE: &str = "graded, though another tile is refused";
 const OTHER_ELEMENT: &str = "graded, though another element of its tiles is refused";
 const THEN_14: &str = "11, and 14 behind it";
@@ -58,6 +63,7 @@ pub fn section(run: &mut Run, random: &mut Prng) {
         .iter()
         .chain(&others)
         .chain(&EQUAL_TO_FILL)
+        .chain(&NO_SCORES)
         .chain(&BY_SECOND)
         .chain(&last)
         .chain(&FORMS)
@@ -116,7 +122,8 @@ fn note(run: &mut Run, scored: &Scored, rectangle: Rectangle, account: &Account)
     match account.deed() {
         Deed::Refused(_) => note_refused(run, rectangle, account),
         Deed::Graded { grade, lowest, .. } => {
-            let scores = account.scores();
+            let mut scores = account.scores();
+            scores.retain(|score| *score != NO_SCORE);
             let element = &scored.page.elements[rectangle.element as usize];
             let own_fill = fill(element) as i16;
             let Rule { mark, scale } = scored.rule;
@@ -135,6 +142,9 @@ fn note(run: &mut Run, scored: &Scored, rectangle: Rectangle, account: &Account)
                 (CERTAIN_FILL, grade == UNREAD && scored.rule.is_certain(own_fill)),
                 (EQUAL_TO_FILL[0], grade != UNREAD && account.stored.contains(&own_fill)),
                 (EQUAL_TO_FILL[1], grade != UNREAD && account.unpacked.contains(&own_fill)),
+                (NO_SCORES[0], account.fills == 0 && account.stored.contains(&NO_SCORE)),
+                (NO_SCORES[1], account.fills == 0 && account.unpacked.contains(&NO_SCORE)),
+                (NO_SCORES[2], account.fills == 0 && scores.is_empty()),
             ]);
             for (thing, of) in BY_SECOND.into_iter().zip([CERTAIN, DOUBTFUL, UNREAD]) {
                 run.deeds.reached_if(&[(thing, grade == of && scored.rule == SECOND)]);

@@ -4,7 +4,9 @@
 use gvrs_tests::build::bytes_of;
 use gvrs_tests::page::{Body, Element, Page, Tile, SHORT};
 use gvrs_tests::prng::Prng;
-use gvrs_tests::second::deeds::{Deed, Rule, CERTAIN, DOUBTFUL, FIRST, SCORE_RULE, SECOND, UNREAD};
+use gvrs_tests::second::deeds::{
+    Deed, Rule, CERTAIN, DOUBTFUL, FIRST, NO_SCORE, SCORE_RULE, SECOND, UNREAD,
+};
 use gvrs_tests::second::rectangles::Rectangle;
 
 use super::scored::{edges, graded, packed, packed_page, say};
@@ -25,7 +27,7 @@ const ODD: [(i16, u32, i16); 11] = [
     (999, CERTAIN, 950),
     (1000, CERTAIN, 950),
     (1001, DOUBTFUL, 950),
-    (-1, DOUBTFUL, -1),
+    (-1, UNREAD, 950),
     (0, DOUBTFUL, 0),
     (1, DOUBTFUL, 1),
     (32_767, DOUBTFUL, 950),
@@ -105,8 +107,9 @@ fn at_place(run: &mut Run, asked: &Asked, odd: (i16, u32, i16), place: [usize; 2
     if is_outside(place) {
         return right & is(run, asked, whole(), &certain());
     }
-    let with_it = Deed::by_first(grade, 0, Some(lowest));
-    let by_itself = Deed::by_first(grade, 0, Some(score));
+    let is_score = score != NO_SCORE;
+    let with_it = Deed::by_first(grade, u64::from(!is_score), Some(lowest));
+    let by_itself = Deed::by_first(grade, u64::from(!is_score), is_score.then_some(score));
     right
         & is(run, asked, whole(), &with_it)
         & is(run, asked, one_cell(place), &by_itself)
@@ -208,10 +211,14 @@ fn fills(run: &mut Run) {
             let fills = absent.map(|tile| CELLS[tile]).sum();
             let grade = match score {
                 _ if fills > 0 => UNREAD,
+                NO_SCORE => UNREAD,
                 900..=1000 => CERTAIN,
                 _ => DOUBTFUL,
             };
-            let expected = Deed::by_first(grade, fills, (set > 0).then_some(score));
+            let expected = match score {
+                NO_SCORE => Deed::by_first(grade, 12, None),
+                _ => Deed::by_first(grade, fills, (set > 0).then_some(score)),
+            };
             let file = bytes_of(&page);
             let asked = Asked::new(&file);
             if run.deed_is(FILLS_SORT, &asked, rectangle([0, 0, 3, 4]), 256, &expected) {
@@ -267,6 +274,11 @@ fn by_themselves(
                 if (rule, lowest) == (by, *score) =>
             {
                 grades.push(grade);
+            }
+            Some(Deed::Graded { rule, grade: UNREAD, fills: 1, lowest: None })
+                if (rule, NO_SCORE) == (by, *score) =>
+            {
+                grades.push(UNREAD);
             }
             Some(answer) => run.fault(&format!("{SCORES_SORT}: {score}: {answer:?}"), asked.file),
             None => (),

@@ -1,4 +1,4 @@
-//! Req 07's sample sums.
+//! Req 07's sample sums, with a stored -1 as Req 13 has it.
 
 use gvrs_tests::build::{build, bytes_of};
 use gvrs_tests::page::Body;
@@ -17,13 +17,14 @@ const FILLS: [i16; 3] = [950, -1, 0];
 type Sample = ([u64; 4], u32, u64, Option<i16>);
 
 /// Grid 3 by 4, tiles 2 by 2.
-const FIRST: [Sample; 6] = [
+const FIRST: [Sample; 7] = [
     ([0, 0, 2, 2], CERTAIN, 0, Some(900)),
     ([0, 0, 2, 4], DOUBTFUL, 0, Some(899)),
     ([1, 1, 1, 3], CERTAIN, 0, Some(900)),
     ([0, 0, 3, 2], UNREAD, 2, Some(900)),
     ([2, 0, 1, 2], UNREAD, 2, None),
-    ([2, 2, 1, 2], DOUBTFUL, 0, Some(-1)),
+    ([2, 2, 1, 2], UNREAD, 1, Some(1001)),
+    ([0, 0, 3, 4], UNREAD, 3, Some(899)),
 ];
 const REFUSED_10: [[u64; 4]; 5] =
     [[0, 0, 4, 1], [3, 0, 1, 1], [4, 0, 0, 1], [3, 5, 0, 0], [u64::MAX, 0, u64::MAX, 1]];

@@ -10,7 +10,9 @@ use gvrs_tests::prng::Prng;
 use gvrs_tests::random_page::{put_anywhere, text_of};
 use gvrs_tests::second::chain::{METADATA, METADATA_DIRECTORY};
 use gvrs_tests::second::check::Answer;
-use gvrs_tests::second::deeds::{Deed, Rule, CERTAIN, DOUBTFUL, FIRST, SCORE_RULE, SECOND, UNREAD};
+use gvrs_tests::second::deeds::{
+    Deed, Rule, CERTAIN, DOUBTFUL, FIRST, NO_SCORE, SCORE_RULE, SECOND, UNREAD,
+};
 use gvrs_tests::second::predict::PREDICTORS;
 use gvrs_tests::second::rectangles::Rectangle;
 
@@ -218,8 +220,11 @@ impl Account {
     }
 }
 
-/// From the number of fills and all scores, in any order.
+/// From the number of fills and all scores, in any order. Each -1 is a fill.
 pub fn graded(rule: Rule, fills: u64, mut scores: Vec<i16>) -> Deed {
+    let before = scores.len();
+    scores.retain(|score| *score != NO_SCORE);
+    let fills = fills + (before - scores.len()) as u64;
     scores.sort_unstable();
     let lowest = scores.first().copied();
     let grade = match (lowest, scores.last()) {
