@@ -11,6 +11,9 @@ enum { DONE = 0, REFUSED = 1, FAILED = 2, DOUBTFUL = 3, UNREAD = 4, DIFFERENT = 
 /* The longest file that the store takes, the most cells of a tile, and a compressor index that no content has. */
 enum { LONGEST = 16777216, TILE_CELLS = 524288, NO_COMPRESSOR = 256 };
 
+/* Type codes of elements. */
+enum { INTEGER = 0, INTEGER_CODED = 1, FLOAT = 2, SHORT = 3 };
+
 /* What a command is given. */
 struct request {
     char *words[6];       /* FILE and the others, as they stand */
@@ -60,6 +63,20 @@ void print_kind(uint32_t kind, uint64_t type, uint32_t pattern);
 /* What is said of compressed content where no index is named. */
 extern const char *const COMPRESSOR_NOTE;
 
+/* The refusal of a cell: where it is compressed, with how to name an index. */
+int refused_cells(const struct request *request, uint32_t number, uint64_t place);
+
+/* Writes all of some bytes, and sees to it that a folder's names are on the disk: 0, or -1 and errno. */
+int write_bytes(int stream, const uint8_t *bytes, uint64_t n);
+int settle(const char *folder);
+
+/* The name of a copy in the folder of a file, for mkstemp, or NULL and errno; and that folder, in the copy's own memory. */
+char *beside(const char *path);
+char *folder_of(char *beside);
+
+/* Makes a new file: it gets its name once it is whole, and where there is such a file nothing is written. DONE or FAILED. */
+int write_new(const char *name, const uint8_t *bytes, uint64_t n);
+
 /* The commands. Each gives the exit status. */
 int run_check(const struct request *request);
 int run_info(const struct request *request);
@@ -70,5 +87,7 @@ int run_deed(const struct request *request);
 int run_compare(const struct request *request);
 int run_store(const struct request *request);
 int run_remove(const struct request *request);
+int run_sheet_in(const struct request *request);
+int run_sheet_out(const struct request *request);
 
 #endif

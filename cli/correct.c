@@ -102,16 +102,6 @@ static int open_original(const char *name, uint64_t wait, struct original *o) {
     return status == DONE ? read_stream(o->stream, name, page.bytes, sizeof page.bytes, &page.n) : status;
 }
 
-static int write_page(int copy) {
-    for (uint64_t at = 0; at < page.n;) {
-        ssize_t put = write(copy, page.bytes + at, page.n - at);
-        if (put < 0 && errno != EINTR)
-            return -1;
-        at += put < 0 ? 0 : (uint64_t)put;
-    }
-    return 0;
-}
-
 /* The owner comes before the mode, of which a change of owner may take bits away. */
 static int keep_owner_and_mode(int copy, const struct stat *was) {
     struct stat is;
@@ -136,7 +126,7 @@ static int replace_by(char *name, const struct original *o) {
     int status = DONE;
     if (keep_owner_and_mode(copy, &o->was) != 0)
         status = failed("%s: its copy cannot have its owner and group: %s", page.name, strerror(errno));
-    else if (write_page(copy) != 0 || fsync(copy) != 0)
+    else if (write_bytes(copy, page.bytes, page.n) != 0 || fsync(copy) != 0)
         status = failed("%s: its copy cannot be written: %s", page.name, strerror(errno));
     close(copy);
     if (status == DONE)
@@ -146,33 +136,19 @@ static int replace_by(char *name, const struct original *o) {
     return status;
 }
 
-/* So that the new name is on the disk too. The page stands in any case. */
-static int settle(const char *folder) {
-    int stream = open(folder, O_RDONLY | O_DIRECTORY | O_CLOEXEC);
-    int settled = stream >= 0 && fsync(stream) == 0;
-    int reason = errno;
-    if (stream >= 0)
-        close(stream);
-    return settled ? DONE : failed("%s: replaced, but perhaps not on the disk yet: %s", page.name, strerror(reason));
-}
-
-/* An interruption waits until no copy is left behind; a file that would be too long for the system is a failure to write. */
+/* An interruption waits until no copy is left behind; a file that would be too long for the system is a failure to write. Where the new
+   name may not be on the disk yet the page stands in any case. */
 static int replace(const struct original *o) {
-    static const char COPY[] = "/.gvrs-XXXXXX";
     sigset_t signals, before;
-    size_t n = (size_t)(strrchr(o->path, '/') - o->path);
-    char *name = malloc(n + sizeof COPY);
+    char *name = beside(o->path);
     if (name == NULL)
         return why(page.name);
-    memcpy(name, o->path, n);
-    memcpy(name + n, COPY, sizeof COPY);
     sigfillset(&signals);
     sigprocmask(SIG_BLOCK, &signals, &before);
     signal(SIGXFSZ, SIG_IGN);
     int status = replace_by(name, o);
-    name[n == 0 ? 1 : n] = '\0';
-    if (status == DONE)
-        status = settle(name);
+    if (status == DONE && settle(folder_of(name)) != 0)
+        status = failed("%s: replaced, but perhaps not on the disk yet: %s", page.name, strerror(errno));
     free(name);
     sigprocmask(SIG_SETMASK, &before, NULL);
     return status;

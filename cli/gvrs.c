@@ -54,8 +54,9 @@ static const struct command COMMANDS[] = {
      "on. A fill is `fill(7)`, a cell that cannot be read `refused(11)` or `refused(14)`.\n"},
     {"deed", "FILE ELEMENT ROW COLUMN ROWS COLUMNS", 6, COMPRESSOR | QUIET, run_deed,
      "Judges the scores of a Short element in a rectangle: certain where each is from 900 to 1000, unread\n"
-     "where a cell is fill, else doubtful; with the number of fills, the lowest score and the scale. A page\n"
-     "with a metadata record named score_rule, ID 2, has the scale 10000: 9500 to 10000 is certain there.\n"
+     "where a cell is fill, or -1, which counts as one, else doubtful; with the number of fills, the lowest\n"
+     "score and the scale. A page with a metadata record named score_rule, ID 2, has the scale 10000: 9500 to\n"
+     "10000 is certain there.\n"
      "Exit status: 0 certain, 3 doubtful, 4 unread, 1 refused, 2 failed.\n"},
     {"compare", "FIRST SECOND", 2, COMPRESSOR | SECOND | MOST, run_compare,
      "Compares two pages with equal grid, tile sides and element types; others are refused (12). Shows each cell\n"
@@ -69,6 +70,12 @@ static const struct command COMMANDS[] = {
     {"remove", "FILE INDEX", 2, TIME | WAIT, run_remove,
      "Removes a tile, so that its cells are fills. The page is written to a copy beside FILE, which then\n"
      "takes its name; where anything fails FILE stays as it is.\n"},
+    {"sheet-in", "FRONT SHEET FILE", 3, TIME, run_sheet_in,
+     "Moves a score sheet into a page, a new file FILE. FRONT is a front, or a page of which the front is\n"
+     "taken: with the sheet's rows and columns, and one element only, a Short with the fill -1.\n"},
+    {"sheet-out", "FILE SHEET", 2, COMPRESSOR, run_sheet_out,
+     "Moves a page out to a score sheet, a new file SHEET: one element only, a Short with the fill -1, each\n"
+     "number -1 or from 0 to 1000, and no metadata record that says another rule than the first.\n"},
 };
 enum { COUNT = sizeof COMMANDS / sizeof COMMANDS[0] };
 
@@ -86,7 +93,7 @@ static void print_usage(FILE *stream, const struct command *command) {
 }
 
 static int print_help(void) {
-    printf("Checks, shows and corrects pages: GVRS files, version 1.4, of at most %d bytes.\n\n", LONGEST);
+    printf("Checks, shows and corrects pages: GVRS files, version 1.4, of at most %d bytes.\nMoves score sheets into pages and out.\n\n", LONGEST);
     for (int i = 0; i < COUNT; i++) {
         printf("    ");
         print_usage(stdout, &COMMANDS[i]);
@@ -101,7 +108,8 @@ static int print_command_help(const struct command *command) {
     printf("usage: ");
     print_usage(stdout, command);
     printf("\n%s", command->help);
-    printf("%s%s", command->count > 1 ? NUMBERS : "", strstr(command->arguments, "ELEMENT") ? ELEMENT : "");
+    int numbers = strstr(command->arguments, "ROW") != NULL || strstr(command->arguments, "INDEX") != NULL;
+    printf("%s%s", numbers ? NUMBERS : "", strstr(command->arguments, "ELEMENT") ? ELEMENT : "");
     for (int i = 0; i < OPTION_COUNT; i++)
         if (command->options & OPTIONS[i].option)
             printf("%s", OPTIONS[i].help);

@@ -4,7 +4,6 @@
 #include <string.h>
 #include "cli.h"
 
-enum { INTEGER = 0, INTEGER_CODED = 1, FLOAT = 2, SHORT = 3 };
 static const char *const TYPES[] = {"Integer", "integer-coded", "Float", "Short"};
 
 /* Room for the cells of a strip of rows, and for those of a tile. */
@@ -50,7 +49,7 @@ void print_kind(uint32_t kind, uint64_t type, uint32_t pattern) {
 const char *const COMPRESSOR_NOTE = "--compressor N unpacks that of the index N, but for Floats";
 
 /* A refusal of cells. Compressed content can be asked for by its index. */
-static int refused_cells(const struct request *request, uint32_t number, uint64_t place) {
+int refused_cells(const struct request *request, uint32_t number, uint64_t place) {
     int unnamed = number == GVRS_COMPRESSED && request->compressor == NO_COMPRESSOR;
     return refused(number, place, unnamed ? COMPRESSOR_NOTE : NULL);
 }

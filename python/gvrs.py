@@ -1,4 +1,4 @@
-"""Pages of an archive, GVRS files of version 1.4, checked, read, compared and laid down by the proved page store (libgvrs.so).
+"""Pages of an archive, GVRS files of version 1.4, checked, read, compared and laid down by the proved page store (libgvrs.so); score sheets too.
 
     import gvrs
     page = gvrs.Page("page.gvrs")
@@ -12,6 +12,10 @@
     file = gvrs.lay_down(front, tiles, time=1)
 
     gvrs.compare(page, gvrs.Page.of_bytes(file))  # Comparison(number=0, spots=[])
+
+    front = gvrs.front(2, 3, 2, 2, [("score", "Short", -1)])
+    file = gvrs.from_sheet(front, sheet, time=1)
+    gvrs.Page.of_bytes(file).sheet() == sheet
 
 Rows, columns, elements and tiles count from 0. An element is named by its number or its name, to pack by its name. What the store
 refuses raises Refused; a number that does not fit the C type of its argument raises ValueError before anything is called. The library is
@@ -43,7 +47,7 @@ __all__ = [
     "Shape",
     "Spot",
     "compare",
-    "front",
+    "from_sheet", "front",
     "lay_down",
     "pack",
 ]
@@ -74,6 +78,8 @@ _FUNCTIONS = {
     "gvrs_deed": _FILE + [_U32, _U64, _U64, _U64, _U64, _U64, _LIST32, _U64],
     "gvrs_compare": (_FILE + [_U32]) * 2 + [_LIST32, _U64] * 2,
     "gvrs_lay_down": _FILE + [_U64, _LIST32, _U64, _BYTES, _U64, _BYTES, _U64],
+    "gvrs_sheet_in": _FILE + [_U64, _BYTES, _U64, _BYTES, _U64],
+    "gvrs_sheet_out": _FILE + [_U32, _LIST32, _U64, _BYTES, _U64],
 }
 
 
@@ -202,7 +208,7 @@ class Cell(NamedTuple):
 class Deed(NamedTuple):
     """What the scores of a rectangle are: the grade (certain, doubtful or unread); the number of fills; the lowest stored score, None where
     every cell is a fill; and the scale of the rule that the page says. Of 1000, scores are certain from 900 to 1000, of 10000 from 9500 to
-    10000. It has no truth: ask for the grade."""
+    10000. A cell that holds -1 counts as a fill, and never as a score. It has no truth: ask for the grade."""
 
     grade: str
     fills: int
@@ -414,6 +420,30 @@ class Page:
         number, out = self._ask("gvrs_deed", 4, self._compressor, e, *sides, memory, _TILE_CELLS, why=why)
         fills, has_lowest, lowest, scale = out
         return Deed(_GRADES[number], fills, _value("Short", lowest) if has_lowest else None, scale)
+
+    def sheet(self):
+        """The page as a score sheet, as from_sheet takes it: bytes. Raises Refused: 12 where it has not one element only, a Short with the
+        fill -1, where its metadata records named score_rule do not say the first rule, or where the grid has more rows, columns or cells
+        than a sheet can have; then 11 or 14, or 12 of a number that is neither -1 nor from 0 to 1000, of the first such cell by rows."""
+        memory = (_U32 * _TILE_CELLS)()
+
+        def ask(room):
+            sheet = ctypes.create_string_buffer(max(room, 1))
+            number, [out] = self._ask("gvrs_sheet_out", 1, self._compressor, memory, _TILE_CELLS, sheet, room, why=self._no_sheet)
+            return number, out, sheet
+
+        number, out, sheet = ask(0)  # 13 of a page that can be one
+        if number == _ROOM:
+            _, out, sheet = ask(9 + 2 * self.shape.rows * self.shape.columns)
+        return ctypes.string_at(sheet, out)
+
+    def _no_sheet(self):
+        shape = self.shape
+        if shape.rows > 65535 or shape.columns > 65535 or 5 + 2 * shape.rows * shape.columns > 2**32 - 1:
+            return "the grid has more rows, columns or cells than a sheet can have"
+        if [(element.type, element.fill) for element in self.elements] != [("Short", Fill(-1))]:
+            return "the page has not one element only, a Short with the fill -1"
+        return "a cell is neither -1 nor from 0 to 1000, or the metadata records named score_rule do not say the first rule"
 
     def __repr__(self):
         return f"<gvrs.Page of {len(self._file)} bytes>"
@@ -651,3 +681,20 @@ def lay_down(front, tiles, time):
     shape = Page.of_bytes(_laid(front, {}, time)).shape
     tiles = {index: _tile_bytes(index, cells, shape.tile_bytes) for index, cells in _by_index(tiles, shape).items()}
     return _laid(front, tiles, time)
+
+
+def from_sheet(front, sheet, time):
+    """A new page of a score sheet, as the bytes of its file. `front` is bytes, of which the grid is the sheet's and the one element a Short
+    with the fill -1; `sheet` is bytes, each number with its highest byte first: a length of all that follows in four bytes, a version byte 1,
+    rows and columns in two each, then each score by rows in two, -1 for unread, else 0 to 1000. A tile all -1 is not stored. `time` is the
+    time modified, in milliseconds since 1970. Raises Refused: 1 to 4 of the front, 12 where the sheet or the front is not so, or the time
+    is 0, 4 where the file would be too long."""
+    front, sheet, time = _bytes(front, "front"), _bytes(sheet, "sheet"), _number64(time, "time")
+    file = ctypes.create_string_buffer(LONGEST)
+    number, [out] = _ask("gvrs_sheet_in", 1, front, len(front), time, sheet, len(sheet), file, LONGEST)
+    if number == _INPUT:
+        why = "the sheet is no score sheet, or the front has not its rows and columns and one element only, a Short with the fill -1"
+        raise Refused(number, out, why if time else "the time is 0")
+    if number != _DONE:
+        raise Refused(number, out)
+    return ctypes.string_at(file, out)

@@ -468,6 +468,74 @@ class LayDown(Tests):
             self.assertRaises(ValueError, gvrs.front, 3, 3, 2, 2, [wrong])
 
 
+class Sheets(Tests):
+    """Score sheets moved into pages, and pages out to score sheets."""
+
+    FRONT = gvrs.front(2, 3, 2, 2, [("score", "Short", -1)])
+    SCORES = [900, -1, 1000, -1, -1, 0]
+
+    @staticmethod
+    def of(rows, columns, scores):
+        return struct.pack(">IBHH", 5 + 2 * len(scores), 1, rows, columns) + struct.pack(f">{len(scores)}h", *scores)
+
+    def laid(self, tiles):
+        return Page.of_bytes(gvrs.lay_down(self.FRONT, gvrs.pack(self.FRONT, tiles), 1))
+
+    def test_sample(self):
+        sheet = bytes.fromhex("00000011 01 0002 0003 0384 ffff 03e8 ffff ffff 0000")
+        self.assertEqual(self.of(2, 3, self.SCORES), sheet)
+        made = Page.of_bytes(gvrs.from_sheet(self.FRONT, sheet, 9))
+        self.assertEqual(made.cells("score", 0, 0, 2, 3), [[900, -1, 1000], [-1, -1, 0]])
+        self.assertEqual(made.tile(1, "score"), [[1000, Outside(-1)], [0, Outside(-1)]])
+        self.assertEqual((made.shape.time, made.shape.stored_tiles), (9, 2))
+        self.assertEqual(made.deed("score", 0, 0, 2, 3), Deed("unread", 3, 0, 1000))
+        self.assertEqual(made.sheet(), sheet)
+
+    def test_there_and_back(self):
+        for rows, columns, tile_rows, tile_columns in ((1, 1, 1, 1), (3, 5, 2, 2), (5, 3, 1, 4), (40, 30, 7, 11)):
+            front = gvrs.front(rows, columns, tile_rows, tile_columns, [("s", "Short", -1)], checksums=rows > 1)
+            for scores in ([-1], [1000], [-1, 0, 1, 999, 1000], [-1] * 37 + [7]):
+                sheet = self.of(rows, columns, [scores[at % len(scores)] for at in range(rows * columns)])
+                for kind in (bytes, bytearray, memoryview):
+                    self.assertEqual(Page.of_bytes(gvrs.from_sheet(front, kind(sheet), 1)).sheet(), sheet)
+
+    def test_fills_and_stored(self):
+        unread = Page.of_bytes(gvrs.from_sheet(self.FRONT, self.of(2, 3, [-1] * 6), 1))
+        self.assertEqual(unread.cells(0, 0, 0, 2, 3), [[Fill(-1)] * 3] * 2)
+        stored = self.laid({0: {"score": [-1] * 4}, 1: {"score": [-1, 5, -1, 1001]}})  # past the grid anything
+        self.assertEqual(stored.sheet(), unread.sheet())
+        again = Page.of_bytes(gvrs.from_sheet(self.FRONT, stored.sheet(), 1))
+        self.assertEqual(again.file, unread.file)
+
+    def test_bad_sheets(self):
+        good, no_sheet = self.of(2, 3, self.SCORES), "the sheet is no score sheet"
+        bad = [b"", good[:-1], good + b"\0", b"\1" + good[1:], good[:4] + b"\2" + good[5:], self.of(3, 2, self.SCORES), self.of(0, 0, [])]
+        for sheet in bad + [self.of(2, 3, self.SCORES[:-1] + [number]) for number in (-2, 1001, -32768, 32767)]:
+            self.assertRefused(12, 0, lambda: gvrs.from_sheet(self.FRONT, sheet, 1), no_sheet)
+        for elements in ([("s", "Short", 0)], [("s", "Integer", -1)], [("s", "Short", -1), ("t", "Short", -1)]):
+            self.assertRefused(12, 0, lambda: gvrs.from_sheet(gvrs.front(2, 3, 2, 2, elements), good, 1), no_sheet)
+        self.assertRefused(12, 0, lambda: gvrs.from_sheet(self.FRONT, good, 0), "the time is 0")
+        self.assertRefused(1, 0, lambda: gvrs.from_sheet(b"", good, 1))
+
+    def test_no_sheets(self):
+        element = "the page has not one element only, a Short with the fill -1"
+        for name in ("page", "four-types", "no-rule"):
+            self.assertRefused(12, 0, page(name).sheet, element)
+        self.assertRefused(12, 0, page("tall").sheet, "the grid has more rows, columns or cells than a sheet can have")
+        self.assertRefused(12, 0, page("no-scores").sheet, "a cell is neither -1 nor from 0 to 1000")
+        self.assertRefused(9, 16, page("refused-9").sheet)
+        for number in (-2, 1001):
+            self.assertRefused(12, 0, self.laid({1: {"score": [number, 0, 0, 0]}}).sheet, "a cell is neither")
+        self.assertEqual(page("right-scores").sheet(), self.of(2, 3, self.SCORES))
+
+    def test_arguments(self):
+        sheet = self.of(2, 3, self.SCORES)
+        for arguments in ((None, sheet, 1), (self.FRONT, "sheet", 1), (self.FRONT, None, 1), (self.FRONT, sheet, None), (self.FRONT, sheet, 1.0)):
+            self.assertRaises(TypeError, gvrs.from_sheet, *arguments)
+        for time in (-1, 2**64):
+            self.assertRaises(ValueError, gvrs.from_sheet, self.FRONT, sheet, time)
+
+
 class Packing(Tests):
     FRONT = gvrs.front(3, 3, 2, 2, [("z", "Short", 7)])
     TWO = gvrs.front(3, 3, 2, 2, [("glyph", "Integer", 0), ("score", "Short", -1)])
@@ -611,7 +679,8 @@ class Pack(Packing):
         self.assertEqual(deed(blank), ("unread", 4, 900))
         self.assertEqual(deed(blank, unread=0), ("unread", 4, 900))
         self.assertEqual(deed(part, unread=0), ("doubtful", 0, 0))
-        self.assertEqual(deed(part, unread=-1), ("doubtful", 0, -1))  # the fill's number, and no fill
+        self.assertEqual(deed(part, unread=-1), ("unread", 1, 900))
+        self.assertEqual(deed(part, unread=-2), ("doubtful", 0, -2))
         self.assertEqual(deed(part, unread=1001), ("doubtful", 0, 900))
         self.assertEqual(deed(part, unread=950), ("certain", 0, 900))
 
