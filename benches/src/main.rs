@@ -1,10 +1,10 @@
 //! Times the library's check, checksum, reads, lay-down and unpacking against the second
 //! implementation's, in one run, the cells and the scores of rectangles, a deed, two pages compared, a tile
-//! stored in an open page, and the check of hostile files. Fails where the check, unpacking, the cells or
-//! the scores of a rectangle, a deed, a comparison or the storing of a tile take longer than their bounds.
-//! With the word `hostile` it measures the hostile files alone, with `corrections` the storing of tiles
-//! alone, with `deeds` deeds alone, with `cells` the cells and scores alone, with `compare` comparisons
-//! alone.
+//! stored in an open page, score sheets moved in and out, and the check of hostile files. Fails where the
+//! check, unpacking, the cells or the scores of a rectangle, a deed, a comparison, the storing of a tile or
+//! the move of a sheet take longer than their bounds. With the word `hostile` it measures the hostile files
+//! alone, with `corrections` the storing of tiles alone, with `deeds` deeds alone, with `cells` the cells
+//! and scores alone, with `compare` comparisons alone, with `sheets` score sheets alone.
 
 mod cells;
 mod checksum;
@@ -17,6 +17,7 @@ mod look_up;
 mod packed;
 mod reads;
 mod shapes;
+mod sheets;
 mod units;
 mod unpack;
 
@@ -46,6 +47,9 @@ fn main() -> ExitCode {
     if env::args().any(|argument| argument == "compare") {
         return exit_code(compare::measure(&packed::pages()));
     }
+    if env::args().any(|argument| argument == "sheets") {
+        return exit_code(sheets::measure(&packed::pages()));
+    }
     let checks = measure_checks(units::measure);
     checksum::measure();
     reads::measure();
@@ -57,7 +61,8 @@ fn main() -> ExitCode {
     let deeds = deeds::measure();
     let compared = compare::measure(&pages);
     let corrections = corrections::measure();
-    exit_code(checks && unpacking && cells && deeds && compared && corrections)
+    let sheets = sheets::measure(&pages);
+    exit_code(checks && unpacking && cells && deeds && compared && corrections && sheets)
 }
 
 /// The check of some files, and of hostile ones.

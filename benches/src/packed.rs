@@ -16,6 +16,7 @@ const NOISE: [usize; 14] = [200, 120, 80, 60, 40, 30, 20, 15, 10, 8, 6, 4, 3, 2]
 
 pub struct PackedPage {
     pub name: String,
+    pub type_code: u8,
     pub file: Vec<u8>,
     /// Rows and columns.
     pub tile: [u32; 2],
@@ -68,7 +69,8 @@ fn page(name: String, shape: &Shape, predictor: Predictor, tree: Form, more: i32
     let bits_a_symbol = 8.0 * content.len() as f64 / symbols as f64;
     let mask = if shape.type_code == SHORT { 0xffff } else { u32::MAX };
     let bits = values.iter().map(|value| *value as u32 & mask).collect();
-    PackedPage { name, file: file_of(shape, content), tile: shape.tile, bits, bits_a_symbol }
+    let Shape { type_code, tile, .. } = *shape;
+    PackedPage { name, type_code, file: file_of(shape, content), tile, bits, bits_a_symbol }
 }
 
 /// A hilly tile with noise, its content, shorter than its cells, and the number of its M32 bytes.
@@ -102,10 +104,12 @@ fn hilly([rows, columns]: [u32; 2], noise: usize) -> Vec<i32> {
     cells
 }
 
-/// A page of this one tile.
+/// A page of this one tile, with the fill -1.
 fn file_of(shape: &Shape, content: Vec<u8>) -> Vec<u8> {
     let mut page = Page::of_sides(shape.tile, shape.tile);
-    page.elements = vec![Element::new(shape.type_code, b"z")];
+    let mut element = Element::new(shape.type_code, b"z");
+    element.set_range_and_fill(0, 1000, u32::MAX);
+    page.elements = vec![element];
     page.insert(0, Body::Tile(Tile { index: 0, contents: vec![content] }));
     bytes_of(&page)
 }

@@ -37,7 +37,7 @@ pub fn measure(pages: &[PackedPage]) -> bool {
 
 /// Prints one line; the ratio. Both implementations must give the cells that were packed.
 fn measure_one(page: &PackedPage) -> f64 {
-    let PackedPage { name, file, tile, bits, bits_a_symbol } = page;
+    let PackedPage { name, file, tile, bits, bits_a_symbol, .. } = page;
     let mut cells = vec![0; bits.len()];
     let of_library = shortest(|| unpack_by_library(page, &mut cells));
     assert!(cells == *bits, "{name}: the library gives other cells");
