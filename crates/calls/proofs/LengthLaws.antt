@@ -1,4 +1,4 @@
--- The length that a page has behind a call. Assumes nothing.
+-- The length that a page has behind a call, and what storing a tile is to do. Assumes nothing.
 use Prim.Native.Nat.{ℕ, max, _+_, _*_, _≤_, _<_}
 use mathlib.Core.Path.{_≡_, sym, ap, _∙_}
 use mathlib.Core.List.{List, [], _∷_, append-nil}
@@ -22,12 +22,13 @@ use Rattle.writable.specs.Writable.{directoryFull}
 use Rattle.correct.specs.Opening.{compactOf, fullDirectory, openedMore, openedLength}
 use Rattle.correct.specs.Storing.{storedAt, storedLength}
 use Rattle.correct.specs.Closing.{freeEntryBytes, freeList, fileSpaceRecord, closedMore, closedLength}
-use Rattle.correct.specs.Writes.{keepsCeilings}
+use Rattle.correct.specs.Front.{workable}
 use Rattle.correct.proofs.ListLaws.{entries-length, free-few}
 use Rattle.edit_walks.specs.declared.Spot.{Spot}
 use Rattle.edit_walks.specs.Walks.{spotOf, overAt}
 use Rattle.edit_walks.proofs.StoredLaws.{free-no, free-yes}
-use Rattle.calls.proofs.ReadLaws.{kept-of, tile-length-is, plain-small}
+use Rattle.calls.specs.Layouts.{planOf}
+use Rattle.calls.proofs.ReadLaws.{worked-of, tile-length-is, plain-small}
 use Rattle.calls.proofs.StoreLaws.{over-at, over-none, spot-is}
 
 -- opened
@@ -58,29 +59,33 @@ opened-more s n r e f g h =
 
 -- with a tile stored
 
-pub stored-over : (s : List ℕ) (i x : ℕ) {t : Found} → t ≡ overAt s i → t ≡ At x → length s ≡ storedLength s i
-unfolding storedLength
-stored-over s i x e f = rw (over-at s i (sym e ∙ f) .0)
+pub plan-over : (s : List ℕ) (i x : ℕ) {t : Found} → t ≡ overAt s i → t ≡ At x → record { over = t; spot = record { at = 0; room = 0 }; long = length s } ≡ planOf s i
+unfolding planOf storedLength
+plan-over s i x e f = rw (over-at s i (sym e ∙ f) .0, e)
 
 module _
-    (s : List ℕ) (i : ℕ) {t : Found} {long : ℕ} {spot : Spot} (k : keepsCeilings s ≡ true) (e : t ≡ overAt s i) (f : t ≡ Nothing) (g : long ≡ lengthOfTile s)
+    (s : List ℕ) (i : ℕ) {t : Found} {long : ℕ} {spot : Spot} (k : workable s ≡ true) (e : t ≡ overAt s i) (f : t ≡ Nothing) (g : long ≡ lengthOfTile s)
     (h : spot ≡ spotOf s i long)
   where
-    end-is : spot .at + long ≡ storedAt s i + plainTileLength s
-    end-is = let b = tile-length-is s (kept-of s k) long g in omega (arith, spot-is s i b h .0)
+    own : long ≡ plainTileLength s
+    own = tile-length-is s (worked-of s k) long g
 
     new-is : storedLength s i ≡ max (length s) (spot .at + long)
     unfolding storedLength
-    new-is = rw (over-none s i (sym e ∙ f), end-is)
+    new-is = let a : spot .at + long ≡ storedAt s i + plainTileLength s = omega (arith, spot-is s i own h .0, own) in rw (over-none s i (sym e ∙ f), a)
 
-    pub stored-end : length s < spot .at + long → spot .at + long ≡ storedLength s i
-    stored-end z = omega (arith, new-is)
+    plan-new : {m : ℕ} → m ≡ storedLength s i → record { over = t; spot = spot; long = m } ≡ planOf s i
+    unfolding planOf
+    plan-new {m} y = let z : spot ≡ spotOf s i (plainTileLength s) = h ∙ ap (spotOf s i) own in rw (over-none s i (sym e ∙ f), e, z, y)
 
-    pub stored-within : spot .at + long ≤ length s → length s ≡ storedLength s i
-    stored-within z = omega (arith, new-is)
+    pub plan-end : length s < spot .at + long → record { over = t; spot = spot; long = spot .at + long } ≡ planOf s i
+    plan-end z = plan-new (omega (arith, new-is))
 
-    pub stored-near : spot .at ≤ 4294967311 + length s → spot .at + long ≤ 8589934592
-    stored-near z = let w = kept-of s k in omega (arith, plain-small s w, tile-length-is s w long g, w .file)
+    pub plan-within : spot .at + long ≤ length s → record { over = t; spot = spot; long = length s } ≡ planOf s i
+    plan-within z = plan-new (omega (arith, new-is))
+
+    pub plan-near : spot .at ≤ 4294967311 + length s → spot .at + long ≤ 8589934592
+    plan-near z = let w = worked-of s k in omega (arith, plain-small s w, own, w .file)
 
 -- closed
 
@@ -105,8 +110,8 @@ closed-more s n r e z h =
     let a : r ≡ recordLength (4 + 12 * length (recordsOf s 0)) = least-is (12 + 12 * n) (4 + 12 * length (recordsOf s 0)) r (omega arith) h in
     rw (← free-yes s n e z) (omega (arith, list-long s))
 
-pub closed-few : (s : List ℕ) (n : ℕ) → keepsCeilings s ≡ true → n ≡ length (recordsOf s 0) → n ≤ 1048576
-closed-few s n k e = omega (arith, free-few s (length s) n (sym (part-whole s)) e, kept-of s k .file)
+pub closed-few : (s : List ℕ) (n : ℕ) → workable s ≡ true → n ≡ length (recordsOf s 0) → n ≤ 1048576
+closed-few s n k e = omega (arith, free-few s (length s) n (sym (part-whole s)) e, worked-of s k .file)
 
-pub tiles-few : (s : List ℕ) (n : ℕ) → keepsCeilings s ≡ true → n ≡ tileCount s → n ≤ 65536
-tiles-few s n k e = omega (arith, kept-of s k .tiles)
+pub tiles-few : (s : List ℕ) (n : ℕ) → workable s ≡ true → n ≡ tileCount s → n ≤ 65536
+tiles-few s n k e = omega (arith, worked-of s k .tiles)

@@ -1,17 +1,15 @@
 -- The byte stores of opening. Assumes nothing.
-use Prim.Native.Nat.{ℕ, zero, suc, _+_, _*_, _/_, _%_, _-_, _≤_, _<_}
+use Prim.Native.Nat.{ℕ, zero, suc, _+_, _*_, _/_, _%_, _-_, _≤_}
 use mathlib.Core.Path.{_≡_, refl, sym, ap, _∙_}
 use mathlib.Core.List.{List, [], _∷_, _++_}
 use mathlib.Core.Bool.{Bool, true, false, not, _||_}
-use mathlib.Core.Logic.{inl, by-cases}
-use native.Mathlib.Decide.{decLe}
+use mathlib.Core.Logic.{inl}
 use native.Mathlib.Omega.{arith}
 use lib.ListN.{length}
-use lib.Dec.{leb, eqb}
+use lib.Dec.{leb}
 use Rattle.wire.specs.Pick.{pick}
 use Rattle.wire.specs.Bytes.{part, bytesOf, numberAt, zeros}
-use Rattle.wire.proofs.ByteLaws.{bytes-length, zeros-length, part-out}
-use Rattle.wire.proofs.TestLaws.{means, yes, no}
+use Rattle.wire.proofs.ByteLaws.{bytes-length, zeros-length}
 use Rattle.wire.proofs.ListLaws.{Behind, behind-more}
 use Rattle.record.specs.Record.{lengthAt}
 use Rattle.record.specs.Chain.{headerEnd, records, starts}
@@ -25,12 +23,13 @@ use Rattle.writable.specs.Writable.{directoryFull}
 use Rattle.stores.specs.Stores.{Write, Apart}
 use Rattle.stores.specs.Writes.{oneWrite, wholeWrite, sealWrite}
 use Rattle.stores.proofs.JoinLaws.{Ran, ran-none, ran-on, ran-then, ran-room}
-use Rattle.correct.specs.Front.{pageIn}
+use Rattle.correct.specs.Front.{pageIn, workable}
 use Rattle.correct.specs.Opening.{compactOf, fullDirectory, unwanted}
 use Rattle.correct.specs.FieldWrites.{firstSet, setWrites, openedFieldWrites, referTo}
 use Rattle.correct.specs.RecordWrites.{joinWrites}
-use Rattle.correct.specs.Writes.{freeingWrites, directoryWrites, openBody, openingWrites, openWrites}
+use Rattle.correct.specs.Writes.{freeingWrites, directoryWrites, openBody, openWrites}
 use Rattle.correct.proofs.ListLaws.{part-page}
+use Rattle.correct.proofs.FieldLaws.{first-most}
 use Rattle.correct.proofs.TileLaws.{part-most}
 use Rattle.correct.proofs.DirectoryLaws.{page-kept}
 use Rattle.edit_walks.specs.declared.Wanted.{Wanted}
@@ -39,28 +38,8 @@ use Rattle.edit_walks.specs.Walks.{wantedBy, freedFrom}
 use Rattle.edit_walks.proofs.AfterLaws.{After, after-more, after-trans, after-number, after-length, after-type, after-wanted, after-starts, after-page, after-run}
 use Rattle.calls.specs.declared.Layout.{Layout}
 use Rattle.calls.specs.declared.Grid.{Grid}
-use Rattle.calls.specs.Layouts.{layoutOf}
-use Rattle.calls.specs.Opens.{opensApart, openStores, gridOf}
-use Rattle.calls.proofs.ReadLaws.{same-page}
-
--- what stands apart
-
-pub apart-means : (s : List ℕ) → opensApart s ≡ true → (88 ≤ headerEnd s) × (headerEnd s ≤ tileDirectoryAt s)
-unfolding opensApart
-apart-means s e = let h = means _ e in (h .0, h .1 .0)
-
-module _ (s : List ℕ) (end : ℕ) (e : end ≡ headerEnd s) where
-  pub apart-short : end < 88 → false ≡ opensApart s
-  unfolding opensApart
-  apart-short h = no _ (λ p. omega (arith, p .0))
-
-  pub apart-before : (at : ℕ) → at ≡ tileDirectoryAt s → at < end → false ≡ opensApart s
-  unfolding opensApart
-  apart-before at f h = no _ (λ p. omega (arith, p .1 .0))
-
-  pub apart-yes : (at : ℕ) → at ≡ tileDirectoryAt s → 88 ≤ end → end ≤ at → true ≡ opensApart s
-  unfolding opensApart
-  apart-yes at f h g = yes _ (omega arith, (omega arith, tt))
+use Rattle.calls.specs.Layouts.{layoutOf, gridOf}
+use Rattle.calls.proofs.ReadLaws.{worked-of, page-own, page-in}
 
 pub grid-is :
     (s : List ℕ) {full : Bool} {down across count : ℕ} → full ≡ directoryFull s → down ≡ tilesDown s → across ≡ tilesAcross s → count ≡ tileCount s →
@@ -69,18 +48,6 @@ unfolding gridOf
 grid-is s e f g h = rw (e, f, g, h)
 
 -- the fields are set before 64, the reference before 88
-
-first-most : (v : List ℕ) → firstSet v ≤ length v
-unfolding firstSet
-first-most [] = omega arith
-first-most (b ∷ bs) = go (eqb b 0) (first-most bs)
-  where
-    go : (c : Bool) → firstSet bs ≤ length bs → pick c (suc (firstSet bs)) 0 ≤ suc (length bs)
-    go true h = omega arith
-    go false h = omega arith
-
-part-none : (s : List ℕ) (at n : ℕ) → length s < at + n → length (part s at n) ≡ 0
-part-none s at n h = ap length (part-out s at n h)
 
 set-apart : (v : List ℕ) (p b : ℕ) → length v ≡ 8 → p ≤ 8 → Apart 64 b (setWrites 48 v p ++ oneWrite 56 (zeros 8))
 unfolding setWrites oneWrite
@@ -175,11 +142,6 @@ module _ {k : ℕ} {d : List ℕ} (n : ℕ) (v : List ℕ) {m : ℕ} {l : List �
   more-page h true q = ap (λ (y : List ℕ). pageIn y n) (q .holds ∙ sym (ran-none k d .holds))
   more-page h false q = whole-page h (leb (n + length v) (length d)) q
 
-page-fits : (d : List ℕ) (n : ℕ) → n ≡ length (pageIn d n) → n ≤ length d
-unfolding pageIn
-page-fits d n e =
-    by-cases (decLe n (length d)) (λ h. h) (λ h. let z = part-none d 0 n (omega arith) in omega arith)
-
 -- the writes as opening's definition has them
 
 directory-is :
@@ -197,16 +159,16 @@ freeing-is room s = refl
 abbrev formOf : List ℕ → List ℕ → List ℕ
 formOf s x = recordOf (checksumEnabled s) 5 (directoryForm (tilesDown s) (tilesAcross s) ++ referencesOf (compactOf x) (tileCount s))
 
-module _ {k : ℕ} {d : List ℕ} (n t : ℕ) (w : opensApart (pageIn d n) ≡ true) (f : n ≡ length (pageIn d n)) where
+module _ {k : ℕ} {d : List ℕ} (n t : ℕ) (w : workable (pageIn d n) ≡ true) where
   module _ {a : ℕ} {l1 : List ℕ} (q1 : Ran k (openedFieldWrites t) d a l1) where
     page-1 : After (pageIn l1 n) (pageIn d n) 64
     page-1 = after-page (after-ran q1 64 (opened-apart t)) n
 
     form-1 : formOf (pageIn d n) (pageIn l1 n) ≡ formOf (pageIn d n) (pageIn d n)
     form-1 =
-        let m = apart-means (pageIn d n) w in
+        let m = worked-of (pageIn d n) w in
         ap (λ (y : List ℕ). recordOf (checksumEnabled (pageIn d n)) 5 (directoryForm (tilesDown (pageIn d n)) (tilesAcross (pageIn d n)) ++ y))
-        (references-after page-1 (omega arith) (tileCount (pageIn d n)))
+        (references-after page-1 (omega (arith, m .header, m .apart)) (tileCount (pageIn d n)))
 
     module _ {b c : ℕ} {l2 l3 : List ℕ} (q2 : Ran a (pick (directoryFull (pageIn d n)) [] (wholeWrite (length l1) n (formOf (pageIn d n) (pageIn l1 n)))) l1 b l2) (q3 : Ran b (referTo 80 (not (directoryFull (pageIn d n))) n) l2 c l3) where
       room-1 : length l1 ≡ length d
@@ -217,13 +179,13 @@ module _ {k : ℕ} {d : List ℕ} (n t : ℕ) (w : opensApart (pageIn d n) ≡ t
 
       page-3 : After (pageIn l3 n) (pageIn d n) 88
       page-3 =
-          let g = page-fits d n f in
+          let g = page-in d n w in
           let e : pageIn l2 n ≡ pageIn l1 n = more-page n (formOf (pageIn d n) (pageIn l1 n)) (omega (arith, room-1)) (directoryFull (pageIn d n)) q2 in
           let i : After (pageIn l2 n) (pageIn d n) 88 = rw e (after-more page-1 88 (omega arith)) in
           after-trans (after-page (after-ran q3 88 (refer-apart (not (directoryFull (pageIn d n))) n)) n) i
 
       second : Ran a (directoryWrites (length d) (pageIn d n)) l1 b l2
-      second = rw (← directory-is (length d) (pageIn d n)) (go room-1 form-1 f q2)
+      second = rw (← directory-is (length d) (pageIn d n)) (go room-1 form-1 (sym (page-own d n w)) q2)
         where
           go :
               {x y : ℕ} {u v : List ℕ} {z : ℕ} → x ≡ y → u ≡ v → n ≡ z → Ran a (pick (directoryFull (pageIn d n)) [] (wholeWrite x n u)) l1 b l2 →
@@ -231,7 +193,7 @@ module _ {k : ℕ} {d : List ℕ} (n t : ℕ) (w : opensApart (pageIn d n) ≡ t
           go e g h q = rw (← e, ← g, ← h) q
 
       third : Ran b (referTo 80 (not (directoryFull (pageIn d n))) (length (pageIn d n))) l2 c l3
-      third = go f q3
+      third = go (sym (page-own d n w)) q3
         where
           go : {z : ℕ} → n ≡ z → Ran b (referTo 80 (not (directoryFull (pageIn d n))) n) l2 c l3 → Ran b (referTo 80 (not (directoryFull (pageIn d n))) z) l2 c l3
           go e q = rw (← e) q
@@ -240,8 +202,8 @@ module _ {k : ℕ} {d : List ℕ} (n t : ℕ) (w : opensApart (pageIn d n) ≡ t
           {r : ℕ} {o : List ℕ} → Ran c (freedFrom (length l3) (checksumEnabled (pageIn d n)) (pageIn l3 n) (Unwanted (directoryFull (pageIn d n))) (headerEnd (pageIn d n)) (headerEnd (pageIn d n)) false) l3 r o →
           Ran c (freeingWrites (length d) (pageIn d n) (unwanted (pageIn d n) (pageIn d n))) l3 r o
       fourth {r} {o} q =
-          let m = apart-means (pageIn d n) w in
-          let e = freed-after page-3 (length d) (checksumEnabled (pageIn d n)) (Unwanted (directoryFull (pageIn d n))) (headerEnd (pageIn d n)) (m .0) in
+          let m = worked-of (pageIn d n) w in
+          let e = freed-after page-3 (length d) (checksumEnabled (pageIn d n)) (Unwanted (directoryFull (pageIn d n))) (headerEnd (pageIn d n)) (m .header) in
           let g : Ran c (freedFrom (length d) (checksumEnabled (pageIn d n)) (pageIn l3 n) (Unwanted (directoryFull (pageIn d n))) (headerEnd (pageIn d n)) (headerEnd (pageIn d n)) false) l3 r o =
           go room-3 q in
           rw (← freeing-is (length d) (pageIn d n)) (rw e at g)
@@ -261,42 +223,23 @@ module _ {k : ℕ} {d : List ℕ} (n t : ℕ) (w : opensApart (pageIn d n) ≡ t
 -- as the calls say it
 
 pub body-done :
-    {k : ℕ} {d : List ℕ} (n t : ℕ) {p : Layout} {g : Grid} {a b c r : ℕ} {l1 l2 l3 o : List ℕ} → opensApart (pageIn d n) ≡ true → n ≡ length (pageIn d n) →
+    {k : ℕ} {d : List ℕ} (n t : ℕ) {p : Layout} {g : Grid} {a b c r : ℕ} {l1 l2 l3 o : List ℕ} → workable (pageIn d n) ≡ true →
     p ≡ layoutOf (pageIn d n) → g ≡ gridOf (pageIn d n) → Ran k (openedFieldWrites t) d a l1 →
     Ran a (pick (g .full) [] (wholeWrite (length l1) n (recordOf (p .flag) 5 (directoryForm (g .down) (g .across) ++ referencesOf (compactOf (pageIn l1 n)) (g .count))))) l1 b l2 →
     Ran b (referTo 80 (not (g .full)) n) l2 c l3 →
     Ran c (freedFrom (length l3) (p .flag) (pageIn l3 n) (Unwanted (g .full)) (p .end) (p .end) false) l3 r o →
     Ran k (openBody (length d) (pageIn d n) t) d r o
 unfolding layoutOf gridOf
-body-done {k} {d} n t w f e g q1 q2 q3 q4 = body-of n t w f q1 (rw (e, g) at q2) (rw g at q3) (rw (e, g) at q4)
+body-done {k} {d} n t w e g q1 q2 q3 q4 = body-of n t w q1 (rw (e, g) at q2) (rw g at q3) (rw (e, g) at q4)
 
 pub opening-done :
     {k : ℕ} {d : List ℕ} (n t : ℕ) {p : Layout} {s : List ℕ} {m a r : ℕ} {l o : List ℕ} → s ≡ part d 0 n → p ≡ layoutOf s → m ≡ p .end - 16 →
-    Ran k (openBody (length d) (pageIn d n) t) d a l → Ran a (sealWrite (p .flag) 16 m l) l r o → Ran k (openingWrites d (pageIn d n) t) d r o
-unfolding openingWrites layoutOf
+    Ran k (openBody (length d) (pageIn d n) t) d a l → Ran a (sealWrite (p .flag) 16 m l) l r o → Ran k (openWrites d (pageIn d n) t) d r o
+unfolding openWrites layoutOf
 opening-done {k} {d} n t {p} {s} {m} {a} {r} {l} {o} e f g q q′ =
     let z : p ≡ layoutOf (pageIn d n) = f ∙ ap layoutOf (part-page d n e) in
     let u : Ran a (sealWrite (p .flag) 16 (p .end - 16) l) l r o = rw g at q′ in
     ran-on (sealWrite (checksumEnabled (pageIn d n)) 16 (headerEnd (pageIn d n) - 16)) q (rw z at u)
-
-pub opening-own :
-    {k : ℕ} {d : List ℕ} (n m t : ℕ) {s : List ℕ} {r : ℕ} {o : List ℕ} → s ≡ part d 0 n → m ≡ length s → Ran k (openingWrites d (pageIn d m) t) d r o →
-    Ran k (openingWrites d (pageIn d n) t) d r o
-opening-own {d = d} n m t e f q = rw (same-page d n m e f) at q
-
-pub apart-page : (d : List ℕ) (n : ℕ) {s : List ℕ} {b : Bool} → s ≡ part d 0 n → b ≡ opensApart s → b ≡ true → opensApart (pageIn d n) ≡ true
-apart-page d n e f g = ap opensApart (sym (part-page d n e)) ∙ sym f ∙ g
-
-pub apart-yes-ran :
-    {k : ℕ} {d : List ℕ} (n t : ℕ) {s : List ℕ} {b : Bool} {r : ℕ} {o : List ℕ} → s ≡ part d 0 n → b ≡ opensApart s → b ≡ true →
-    Ran k (openWrites d n t) d r o → Ran k (openStores d n t) d r o
-unfolding openStores
-apart-yes-ran {d = d} n t e f g q = rw (apart-page d n e f g) q
-
-pub apart-no-ran :
-    (k : ℕ) (d : List ℕ) (n t : ℕ) {s : List ℕ} {b : Bool} → s ≡ part d 0 n → b ≡ opensApart s → b ≡ false → Ran k (openStores d n t) d k d
-unfolding openStores
-apart-no-ran k d n t e f g = let z : opensApart (pageIn d n) ≡ false = ap opensApart (sym (part-page d n e)) ∙ sym f ∙ g in rw z (ran-none k d)
 
 -- what the parts of it ask for
 

@@ -1,7 +1,7 @@
--- What the calls read of a page, and of a page within the ceilings. Assumes nothing.
-use Prim.Native.Nat.{ℕ, _≤_}
+-- What the calls read of a page, and of a page that is such as they take for granted. Assumes nothing.
+use Prim.Native.Nat.{ℕ, _≤_, _<_}
 use mathlib.Core.Path.{_≡_, refl, sym, ap, _∙_}
-use mathlib.Core.List.{List, [], _∷_}
+use mathlib.Core.List.{List, []}
 use mathlib.Core.Bool.{Bool, true, false}
 use mathlib.Core.Logic.{by-cases}
 use native.Mathlib.Decide.{decLe}
@@ -11,8 +11,8 @@ use lib.Dec.{eqb}
 use borrow.Author.Tests.{eq-eqb, ne-eqb}
 use Rattle.wire.specs.Pick.{pick}
 use Rattle.wire.specs.Bytes.{part}
-use Rattle.wire.proofs.ByteLaws.{part-length, part-out}
-use Rattle.wire.proofs.TestLaws.{means, yes}
+use Rattle.wire.proofs.ByteLaws.{part-length, part-out, number-out}
+use Rattle.wire.proofs.TestLaws.{means, yes, no, not-both}
 use Rattle.record.specs.Record.{lengthAt}
 use Rattle.record.specs.Chain.{headerEnd}
 use Rattle.header.specs.Fields.{checksumEnabled, elementCount}
@@ -23,15 +23,29 @@ use Rattle.bodies.specs.TileDirectory.{tileDirectoryAt, standardReferences, ref
 use Rattle.check_header.specs.Ceilings.{withinCeilings}
 use Rattle.tile_sizes.specs.TileSizes.{tileSmall, lengthOfTile}
 use Rattle.tile_sizes.proofs.SizeLaws.{entries-few, length-is}
-use Rattle.correct.specs.Front.{pageIn}
-use Rattle.correct.specs.Writes.{keepsCeilings}
-use Rattle.stores.specs.Stores.{Write}
-use Rattle.stores.proofs.JoinLaws.{Ran, ran-none}
+use Rattle.correct.specs.Front.{pageIn, workable}
+use Rattle.correct.proofs.ListLaws.{part-page}
 use Rattle.calls.specs.Layouts.{isWide, layoutOf}
 
-pub keeps-is : (s : List ℕ) (n : ℕ) {r : Bool} → n ≡ length s → r ≡ withinCeilings s n → r ≡ keepsCeilings s
-unfolding keepsCeilings
-keeps-is s n e f = f ∙ rw e
+-- what every call takes for granted
+
+module _ (s : List ℕ) (end : ℕ) (e : end ≡ headerEnd s) where
+  pub work-short : end < 88 → false ≡ workable s
+  unfolding workable
+  work-short h = no _ (λ p. omega (arith, p .1 .0))
+
+  module _ (at : ℕ) (f : at ≡ tileDirectoryAt s) where
+    pub work-before : at < end → false ≡ workable s
+    unfolding workable
+    work-before h = no _ (λ p. omega (arith, p .1 .1 .0))
+
+    pub work-within : 88 ≤ end → end ≤ at → {r : Bool} → r ≡ withinCeilings s (length s) → r ≡ workable s
+    unfolding workable
+    work-within h g {r} w = go r w
+      where
+        go : (r : Bool) → r ≡ withinCeilings s (length s) → r ≡ workable s
+        go true w = yes _ (sym w, (omega arith, (omega arith, tt)))
+        go false w = no _ (λ p. not-both (p .0) (sym w))
 
 pub wide-not : (s : List ℕ) (n : ℕ) → n ≡ referenceSize s → (n ≡ 8 → ⊥) → false ≡ isWide s
 unfolding isWide
@@ -57,69 +71,52 @@ pub layout-is :
 unfolding layoutOf
 layout-is s e f g h i = rw (e, f, h, g, i)
 
--- the page's own length
+-- what it means
 
-module _ (d : List ℕ) (n m : ℕ) {s : List ℕ} (e : s ≡ part d 0 n) (f : m ≡ length s) where
-  pub same-page : pageIn d m ≡ pageIn d n
-  unfolding pageIn
-  same-page =
-      by-cases (decLe n (length d))
-      (λ h. let z : m ≡ n = f ∙ ap length e ∙ part-length d 0 n (omega arith) in rw z)
-      (λ h.
-      let y : part d 0 n ≡ [] = part-out d 0 n (omega arith) in
-      let z : m ≡ 0 = f ∙ ap length (e ∙ y) in
-      rw (z, y) (nothing d))
-    where
-      nothing : (d : List ℕ) → part d 0 0 ≡ []
-      nothing d = empty (part d 0 0) (part-length d 0 0 (omega arith))
-        where
-          empty : (l : List ℕ) → length l ≡ 0 → l ≡ []
-          empty [] p = refl
-          empty (x ∷ l) p = absurd (omega arith)
-
-  pub own-length : m ≡ length (pageIn d m)
-  unfolding pageIn
-  own-length = f ∙ ap length (e ∙ sym same-page)
-
--- within the ceilings
-
-pub record Kept (s : List ℕ) : Type 0 where
+pub record Worked (s : List ℕ) : Type 0 where
   pub file : length s ≤ 16777216
   pub tiles : tileCount s ≤ 65536
   pub elements : elementCount s ≤ 16
   pub tile : tileBytes s ≤ 1048576
+  pub header : 88 ≤ headerEnd s
+  pub apart : headerEnd s ≤ tileDirectoryAt s
 
-pub kept-of : (s : List ℕ) → keepsCeilings s ≡ true → Kept s
-unfolding keepsCeilings withinCeilings
-kept-of s e =
-    let h = means _ e in
-    record { file = h .0; tiles = h .1 .1 .0; elements = h .1 .1 .1 .0; tile = h .1 .1 .1 .1 .0 }
+pub worked-of : (s : List ℕ) → workable s ≡ true → Worked s
+unfolding workable withinCeilings
+worked-of s e =
+    let w = means _ e in
+    let h = means _ (w .0) in
+    record { file = h .0; tiles = h .1 .1 .0; elements = h .1 .1 .1 .0; tile = h .1 .1 .1 .1 .0; header = w .1 .0; apart = w .1 .1 .0 }
 
-module _ (s : List ℕ) (w : Kept s) where
-  pub kept-small : tileSmall s ≡ true
+module _ (s : List ℕ) (w : Worked s) where
+  pub worked-small : tileSmall s ≡ true
   unfolding tileSmall
-  kept-small = sym (yes _ (w .tile, tt))
+  worked-small = sym (yes _ (w .tile, tt))
 
   pub tile-length-is : (r : ℕ) → r ≡ lengthOfTile s → r ≡ plainTileLength s
-  tile-length-is r e = e ∙ sym (length-is s kept-small (plainTileLength s) refl)
+  tile-length-is r e = e ∙ sym (length-is s worked-small (plainTileLength s) refl)
 
   pub plain-small : plainTileLength s ≤ 1048711
   plain-small = omega (arith, plain-most s, w .tile, entries-few s)
 
--- where the page does not keep them, there are no writes
+-- of a page in a buffer: it lies whole in it
 
-pub guarded-yes :
-    {k : ℕ} {d : List ℕ} (n : ℕ) {s : List ℕ} {b : Bool} (ws : List Write) {r : ℕ} {o : List ℕ} → s ≡ part d 0 n → b ≡ keepsCeilings s → b ≡ true →
-    Ran k ws d r o → Ran k (pick (keepsCeilings (pageIn d n)) ws []) d r o
-unfolding pageIn
-guarded-yes n ws e f g q = rw (← e, ← f, g) q
+module _ (b : List ℕ) (n : ℕ) where
+  pub page-own : workable (pageIn b n) ≡ true → length (pageIn b n) ≡ n
+  unfolding pageIn headerEnd
+  page-own e =
+      by-cases (decLe n (length b)) (λ h. part-length b 0 n (omega arith))
+      (λ h.
+      let z : part b 0 n ≡ [] = part-out b 0 n (omega arith) in
+      let w : 88 ≤ headerEnd [] = worked-of [] (rw z at e) .header in
+      absurd (omega (arith, number-out 4 [] 16 (omega arith))))
 
-pub guarded-no :
-    (k : ℕ) (d : List ℕ) (n : ℕ) {s : List ℕ} {b : Bool} (ws : List Write) → s ≡ part d 0 n → b ≡ keepsCeilings s → b ≡ false →
-    Ran k (pick (keepsCeilings (pageIn d n)) ws []) d k d
-unfolding pageIn
-guarded-no k d n ws e f g = rw (← e, ← f, g) (ran-none k d)
+  pub page-in : workable (pageIn b n) ≡ true → n ≤ length b
+  unfolding pageIn
+  page-in e = by-cases (decLe n (length b)) (λ h. h) (λ h. let z = ap length (part-out b 0 n (omega arith)) in omega (arith, page-own e, z))
 
-pub kept-page : (d : List ℕ) (n : ℕ) {s : List ℕ} {b : Bool} → s ≡ part d 0 n → b ≡ keepsCeilings s → b ≡ true → keepsCeilings (pageIn d n) ≡ true
-unfolding pageIn
-kept-page d n e f g = rw (← e, ← f) g
+  pub page-worked : {s : List ℕ} → s ≡ part b 0 n → workable (pageIn b n) ≡ true → workable s ≡ true
+  page-worked e h = ap workable (part-page b n e) ∙ h
+
+  pub worked-page : {s : List ℕ} {w : Bool} → s ≡ part b 0 n → w ≡ workable s → {v : Bool} → w ≡ v → workable (pageIn b n) ≡ v
+  worked-page e f g = ap workable (sym (part-page b n e)) ∙ sym f ∙ g

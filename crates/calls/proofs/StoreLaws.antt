@@ -1,5 +1,5 @@
 -- The byte stores of storing. Assumes nothing.
-use Prim.Native.Nat.{ℕ, zero, suc, _+_, _-_, _≤_, _<_}
+use Prim.Native.Nat.{ℕ, zero, suc, max, _+_, _-_, _≤_, _<_}
 use mathlib.Core.Path.{_≡_, refl, sym, ap, _∙_}
 use mathlib.Core.List.{List}
 use mathlib.Core.Bool.{Bool, true, false}
@@ -21,10 +21,10 @@ use Rattle.tile_sizes.proofs.SizeLaws.{sizes-read}
 use Rattle.stores.specs.Writes.{wholeWrite}
 use Rattle.stores.proofs.JoinLaws.{Ran, ran-then, ran-room}
 use Rattle.pieces.specs.Edits.{roomFor}
-use Rattle.correct.specs.Front.{pageIn}
-use Rattle.correct.specs.Storing.{tileAt, storedOver, freedOf, storedAt}
+use Rattle.correct.specs.Front.{pageIn, workable}
+use Rattle.correct.specs.Storing.{tileReferred, storedOver, freedOf, storedAt, storedLength}
 use Rattle.correct.specs.RecordWrites.{sizeIn, restWrites, cellWrites, overWrites, referWrites}
-use Rattle.correct.specs.Writes.{keepsCeilings, newWrites, thenRefer, storingWrites}
+use Rattle.correct.specs.Writes.{newWrites, thenRefer, storeWrites}
 use Rattle.correct.proofs.ListLaws.{part-page}
 use Rattle.correct.proofs.TileLaws.{size-is}
 use Rattle.edit_walks.specs.declared.Spot.{Spot}
@@ -32,19 +32,20 @@ use Rattle.edit_walks.specs.declared.Wanted.the-variants.{Tile}
 use Rattle.edit_walks.specs.Walks.{freedFrom, spotOf, overAt}
 use Rattle.edit_walks.proofs.StoredLaws.{tile-inside}
 use Rattle.calls.specs.declared.Layout.{Layout}
-use Rattle.calls.specs.Layouts.{layoutOf, SizesIn, NewReady}
-use Rattle.calls.proofs.ReadLaws.{kept-of, kept-small, tile-length-is, plain-small}
+use Rattle.calls.specs.declared.Plan.{Plan}
+use Rattle.calls.specs.Layouts.{layoutOf, planOf, SizesIn, NewReady}
+use Rattle.calls.proofs.ReadLaws.{worked-of, worked-small, tile-length-is}
 use Rattle.calls.proofs.InnerLaws.{freeing-done, refer-done}
 
 -- the sizes as they are handed on
 
 pub sizes-told :
-    (d : List ℕ) (n : ℕ) {s us : List ℕ} (zs : List ℕ) → s ≡ part d 0 n → us ≡ withSizes s zs → keepsCeilings (pageIn d n) ≡ true → 16 ≤ length zs →
+    (d : List ℕ) (n : ℕ) {s us : List ℕ} (zs : List ℕ) → s ≡ part d 0 n → us ≡ withSizes s zs → workable (pageIn d n) ≡ true → 16 ≤ length zs →
     SizesIn (pageIn d n) us
 sizes-told d n {s} {us} zs e f g h i k =
     let x = pageIn d n in
     let z : us ≡ withSizes x zs = f ∙ ap (λ (y : List ℕ). withSizes y zs) (part-page d n e) in
-    size-is us i ∙ ap (λ (y : List ℕ). getD y i 0) z ∙ sizes-read x zs (kept-small x (kept-of x g)) h i k
+    size-is us i ∙ ap (λ (y : List ℕ). getD y i 0) z ∙ sizes-read x zs (worked-small x (worked-of x g)) h i k
 
 -- of two such functions of the elements' numbers, each does for the other
 
@@ -145,22 +146,20 @@ new-done {k} {d} n i us c {p} {spot} {long} {count} {rest} {a} {b} {r} {l} {m} {
 -- what is known for it
 
 pub new-ready :
-    (d : List ℕ) (n i : ℕ) {s us : List ℕ} {p : Layout} {spot : Spot} {long count : ℕ} → s ≡ part d 0 n → keepsCeilings (pageIn d n) ≡ true →
-    SizesIn (pageIn d n) us → p ≡ layoutOf s → long ≡ lengthOfTile s → spot ≡ spotOf s i long → spot .at ≤ 4294967311 + length s → count ≡ entriesRead s →
-    NewReady (pageIn d n) i p spot long us count
+    (d : List ℕ) (n i : ℕ) {s us : List ℕ} {p : Layout} {spot : Spot} {long count : ℕ} → s ≡ part d 0 n → workable (pageIn d n) ≡ true →
+    SizesIn (pageIn d n) us → p ≡ layoutOf s → long ≡ lengthOfTile s → spot ≡ spotOf (pageIn d n) i (plainTileLength (pageIn d n)) →
+    spot .at + plainTileLength (pageIn d n) ≤ 16777216 → count ≡ entriesRead s → NewReady (pageIn d n) i p spot long us count
 new-ready d n i {s} {us} {p} {spot} {long} {count} e k w f g h j m =
     let z = part-page d n e in
     let y = pageIn d n in
-    let a = kept-of y k in
-    let b : long ≡ plainTileLength y = tile-length-is y a long (g ∙ ap lengthOfTile z) in
-    let c : length s ≡ length y = ap length z in
+    let b : long ≡ plainTileLength y = tile-length-is y (worked-of y k) long (g ∙ ap lengthOfTile z) in
     record {
       layout = f ∙ ap layoutOf z;
       length-is = b;
-      place = h ∙ ap (λ (x : List ℕ). spotOf x i long) z;
+      place = h ∙ ap (spotOf y i) (sym b);
       sizes = w;
       count-is = m ∙ ap entriesRead z;
-      near = omega (arith, plain-small y a, a .file);
+      near = omega arith;
     }
 
 pub new-content : (s : List ℕ) (i : ℕ) {p : Layout} {spot : Spot} {long : ℕ} {us : List ℕ} {count : ℕ} → NewReady s i p spot long us count → spot .at + 8 ≡ contentAt (storedAt s i)
@@ -177,15 +176,15 @@ new-referred {d = d} n i c {spot = spot} w q q′ =
 -- which of the two
 
 module _ (s : List ℕ) (i : ℕ) where
-  pub over-at : {x : ℕ} → overAt s i ≡ At x → (storedOver s i ≡ true) × (tileAt s i ≡ At x)
+  pub over-at : {x : ℕ} → overAt s i ≡ At x → (storedOver s i ≡ true) × (tileReferred s i ≡ At x)
   unfolding overAt
   over-at {x} e = go (storedOver s i) refl
     where
-      go : (b : Bool) → storedOver s i ≡ b → (storedOver s i ≡ true) × (tileAt s i ≡ At x)
+      go : (b : Bool) → storedOver s i ≡ b → (storedOver s i ≡ true) × (tileReferred s i ≡ At x)
       go true f = (f, rw f at e)
       go false f = found-not (sym e) (rw f)
 
-  over-absent : tileAt s i ≡ Nothing → storedOver s i ≡ false
+  over-absent : tileReferred s i ≡ Nothing → storedOver s i ≡ false
   unfolding storedOver
   over-absent f = rw f
 
@@ -198,38 +197,48 @@ module _ (s : List ℕ) (i : ℕ) where
       go false f = f
 
   over-writes :
-      (d c : List ℕ) {x : ℕ} → overAt s i ≡ At x → storingWrites d s i c ≡ overWrites (checksumEnabled s) x (lengthAt s x) (elementBytes s) (entriesRead s) c d
-  unfolding storingWrites
+      (d c : List ℕ) {x : ℕ} → overAt s i ≡ At x → storeWrites d s i c ≡ overWrites (checksumEnabled s) x (lengthAt s x) (elementBytes s) (entriesRead s) c d
+  unfolding storeWrites
   over-writes d c e = let f = over-at e in rw (f .0, f .1)
 
   new-writes :
-      (d c : List ℕ) → overAt s i ≡ Nothing → storingWrites d s i c ≡ thenRefer s i (contentAt (storedAt s i)) (newWrites (length d) s i c) d
-  unfolding storingWrites
+      (d c : List ℕ) → overAt s i ≡ Nothing → storeWrites d s i c ≡ thenRefer s i (contentAt (storedAt s i)) (newWrites (length d) s i c) d
+  unfolding storeWrites
   new-writes d c e = rw (over-none e)
 
+-- as it was planned
+
+over-is : (s : List ℕ) (i : ℕ) {p : Plan} → p ≡ planOf s i → {f : Found} → p .over ≡ f → overAt s i ≡ f
+unfolding planOf
+over-is s i e g = sym (ap (λ (x : Plan). x .over) e) ∙ g
+
 pub storing-over :
-    {k : ℕ} {d : List ℕ} (n i x : ℕ) (c : List ℕ) {s : List ℕ} {t : Found} {r : ℕ} {o : List ℕ} → s ≡ part d 0 n → t ≡ overAt s i → t ≡ At x →
+    {k : ℕ} {d : List ℕ} (n i x : ℕ) (c : List ℕ) {p : Plan} {r : ℕ} {o : List ℕ} → p ≡ planOf (pageIn d n) i → p .over ≡ At x →
     Ran k (overWrites (checksumEnabled (pageIn d n)) x (lengthAt (pageIn d n) x) (elementBytes (pageIn d n)) (entriesRead (pageIn d n)) c d) d r o →
-    Ran k (storingWrites d (pageIn d n) i c) d r o
-storing-over {k} {d} n i x c {s} e f g q =
-    let z : overAt (pageIn d n) i ≡ At x = ap (λ (y : List ℕ). overAt y i) (sym (part-page d n e)) ∙ sym f ∙ g in
-    rw (over-writes (pageIn d n) i d c z) q
+    Ran k (storeWrites d (pageIn d n) i c) d r o
+storing-over {d = d} n i x c e g q = rw (over-writes (pageIn d n) i d c (over-is (pageIn d n) i e g)) q
 
 pub storing-new :
-    {k : ℕ} {d : List ℕ} (n i : ℕ) (c : List ℕ) {s : List ℕ} {t : Found} {r : ℕ} {o : List ℕ} → s ≡ part d 0 n → t ≡ overAt s i → t ≡ Nothing →
+    {k : ℕ} {d : List ℕ} (n i : ℕ) (c : List ℕ) {p : Plan} {r : ℕ} {o : List ℕ} → p ≡ planOf (pageIn d n) i → p .over ≡ Nothing →
     Ran k (thenRefer (pageIn d n) i (contentAt (storedAt (pageIn d n) i)) (newWrites (length d) (pageIn d n) i c) d) d r o →
-    Ran k (storingWrites d (pageIn d n) i c) d r o
-storing-new {k} {d} n i c {s} e f g q =
-    let z : overAt (pageIn d n) i ≡ Nothing = ap (λ (y : List ℕ). overAt y i) (sym (part-page d n e)) ∙ sym f ∙ g in
-    rw (new-writes (pageIn d n) i d c z) q
+    Ran k (storeWrites d (pageIn d n) i c) d r o
+storing-new {d = d} n i c e g q = rw (new-writes (pageIn d n) i d c (over-is (pageIn d n) i e g)) q
 
--- the record stands in the page, which is not long
-pub over-place :
-    (d : List ℕ) (n i x : ℕ) {s : List ℕ} {t : Found} → s ≡ part d 0 n → keepsCeilings (pageIn d n) ≡ true → t ≡ overAt s i → t ≡ At x → x < 4294967296
-over-place d n i x {s} {t} e k f g =
-    let z = part-page d n e in
-    let y = kept-of (pageIn d n) k in
-    let a = over-at s i (sym f ∙ g) in
-    let b : x < length s = tile-inside s i x (a .1) refl in
-    let c : length s ≡ length (pageIn d n) = ap length z in
-    omega (arith, y .file)
+-- the record stands in the page, which is not long; a new one ends within the length that was judged
+
+module _ (d : List ℕ) (n i : ℕ) {p : Plan} (w : workable (pageIn d n) ≡ true) (e : p ≡ planOf (pageIn d n) i) where
+  pub over-place : (x : ℕ) → p .over ≡ At x → x < 4294967296
+  over-place x g =
+      let a = over-at (pageIn d n) i (over-is (pageIn d n) i e g) in
+      omega (arith, tile-inside (pageIn d n) i x (a .1) refl, worked-of (pageIn d n) w .file)
+
+  pub new-place :
+      p .over ≡ Nothing → storedLength (pageIn d n) i ≤ 16777216 →
+      (p .spot ≡ spotOf (pageIn d n) i (plainTileLength (pageIn d n))) × (p .spot .at + plainTileLength (pageIn d n) ≤ 16777216)
+  unfolding planOf storedLength
+  new-place g h =
+      let z = over-none (pageIn d n) i (over-is (pageIn d n) i e g) in
+      let y : p .spot ≡ spotOf (pageIn d n) i (plainTileLength (pageIn d n)) = rw z at (ap (λ (x : Plan). x .spot) e) in
+      let a = spot-is (pageIn d n) i refl y in
+      let l : max (length (pageIn d n)) (storedAt (pageIn d n) i + plainTileLength (pageIn d n)) ≤ 16777216 = rw z at h in
+      (y, omega (arith, a .0))

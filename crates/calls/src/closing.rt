@@ -1,5 +1,4 @@
 // Closing: the list of free records behind the page, if there are any, then the header.
-use crate::reading;
 use correct::directories;
 use correct::front;
 use edit_walks::stored;
@@ -7,17 +6,17 @@ use header::fields;
 use record::chain;
 ghost use mathlib.Core.Path.{_≡_};
 ghost use mathlib.Core.Bool.{true};
-ghost use Prim.Native.Nat.{_-_, _≤_};
+ghost use Prim.Native.Nat.{_-_};
 ghost use lib.ListN.{length};
 ghost use Rattle.header.specs.Fields.{checksumEnabled};
 ghost use Rattle.stores.specs.Stores.{storeCount, stopped};
-ghost use Rattle.correct.specs.Front.{pageIn};
+ghost use Rattle.correct.specs.Front.{pageIn, workable};
 ghost use Rattle.correct.specs.Closing.{anyFree};
-ghost use Rattle.correct.specs.Writes.{keepsCeilings, listWrites, closingWrites, closeWrites};
+ghost use Rattle.correct.specs.Writes.{listWrites, closeWrites};
 
 // The list of free records, if there are any.
 fn list_cut(out: &mut [u8], n: usize, flag: u32, there: bool, k: usize) -> usize
-    requires { ⌜ (n ≤ 16777216) × ((n ≡ length (pageIn (now out) n)) × ((flag ≡ checksumEnabled (pageIn (now out) n)) × (there ≡ anyFree (pageIn (now out) n)))) ⌝ }
+    requires { ⌜ (workable (pageIn (now out) n) ≡ true) × ((flag ≡ checksumEnabled (pageIn (now out) n)) × (there ≡ anyFree (pageIn (now out) n))) ⌝ }
     ensures left { λ r. ⌜ r ≡ k - storeCount (listWrites (length (now (out .entry))) (pageIn (now (out .entry)) n)) ⌝ }
     ensures holds { λ _. ⌜ now (out .exit) ≡ stopped k (listWrites (length (now (out .entry))) (pageIn (now (out .entry)) n)) (now (out .entry)) ⌝ }
 {
@@ -27,11 +26,10 @@ fn list_cut(out: &mut [u8], n: usize, flag: u32, there: bool, k: usize) -> usize
     k
 }
 
-// Of a page within the ceilings.
-fn closing_cut(out: &mut [u8], n: usize, time: u64, k: usize) -> usize
-    requires { ⌜ (keepsCeilings (pageIn (now out) n) ≡ true) × (n ≡ length (pageIn (now out) n)) ⌝ }
-    ensures left { λ r. ⌜ r ≡ k - storeCount (closingWrites (now (out .entry)) (pageIn (now (out .entry)) n) time) ⌝ }
-    ensures holds { λ _. ⌜ now (out .exit) ≡ stopped k (closingWrites (now (out .entry)) (pageIn (now (out .entry)) n) time) (now (out .entry)) ⌝ }
+pub(crate) fn closing_cut(out: &mut [u8], n: usize, time: u64, k: usize) -> usize
+    requires { ⌜ workable (pageIn (now out) n) ≡ true ⌝ }
+    ensures left { λ r. ⌜ r ≡ k - storeCount (closeWrites (now (out .entry)) (pageIn (now (out .entry)) n) time) ⌝ }
+    ensures holds { λ _. ⌜ now (out .exit) ≡ stopped k (closeWrites (now (out .entry)) (pageIn (now (out .entry)) n) time) (now (out .entry)) ⌝ }
 {
     let s = wire::part_of(out, 0, n);
     let flag = fields::checksum_enabled(s);
@@ -40,16 +38,4 @@ fn closing_cut(out: &mut [u8], n: usize, time: u64, k: usize) -> usize
     let p = front::first_set(wire::part_of(s, 48, 8));
     let a = list_cut(out, n, flag, there, k);
     front::put_closing_cut(out, flag, end, time, there, n as u32, p as u8, a)
-}
-
-pub fn close_page_cut(out: &mut [u8], n: usize, time: u64, k: usize) -> usize
-    ensures left { λ r. ⌜ r ≡ k - storeCount (closeWrites (now (out .entry)) n time) ⌝ }
-    ensures holds { λ _. ⌜ now (out .exit) ≡ stopped k (closeWrites (now (out .entry)) n time) (now (out .entry)) ⌝ }
-{
-    let s = wire::part_of(out, 0, n);
-    let m = s.len();
-    if reading::keeps_ceilings(s) {
-        return closing_cut(out, m, time, k);
-    }
-    k
 }

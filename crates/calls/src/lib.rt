@@ -1,23 +1,27 @@
 // Correcting a page where it lies (Req 03): the four calls.
 //
-// Each takes the page's length n, judges, and then makes its byte stores; a refusal changes nothing. The forms that make the stores
-// stand by themselves: they stop after k of them (Req 05) and hand back what is left of k. They make no check of their own, and are
-// total: where the page's bytes pass a house ceiling they store nothing. Who makes many calls on a page that was judged once uses them.
+// Each takes the page's length n, judges, and then makes its byte stores; a refusal changes nothing. In `on` the calls stand without the
+// check of the page, for who makes many calls on a page that was judged once: the page is taken to be such as the call wants it. They
+// are total. All of them stop after a number of byte stores (Req 05); the four calls here have enough.
 //
 // No function can lend the page for reading and write the buffer at once. So what a call needs is read first, by value, and written
-// then.
-pub mod closing;
+// then: judging answers what is to be done, and writing takes it.
+mod closing;
+mod judging;
 mod lengths;
-pub mod opening;
+pub mod on;
+mod opening;
 mod reading;
-pub mod removing;
+mod removing;
 pub mod stops;
-pub mod storing;
-pub mod verdicts;
+mod storing;
 
 use answer::Laid;
+use answer::Refusal;
+use edit_walks::Spot;
+use record::Found;
 ghost use mathlib.Core.Path.{_≡_};
-ghost use Rattle.correct.specs.Answers.{openAnswer, storeAnswer, removeAnswer, closeAnswer, openOut, storeOut, removeOut, closeOut};
+ghost use Rattle.correct.specs.Calls.{Call, changeOf, answerBy, outBy};
 
 // What the calls read of a page: the header's flag for checksums and where it ends, and the tile directory: where its record starts,
 // how long that is, and whether its references have eight bytes.
@@ -37,6 +41,19 @@ struct Grid {
     pub count: u32,
 }
 
+// What storing a tile is to do: the record that it is stored over, or where the new one goes; and how long the page then is.
+struct Plan {
+    pub over: Found,
+    pub spot: Spot,
+    pub long: usize,
+}
+
+// What is judged of it.
+enum Judged {
+    Refused(Refusal),
+    Planned(Plan),
+}
+
 // What a call that stops answers: what the call does, and how many byte stores it has made.
 pub struct StoppedCall {
     pub answer: Laid,
@@ -44,12 +61,12 @@ pub struct StoppedCall {
 }
 
 // More byte stores than any call makes.
-const ALL: usize = 18446744073709551615;
+pub const ALL: usize = 18446744073709551615;
 
 // Opens a page for writing: the buffer, the page's length, the opened time.
 pub fn open_page(buf: &mut [u8], n: usize, time: u64) -> Laid
-    ensures answer { λ r. ⌜ r ≡ openAnswer (now (buf .entry)) n time ⌝ }
-    ensures buffer { λ _. ⌜ now (buf .exit) ≡ openOut (now (buf .entry)) n time ⌝ }
+    ensures answer { λ r. ⌜ r ≡ answerBy (changeOf (Call.Opening time) (now (buf .entry)) n) ⌝ }
+    ensures buffer { λ _. ⌜ now (buf .exit) ≡ outBy (changeOf (Call.Opening time) (now (buf .entry)) n) (now (buf .entry)) ⌝ }
 {
     let x = stops::open_page_stopped(buf, n, time, ALL);
     x.answer
@@ -57,8 +74,8 @@ pub fn open_page(buf: &mut [u8], n: usize, time: u64) -> Laid
 
 // Stores a whole tile, uncompressed: its index, and the cell bytes of all elements in order, no lengths, no padding.
 pub fn store_tile(buf: &mut [u8], n: usize, tile: u64, cells: &[u8]) -> Laid
-    ensures answer { λ r. ⌜ r ≡ storeAnswer (now (buf .entry)) n tile (now (cells .entry)) ⌝ }
-    ensures buffer { λ _. ⌜ now (buf .exit) ≡ storeOut (now (buf .entry)) n tile (now (cells .entry)) ⌝ }
+    ensures answer { λ r. ⌜ r ≡ answerBy (changeOf (Call.Storing tile (now (cells .entry))) (now (buf .entry)) n) ⌝ }
+    ensures buffer { λ _. ⌜ now (buf .exit) ≡ outBy (changeOf (Call.Storing tile (now (cells .entry))) (now (buf .entry)) n) (now (buf .entry)) ⌝ }
 {
     let x = stops::store_tile_stopped(buf, n, tile, cells, ALL);
     x.answer
@@ -66,8 +83,8 @@ pub fn store_tile(buf: &mut [u8], n: usize, tile: u64, cells: &[u8]) -> Laid
 
 // Removes a tile. One that is absent stays so.
 pub fn remove_tile(buf: &mut [u8], n: usize, tile: u64) -> Laid
-    ensures answer { λ r. ⌜ r ≡ removeAnswer (now (buf .entry)) n tile ⌝ }
-    ensures buffer { λ _. ⌜ now (buf .exit) ≡ removeOut (now (buf .entry)) n tile ⌝ }
+    ensures answer { λ r. ⌜ r ≡ answerBy (changeOf (Call.Removing tile) (now (buf .entry)) n) ⌝ }
+    ensures buffer { λ _. ⌜ now (buf .exit) ≡ outBy (changeOf (Call.Removing tile) (now (buf .entry)) n) (now (buf .entry)) ⌝ }
 {
     let x = stops::remove_tile_stopped(buf, n, tile, ALL);
     x.answer
@@ -75,8 +92,8 @@ pub fn remove_tile(buf: &mut [u8], n: usize, tile: u64) -> Laid
 
 // Closes a page: the time modified.
 pub fn close_page(buf: &mut [u8], n: usize, time: u64) -> Laid
-    ensures answer { λ r. ⌜ r ≡ closeAnswer (now (buf .entry)) n time ⌝ }
-    ensures buffer { λ _. ⌜ now (buf .exit) ≡ closeOut (now (buf .entry)) n time ⌝ }
+    ensures answer { λ r. ⌜ r ≡ answerBy (changeOf (Call.Closing time) (now (buf .entry)) n) ⌝ }
+    ensures buffer { λ _. ⌜ now (buf .exit) ≡ outBy (changeOf (Call.Closing time) (now (buf .entry)) n) (now (buf .entry)) ⌝ }
 {
     let x = stops::close_page_stopped(buf, n, time, ALL);
     x.answer

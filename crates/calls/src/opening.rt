@@ -3,13 +3,11 @@
 use crate::Grid;
 use crate::Layout;
 use crate::reading;
-use bodies::tile_directory;
 use correct::directories;
 use correct::front;
 use edit_walks::Wanted;
 use edit_walks::freeing;
 use geometry::tiles;
-use record::chain;
 use stores;
 use writable;
 use written_records::pieces as parts;
@@ -24,29 +22,14 @@ ghost use Rattle.written_records.specs.Pieces.{recordOf};
 ghost use Rattle.written_records.specs.Directory.{directoryForm, referencesOf};
 ghost use Rattle.stores.specs.Stores.{storeCount, stopped};
 ghost use Rattle.stores.specs.Writes.{wholeWrite};
-ghost use Rattle.correct.specs.Front.{pageIn};
+ghost use Rattle.correct.specs.Front.{pageIn, workable};
 ghost use Rattle.correct.specs.Opening.{compactOf};
-ghost use Rattle.correct.specs.Writes.{keepsCeilings, openBody, openingWrites, openWrites};
-ghost use Rattle.calls.specs.Layouts.{layoutOf};
-ghost use Rattle.calls.specs.Opens.{opensApart, openStores, gridOf};
-
-// Whether the directory and the records stand apart from the fields that are set.
-fn opens_apart(s: &[u8]) -> bool
-    ensures { λ r. ⌜ r ≡ opensApart (now (s .entry)) ⌝ }
-{
-    let end = chain::header_end(s);
-    if end < 88 {
-        return false;
-    }
-    if tile_directory::tile_directory_at(s) < end {
-        return false;
-    }
-    true
-}
+ghost use Rattle.correct.specs.Writes.{openBody, openWrites};
+ghost use Rattle.calls.specs.Layouts.{layoutOf, gridOf};
 
 // The tiles of the grid, and whether the directory lists each.
 fn grid_of(s: &[u8]) -> Grid
-    requires { ⌜ keepsCeilings (now s) ≡ true ⌝ }
+    requires { ⌜ workable (now s) ≡ true ⌝ }
     ensures { λ r. ⌜ r ≡ gridOf (now (s .entry)) ⌝ }
 {
     let full = writable::directory_full(s);
@@ -74,7 +57,7 @@ fn directory_cut(out: &mut [u8], n: usize, flag: u32, g: Grid, k: usize) -> usiz
 
 // All but the header's checksum.
 fn body_cut(out: &mut [u8], n: usize, time: u64, p: Layout, g: Grid, k: usize) -> usize
-    requires { ⌜ (keepsCeilings (pageIn (now out) n) ≡ true) × ((opensApart (pageIn (now out) n) ≡ true) × ((n ≡ length (pageIn (now out) n)) × ((p ≡ layoutOf (pageIn (now out) n)) × (g ≡ gridOf (pageIn (now out) n))))) ⌝ }
+    requires { ⌜ (workable (pageIn (now out) n) ≡ true) × ((p ≡ layoutOf (pageIn (now out) n)) × (g ≡ gridOf (pageIn (now out) n))) ⌝ }
     ensures left { λ r. ⌜ r ≡ k - storeCount (openBody (length (now (out .entry))) (pageIn (now (out .entry)) n) time) ⌝ }
     ensures holds { λ _. ⌜ now (out .exit) ≡ stopped k (openBody (length (now (out .entry))) (pageIn (now (out .entry)) n) time) (now (out .entry)) ⌝ }
 {
@@ -84,39 +67,14 @@ fn body_cut(out: &mut [u8], n: usize, time: u64, p: Layout, g: Grid, k: usize) -
     freeing::join_cut(out, n, p.flag, p.end, Wanted::Unwanted(g.full), c)
 }
 
-// Of a page within the ceilings, whose directory and records stand apart.
-fn opening_cut(out: &mut [u8], n: usize, time: u64, k: usize) -> usize
-    requires { ⌜ (keepsCeilings (pageIn (now out) n) ≡ true) × ((opensApart (pageIn (now out) n) ≡ true) × (n ≡ length (pageIn (now out) n))) ⌝ }
-    ensures left { λ r. ⌜ r ≡ k - storeCount (openingWrites (now (out .entry)) (pageIn (now (out .entry)) n) time) ⌝ }
-    ensures holds { λ _. ⌜ now (out .exit) ≡ stopped k (openingWrites (now (out .entry)) (pageIn (now (out .entry)) n) time) (now (out .entry)) ⌝ }
+pub(crate) fn opening_cut(out: &mut [u8], n: usize, time: u64, k: usize) -> usize
+    requires { ⌜ workable (pageIn (now out) n) ≡ true ⌝ }
+    ensures left { λ r. ⌜ r ≡ k - storeCount (openWrites (now (out .entry)) (pageIn (now (out .entry)) n) time) ⌝ }
+    ensures holds { λ _. ⌜ now (out .exit) ≡ stopped k (openWrites (now (out .entry)) (pageIn (now (out .entry)) n) time) (now (out .entry)) ⌝ }
 {
     let s = wire::part_of(out, 0, n);
     let p = reading::layout_of(s);
     let g = grid_of(s);
     let a = body_cut(out, n, time, p, g, k);
     stores::seal_cut(out, 16, parts::difference(p.end, 16), p.flag, a)
-}
-
-// Of a page whose directory and records stand apart.
-fn within_cut(out: &mut [u8], n: usize, time: u64, k: usize) -> usize
-    requires { ⌜ opensApart (pageIn (now out) n) ≡ true ⌝ }
-    ensures left { λ r. ⌜ r ≡ k - storeCount (openWrites (now (out .entry)) n time) ⌝ }
-    ensures holds { λ _. ⌜ now (out .exit) ≡ stopped k (openWrites (now (out .entry)) n time) (now (out .entry)) ⌝ }
-{
-    let s = wire::part_of(out, 0, n);
-    let m = s.len();
-    if reading::keeps_ceilings(s) {
-        return opening_cut(out, m, time, k);
-    }
-    k
-}
-
-pub fn open_page_cut(out: &mut [u8], n: usize, time: u64, k: usize) -> usize
-    ensures left { λ r. ⌜ r ≡ k - storeCount (openStores (now (out .entry)) n time) ⌝ }
-    ensures holds { λ _. ⌜ now (out .exit) ≡ stopped k (openStores (now (out .entry)) n time) (now (out .entry)) ⌝ }
-{
-    if opens_apart(wire::part_of(out, 0, n)) {
-        return within_cut(out, n, time, k);
-    }
-    k
 }

@@ -6,13 +6,20 @@ use edit_walks::places;
 use header::fields;
 ghost use mathlib.Core.Path.{_≡_};
 ghost use Prim.Native.Nat.{_≤_};
-ghost use Rattle.correct.specs.Writes.{keepsCeilings};
+ghost use Rattle.correct.specs.Front.{workable};
 ghost use Rattle.calls.specs.Layouts.{isWide, layoutOf};
 
-// Whether it keeps the house ceilings.
-pub(crate) fn keeps_ceilings(s: &[u8]) -> bool
-    ensures { λ r. ⌜ r ≡ keepsCeilings (now (s .entry)) ⌝ }
+// Whether it is such as every call takes for granted.
+pub(crate) fn is_workable(s: &[u8]) -> bool
+    ensures { λ r. ⌜ r ≡ workable (now (s .entry)) ⌝ }
 {
+    let end = places::records_start(s);
+    if end < 88 {
+        return false;
+    }
+    if tile_directory::tile_directory_at(s) < end {
+        return false;
+    }
     ceilings::within_ceilings(s, s.len())
 }
 

@@ -8,28 +8,17 @@ ghost use mathlib.Core.Path.{_≡_};
 ghost use Prim.Native.Nat.{_-_};
 ghost use Rattle.stores.specs.Stores.{storeCount, stopped};
 ghost use Rattle.correct.specs.Front.{pageIn};
-ghost use Rattle.correct.specs.Writes.{removingWrites, removeWrites};
+ghost use Rattle.correct.specs.Writes.{removeWrites};
 
-// Of a page within the ceilings.
-fn removing_cut(out: &mut [u8], n: usize, tile: u32, k: usize) -> usize
-    ensures left { λ r. ⌜ r ≡ k - storeCount (removingWrites (now (out .entry)) (pageIn (now (out .entry)) n) tile) ⌝ }
-    ensures holds { λ _. ⌜ now (out .exit) ≡ stopped k (removingWrites (now (out .entry)) (pageIn (now (out .entry)) n) tile) (now (out .entry)) ⌝ }
+pub(crate) fn removing_cut(out: &mut [u8], n: usize, tile: u32, k: usize) -> usize
+    ensures left { λ r. ⌜ r ≡ k - storeCount (removeWrites (now (out .entry)) (pageIn (now (out .entry)) n) tile) ⌝ }
+    ensures holds { λ _. ⌜ now (out .exit) ≡ stopped k (removeWrites (now (out .entry)) (pageIn (now (out .entry)) n) tile) (now (out .entry)) ⌝ }
 {
     let s = wire::part_of(out, 0, n);
     if stored::is_there(s, tile) {
         let p = reading::layout_of(s);
         let a = freeing::join_cut(out, n, p.flag, p.end, Wanted::Tile(tile), k);
         return references::refer_cut(out, p.directory, p.long, p.flag, p.wide, tile, 0, a);
-    }
-    k
-}
-
-pub fn remove_tile_cut(out: &mut [u8], n: usize, tile: u32, k: usize) -> usize
-    ensures left { λ r. ⌜ r ≡ k - storeCount (removeWrites (now (out .entry)) n tile) ⌝ }
-    ensures holds { λ _. ⌜ now (out .exit) ≡ stopped k (removeWrites (now (out .entry)) n tile) (now (out .entry)) ⌝ }
-{
-    if reading::keeps_ceilings(wire::part_of(out, 0, n)) {
-        return removing_cut(out, n, tile, k);
     }
     k
 }

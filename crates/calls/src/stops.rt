@@ -1,38 +1,24 @@
 // The calls that stop after a number of byte stores (Req 05): each answers as the call does, a refusal too, and makes the first stores of
 // the call.
 use crate::StoppedCall;
-use crate::closing;
-use crate::lengths;
-use crate::opening;
-use crate::removing;
-use crate::storing;
-use crate::verdicts;
+use crate::judging;
+use crate::on;
 use answer::Laid;
 use answer::Verdict;
 ghost use mathlib.Core.Path.{_≡_};
-ghost use Prim.Native.Nat.{min};
-ghost use Rattle.stores.specs.Stores.{storeCount, stopped};
-ghost use Rattle.correct.specs.Answers.{openAnswer, storeAnswer, removeAnswer, closeAnswer};
-ghost use Rattle.calls.specs.Stopped.{storesOfOpening, storesOfStoring, storesOfRemoving, storesOfClosing};
+ghost use Rattle.correct.specs.Calls.{Call, changeOf, answerBy, stoppedBy, madeBy};
 
 pub fn open_page_stopped(buf: &mut [u8], n: usize, time: u64, stores: usize) -> StoppedCall
-    ensures answer { λ r. ⌜ r .answer ≡ openAnswer (now (buf .entry)) n time ⌝ }
-    ensures made { λ r. ⌜ r .made ≡ min stores (storeCount (storesOfOpening (now (buf .entry)) n time)) ⌝ }
-    ensures buffer { λ _. ⌜ now (buf .exit) ≡ stopped stores (storesOfOpening (now (buf .entry)) n time) (now (buf .entry)) ⌝ }
+    ensures answer { λ r. ⌜ r .answer ≡ answerBy (changeOf (Call.Opening time) (now (buf .entry)) n) ⌝ }
+    ensures made { λ r. ⌜ r .made ≡ madeBy stores (changeOf (Call.Opening time) (now (buf .entry)) n) ⌝ }
+    ensures buffer { λ _. ⌜ now (buf .exit) ≡ stoppedBy stores (changeOf (Call.Opening time) (now (buf .entry)) n) (now (buf .entry)) ⌝ }
 {
-    match verdicts::open_verdict(buf, n, time) {
+    match judging::on_accepted_page(buf, n) {
         Verdict::Refused(r) => StoppedCall {
             answer: Laid::Refused(r),
             made: 0,
         },
-        Verdict::Accepted => {
-            let m = lengths::opened_length(wire::part_of(buf, 0, n));
-            let left = opening::open_page_cut(buf, n, time, stores);
-            StoppedCall {
-                answer: Laid::Length(m),
-                made: stores - left,
-            }
-        }
+        Verdict::Accepted => on::open_on(buf, n, time, stores),
     }
 }
 
@@ -43,63 +29,43 @@ pub fn store_tile_stopped(
     cells: &[u8],
     stores: usize,
 ) -> StoppedCall
-    ensures answer { λ r. ⌜ r .answer ≡ storeAnswer (now (buf .entry)) n tile (now (cells .entry)) ⌝ }
-    ensures made { λ r. ⌜ r .made ≡ min stores (storeCount (storesOfStoring (now (buf .entry)) n tile (now (cells .entry)))) ⌝ }
-    ensures buffer { λ _. ⌜ now (buf .exit) ≡ stopped stores (storesOfStoring (now (buf .entry)) n tile (now (cells .entry))) (now (buf .entry)) ⌝ }
+    ensures answer { λ r. ⌜ r .answer ≡ answerBy (changeOf (Call.Storing tile (now (cells .entry))) (now (buf .entry)) n) ⌝ }
+    ensures made { λ r. ⌜ r .made ≡ madeBy stores (changeOf (Call.Storing tile (now (cells .entry))) (now (buf .entry)) n) ⌝ }
+    ensures buffer { λ _. ⌜ now (buf .exit) ≡ stoppedBy stores (changeOf (Call.Storing tile (now (cells .entry))) (now (buf .entry)) n) (now (buf .entry)) ⌝ }
 {
-    match verdicts::store_verdict(buf, n, tile, cells) {
+    match judging::on_open_page(buf, n) {
         Verdict::Refused(r) => StoppedCall {
             answer: Laid::Refused(r),
             made: 0,
         },
-        Verdict::Accepted => {
-            let m = lengths::stored_length(wire::part_of(buf, 0, n), tile as u32);
-            let left = storing::store_tile_cut(buf, n, tile as u32, cells, stores);
-            StoppedCall {
-                answer: Laid::Length(m),
-                made: stores - left,
-            }
-        }
+        Verdict::Accepted => on::store_on(buf, n, tile, cells, stores),
     }
 }
 
 pub fn remove_tile_stopped(buf: &mut [u8], n: usize, tile: u64, stores: usize) -> StoppedCall
-    ensures answer { λ r. ⌜ r .answer ≡ removeAnswer (now (buf .entry)) n tile ⌝ }
-    ensures made { λ r. ⌜ r .made ≡ min stores (storeCount (storesOfRemoving (now (buf .entry)) n tile)) ⌝ }
-    ensures buffer { λ _. ⌜ now (buf .exit) ≡ stopped stores (storesOfRemoving (now (buf .entry)) n tile) (now (buf .entry)) ⌝ }
+    ensures answer { λ r. ⌜ r .answer ≡ answerBy (changeOf (Call.Removing tile) (now (buf .entry)) n) ⌝ }
+    ensures made { λ r. ⌜ r .made ≡ madeBy stores (changeOf (Call.Removing tile) (now (buf .entry)) n) ⌝ }
+    ensures buffer { λ _. ⌜ now (buf .exit) ≡ stoppedBy stores (changeOf (Call.Removing tile) (now (buf .entry)) n) (now (buf .entry)) ⌝ }
 {
-    match verdicts::remove_verdict(buf, n, tile) {
+    match judging::on_open_page(buf, n) {
         Verdict::Refused(r) => StoppedCall {
             answer: Laid::Refused(r),
             made: 0,
         },
-        Verdict::Accepted => {
-            let left = removing::remove_tile_cut(buf, n, tile as u32, stores);
-            StoppedCall {
-                answer: Laid::Length(n),
-                made: stores - left,
-            }
-        }
+        Verdict::Accepted => on::remove_on(buf, n, tile, stores),
     }
 }
 
 pub fn close_page_stopped(buf: &mut [u8], n: usize, time: u64, stores: usize) -> StoppedCall
-    ensures answer { λ r. ⌜ r .answer ≡ closeAnswer (now (buf .entry)) n time ⌝ }
-    ensures made { λ r. ⌜ r .made ≡ min stores (storeCount (storesOfClosing (now (buf .entry)) n time)) ⌝ }
-    ensures buffer { λ _. ⌜ now (buf .exit) ≡ stopped stores (storesOfClosing (now (buf .entry)) n time) (now (buf .entry)) ⌝ }
+    ensures answer { λ r. ⌜ r .answer ≡ answerBy (changeOf (Call.Closing time) (now (buf .entry)) n) ⌝ }
+    ensures made { λ r. ⌜ r .made ≡ madeBy stores (changeOf (Call.Closing time) (now (buf .entry)) n) ⌝ }
+    ensures buffer { λ _. ⌜ now (buf .exit) ≡ stoppedBy stores (changeOf (Call.Closing time) (now (buf .entry)) n) (now (buf .entry)) ⌝ }
 {
-    match verdicts::close_verdict(buf, n, time) {
+    match judging::on_open_page(buf, n) {
         Verdict::Refused(r) => StoppedCall {
             answer: Laid::Refused(r),
             made: 0,
         },
-        Verdict::Accepted => {
-            let m = lengths::closed_length(wire::part_of(buf, 0, n));
-            let left = closing::close_page_cut(buf, n, time, stores);
-            StoppedCall {
-                answer: Laid::Length(m),
-                made: stores - left,
-            }
-        }
+        Verdict::Accepted => on::close_on(buf, n, time, stores),
     }
 }

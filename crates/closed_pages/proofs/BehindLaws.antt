@@ -7,7 +7,7 @@ use mathlib.Core.Bool.{true, false}
 use native.Mathlib.Omega.{arith}
 use lib.ListN.{length, take, length-append}
 use Rattle.wire.specs.Bytes.{Bytes, byteAt, numberAt, Same}
-use Rattle.wire.proofs.ByteLaws.{byte-before, number-before}
+use Rattle.wire.proofs.ByteLaws.{byte-before, number-before, same-part}
 use Rattle.record.specs.Chain.{headerEnd, recordsOf, joined, WellFormed}
 use Rattle.header.specs.Fields.{checksumEnabled, metadataReference, tileDirectoryReference}
 use Rattle.check_header.specs.Judged.{SameJudged}
@@ -26,11 +26,12 @@ use Rattle.writable.specs.Writable.{Open, directoryFull}
 use Rattle.writable.specs.Parts.{Parted}
 use Rattle.writable.proofs.PartLaws.{sound-parted, judged-headed}
 use Rattle.correct.specs.Front.{sealedFront}
-use Rattle.page_laws.specs.Tiles.{tilesOf, metadataOf, recordOfTile, SameUnset, Follows}
-use Rattle.page_laws.proofs.FrontLaws.{unset-trans, front-unset, parted-unset, FieldsSet, seal-length, seal-number, seal-unset, seal-judged, seal-header, seal-front, seal-checksum}
+use Rattle.page_laws.specs.Tiles.{tilesOf, ofTile, SameUnset}
+use Rattle.page_laws.proofs.FrontLaws.{FieldsSet, seal-length, seal-number, seal-judged, seal-header, seal-front, seal-checksum, page-unset, page-between}
 use Rattle.page_laws.proofs.MoreLaws.{byte-past, well-append, all-append, joined-append, standing-append}
 use Rattle.page_laws.proofs.PageLaws.{parted-alone, sound-judged, made-sound}
-use Rattle.page_laws.proofs.TileMapLaws.{tiles-same, records-same, metadata-same}
+use Rattle.page_laws.proofs.TileMapLaws.{tiles-same}
+use Rattle.page_laws.proofs.KeptLaws.{KeptBy}
 use Rattle.page_laws.proofs.TilesKeptLaws.{tiles-stand-kept}
 
 -- the same bytes behind fronts of one length, whatever stands behind them
@@ -50,7 +51,7 @@ same-behind s t f h c d p q e =
 
 -- g is the front with fields set, more are the directories
 module _
-    (s : List ℕ) (o : Open s) (g : List ℕ) (k : FieldsSet (take (headerEnd s) s) g) (more : List (List ℕ)) (v : WellFormed more)
+    (s : List ℕ) (o : Open s) (g : List ℕ) (k : FieldsSet 64 (take (headerEnd s) s) g) (more : List (List ℕ)) (v : WellFormed more)
     (apart : (kind at : ℕ) → (kind ≡ 3 → ⊥) → standing kind at more ≡ [])
   where
     abbrev f : List ℕ
@@ -88,7 +89,7 @@ module _
     formed = well-append (pieces s) more (parts .formed) v
 
     unset : SameUnset s u
-    unset = unset-trans (parted-unset parts) (unset-trans (seal-unset s f g (parts .front) ends k) (front-unset behind-front (joined qs)))
+    unset = page-unset parts g k (joined qs)
 
     judged : SameJudged s u
     judged = sound-judged (o .sound) unset
@@ -149,6 +150,19 @@ module _
             ∙ sym (records-are f (parts .front) (pieces s) (parts .formed) 3)
             ∙ ap (λ (l : List ℕ). recordsOf l 3) (sym (parts .whole)) ∙ z
 
+    pub behind-kept : KeptBy s f h qs (λ j. false)
+    behind-kept =
+        record {
+          parted = parts;
+          front = behind-front;
+          formed = formed;
+          header = unset;
+          reference = same-part (page-between parts g k (joined qs)) 64 72 (omega arith) (omega arith);
+          metadata = stays 1 (λ e. omega arith);
+          directory = stays 4 (λ e. omega arith);
+          records = λ j n. ap (ofTile j) (sym (stays 2 (λ e. omega arith)));
+        }
+
     -- all of it
     module _
         (bytes : Bytes g) (room : length u ≤ 16777216) (metadata : numberAt 8 g 64 ≡ metadataReference f) (tiles : numberAt 8 g 80 ≡ tileDirectoryReference f)
@@ -199,22 +213,8 @@ module _
             made-sound h qs behind-front formed (judged-headed s u (length s) (length u) (o .sound .headed) judged (judged .in-second) room)
             (seal-checksum s f g (parts .front) ends k (parts .header .flag) bytes (joined qs)) rules tile-right metadata-right
 
-        pub behind-follows : Follows s u (λ j. false) (tilesOf s)
-        behind-follows =
-            record {
-              header = unset;
-              records =
-                  λ j n.
-                  sym
-                  (ap (λ (l : List ℕ). recordOfTile l j) (parts .whole)
-                  ∙ records-same (parts .front) behind-front says (pieces s) qs (parts .formed) formed (stays 2 (λ e. omega arith)) j);
-              metadata =
-                  sym
-                  (ap metadataOf (parts .whole)
-                  ∙ metadata-same (parts .front) behind-front says (pieces s) qs (parts .formed) formed (stays 1 (λ e. omega arith)) (stays 4 (λ e. omega arith)));
-              map-of =
-                  λ j.
-                  sym
-                  (ap (λ (l : List ℕ). tilesOf l j) (parts .whole)
-                  ∙ tiles-same (parts .front) behind-front says (pieces s) qs (parts .formed) formed (parted-alone parts Body) (rules Body) (stays 2 (λ e. omega arith)) j);
-            }
+        pub behind-tiles : (j : ℕ) → tilesOf u j ≡ tilesOf s j
+        behind-tiles j =
+            sym
+            (ap (λ (l : List ℕ). tilesOf l j) (parts .whole)
+            ∙ tiles-same (parts .front) behind-front says (pieces s) qs (parts .formed) formed (parted-alone parts Body) (rules Body) (stays 2 (λ e. omega arith)) j)

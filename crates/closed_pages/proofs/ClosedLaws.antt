@@ -40,9 +40,10 @@ use Rattle.correct.specs.Closing.{freeList, fileSpaceRecord, anyFree, closedMor
 use Rattle.page_laws.proofs.FrontLaws.{parted-number, FieldsSet, set-none, set-field, put-zeros}
 use Rattle.written_rules.proofs.RecordLaws.{new-piece, new-checksum}
 use Rattle.page_laws.proofs.MoreLaws.{joined-append}
+use Rattle.page_laws.proofs.KeptLaws.{kept-places, kept-follows}
 use Rattle.closed_pages.specs.ClosedPages.{ClosedKeeps, ClosedAccepted}
 use Rattle.closed_pages.proofs.FreeListLaws.{list-bytes, Holds}
-use Rattle.closed_pages.proofs.BehindLaws.{behind-front, behind-flag, behind-start, behind-bytes, behind-number, behind-records, behind-same, behind-new, behind-sound, behind-follows}
+use Rattle.closed_pages.proofs.BehindLaws.{behind-front, behind-flag, behind-start, behind-bytes, behind-number, behind-records, behind-same, behind-new, behind-sound, behind-kept, behind-tiles}
 use Rattle.closed_pages.proofs.SpaceLaws.{Listing, listing-right}
 
 module _ (s : List ℕ) (t : ℕ) (b : Bytes s) (o : Open s) (small : t < 18446744073709551616) where
@@ -57,11 +58,11 @@ module _ (s : List ℕ) (t : ℕ) (b : Bytes s) (o : Open s) (small : t < 184467
 
   -- the fields
 
-  fields-set : FieldsSet f (closedFields s t)
+  fields-set : FieldsSet 64 f (closedFields s t)
   unfolding closedFields
   fields-set =
       let l = least in
-      set-field (set-field (set-none f (omega arith)) 40 (bytesOf 8 t) (bytes-length 8 t) (omega arith) (omega arith) (inl (omega arith))) 48 (zeros 8)
+      set-field (set-field (set-none f (omega arith) (omega arith)) 40 (bytesOf 8 t) (bytes-length 8 t) (omega arith) (omega arith) (inl (omega arith))) 48 (zeros 8)
       (zeros-length 8) (omega arith) (omega arith) (inl (omega arith))
 
   fields-bytes : Bytes (closedFields s t)
@@ -91,7 +92,7 @@ module _ (s : List ℕ) (t : ℕ) (b : Bytes s) (o : Open s) (small : t < 184467
   -- the page is closed by those fields, with a file-space directory behind it or none: it then rests on the file-space rules
   pub record Closing (g : List ℕ) (more : List (List ℕ)) : Type 0 where
     pub is : closedPage s t ≡ sealedFront s g ++ joined (pieces s ++ more)
-    pub set : FieldsSet f g
+    pub set : FieldsSet 64 f g
     pub bytes : Bytes g
     pub opened : numberAt 8 g 48 ≡ 0
     pub modified : numberAt 8 g 40 ≡ t
@@ -116,7 +117,8 @@ module _ (s : List ℕ) (t : ℕ) (b : Bytes s) (o : Open s) (small : t < 184467
               not-opened = is-closed u (behind-number s o g (c .set) more (c .formed) (c .apart) 8 48 (omega arith) ∙ c .opened);
               file-space = space;
             });
-        follows = rw (c .is) (behind-follows s o g (c .set) more (c .formed) (c .apart) (c .bytes) r m d (c .rules));
+        follows = rw (c .is) (kept-follows (behind-kept s o g (c .set) more (c .formed) (c .apart)) (behind-tiles s o g (c .set) more (c .formed) (c .apart) (c .bytes) r m d (c .rules)));
+        places = rw (c .is) (kept-places (behind-kept s o g (c .set) more (c .formed) (c .apart)));
         time = rw (c .is) (behind-number s o g (c .set) more (c .formed) (c .apart) 8 40 (omega arith) ∙ c .modified);
         reference = rw (c .is) (behind-number s o g (c .set) more (c .formed) (c .apart) 8 80 (omega arith) ∙ d ∙ parted-number parts 8 80 (omega arith));
         behind = rw (c .is) (behind-bytes s o g (c .set) more (c .formed) (c .apart));
@@ -172,7 +174,7 @@ module _ (s : List ℕ) (t : ℕ) (b : Bytes s) (o : Open s) (small : t < 184467
   abbrev v : List ℕ
   v = fileSpaceRecord s
 
-  listed-set : FieldsSet f listedFields
+  listed-set : FieldsSet 64 f listedFields
   listed-set = set-field fields-set 56 (bytesOf 8 (contentAt (length s))) (bytes-length 8 (contentAt (length s))) (omega arith) (omega arith) (inl (omega arith))
 
   module _ (e : anyFree s ≡ true) (h : length (closedPage s t) ≤ 16777216) where

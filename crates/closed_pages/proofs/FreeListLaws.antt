@@ -7,7 +7,7 @@ use lib.ListN.{length, length-append}
 use Rattle.wire.specs.Bytes.{Bytes, bytesOf, u32At, u64At}
 use Rattle.wire.specs.Lists.{below}
 use Rattle.wire.proofs.ByteLaws.{bytes-length, bytes-none, bytes-append, bytes-of}
-use Rattle.wire.proofs.PlaceLaws.{Placed, placed-first, placed-next, placed-value, placed-at}
+use Rattle.wire.proofs.PlaceLaws.{Placed, placed-first, placed-next, placed-value}
 use Rattle.record.specs.Record.{lengthAt}
 use Rattle.record.specs.Chain.{recordsOf}
 use Rattle.check_lists.specs.Rearranged.{freeRecord}

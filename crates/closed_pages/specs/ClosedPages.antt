@@ -11,11 +11,12 @@ use Rattle.check_header.specs.Ceilings.{mostFileBytes}
 use Rattle.page_check.specs.Accepted.{Obeys}
 use Rattle.writable.specs.Writable.{Open}
 use Rattle.correct.specs.Closing.{closedPage}
-use Rattle.page_laws.specs.Tiles.{tilesOf, Follows}
+use Rattle.page_laws.specs.Tiles.{tilesOf, Follows, InPlace}
 
 pub record ClosedKeeps (s : List ℕ) (t : ℕ) : Type 0 where
   pub obeys : Obeys (closedPage s t)
   pub follows : Follows s (closedPage s t) (λ j. false) (tilesOf s)
+  pub places : InPlace s (closedPage s t) (λ j. false)
   -- Req 03, reading 15: the time modified is the caller's
   pub time : timeModified (closedPage s t) ≡ t
   -- the tile directory's reference stays, and so does every byte from the header's end to where the page ended

@@ -1,19 +1,21 @@
 -- The fields of the header as they are stored. Assumes nothing.
 use Prim.Native.Nat.{ℕ, suc, _+_, _-_, _≤_, _<_}
-use mathlib.Core.Path.{_≡_, ap, _∙_}
-use mathlib.Core.List.{List, _∷_}
+use mathlib.Core.Path.{_≡_, refl, ap, _∙_}
+use mathlib.Core.List.{List, [], _∷_}
 use mathlib.Core.Bool.{Bool, true, false}
 use native.Mathlib.Omega.{arith}
 use native.Mathlib.Numerals.{add-one}
 use lib.ListN.{length, getD, drop, drop-of-length-le}
 use lib.Seq.{drop-cons}
-use borrow.Author.Tests.{ne-eqb}
-use Rattle.wire.specs.Bytes.{part, bytesOf, put, zeros}
+use lib.Dec.{eqb}
+use borrow.Author.Tests.{ne-eqb, eqb-true, eqb-false}
+use Rattle.wire.specs.Pick.{pick}
+use Rattle.wire.specs.Bytes.{number, part, bytesOf, put, zeros}
 use Rattle.crc32c.specs.Crc.{crcPart, crcWithout}
 use Rattle.written_records.specs.Pieces.{checksumFor}
 use Rattle.stores.specs.Writes.{oneWrite, sealWrite}
 use Rattle.stores.proofs.JoinLaws.{Ran, ran-on, ran-then, ran-none}
-use Rattle.correct.specs.FieldWrites.{firstSet, setWrites, openedFieldWrites, referTo, closedFieldWrites, sealWithout, closedFrontWrites}
+use Rattle.correct.specs.FieldWrites.{firstSet, Lowest, setWrites, openedFieldWrites, referTo, closedFieldWrites, sealWithout, closedFrontWrites}
 
 -- the lowest byte that is not zero: those before it are passed
 
@@ -40,6 +42,24 @@ passed-here v i p h z =
 pub passed-all : (v : List ℕ) (i : ℕ) → Passed v i → length v ≤ i → i ≡ firstSet v
 unfolding firstSet
 passed-all v i p h = let f : firstSet (drop i v) ≡ 0 = ap firstSet (drop-of-length-le v h) in omega arith
+
+pub first-most : (v : List ℕ) → firstSet v ≤ length v
+unfolding firstSet
+first-most [] = omega arith
+first-most (b ∷ bs) = go (eqb b 0) (first-most bs)
+  where
+    go : (c : Bool) → firstSet bs ≤ length bs → pick c (suc (firstSet bs)) 0 ≤ suc (length bs)
+    go true h = omega arith
+    go false h = omega arith
+
+pub lowest-set : (v : List ℕ) → (number v ≡ 0 → ⊥) → Lowest v
+unfolding firstSet number
+lowest-set [] z = absurd (z refl)
+lowest-set (b ∷ bs) z = go (eqb b 0) refl (lowest-set bs)
+  where
+    go : (c : Bool) → eqb b 0 ≡ c → ((number bs ≡ 0 → ⊥) → Lowest bs) → Lowest (b ∷ bs)
+    go true e r = let i = eqb-true b 0 e in let w = r (λ y. z (omega arith)) in record { inside = rw e (omega (arith, w .inside)); set = rw e (w .set) }
+    go false e r = record { inside = rw e (omega arith); set = rw e (eqb-false b 0 e) }
 
 -- the calls, one behind the other
 

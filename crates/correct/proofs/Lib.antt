@@ -5,3 +5,4 @@ pub mod ReferenceLaws
 pub mod FieldLaws
 pub mod DirectoryLaws
 pub mod ListLaws
+pub mod ReferredLaws

@@ -1,5 +1,5 @@
--- Req 03: what each call answers, and what the buffer holds afterwards. b is the buffer, n the page's length, t a time, i a tile's
--- index, c the cell bytes of a tile. The order of the refusals is that of Req 03, readings 2 and 3.
+-- Req 03: what the calls are judged by. b is the buffer, n the page's length, s the page, t a time, i a tile's index, c the cell bytes of a
+-- tile. Req 03, readings 2 and 3, give the order of the refusals.
 use Prim.Native.Nat.{ℕ, _+_}
 use mathlib.Core.List.{List, [], _∷_}
 use lib.ListN.{length}
@@ -10,17 +10,12 @@ use Rattle.answer.specs.declared.Verdict.the-variants as verdict
 use Rattle.answer.specs.declared.Laid.{Laid}
 use Rattle.answer.specs.declared.Laid.the-variants.{Length, Refused}
 use Rattle.answer.specs.Refusals.{gate, unlessRefused}
-use Rattle.answer.specs.Answers.{written}
 use Rattle.geometry.specs.Tiles.{tileCount}
 use Rattle.geometry.specs.Sizes.{tileBytes}
 use Rattle.check_header.specs.Ceilings.{mostFileBytes}
 use Rattle.page_check.specs.Stages.{check}
 use Rattle.writable.specs.Writable.{openForWriting}
-use Rattle.correct.specs.Front.{pageIn}
-use Rattle.correct.specs.Opening.{openedPage, openedLength}
-use Rattle.correct.specs.Storing.{storedPage, storedLength}
-use Rattle.correct.specs.Removing.{removedPage}
-use Rattle.correct.specs.Closing.{closedPage, closedLength}
+use Rattle.correct.specs.Front.{pageIn, workable}
 
 -- "given the page's length (past the buffer: 12, first)" (Req 03, reading 1); then what is judged of the page
 unfoldable pub onPage : List ℕ → ℕ → Verdict → Verdict
@@ -30,6 +25,14 @@ onPage b n behind = gate (passes ((n ≤? length b) ∷ [])) Input behind
 -- and 18)
 unfoldable pub onOpenPage : List ℕ → ℕ → Verdict → Verdict
 onOpenPage b n behind = onPage b n (gate (openForWriting (pageIn b n)) NotOpen behind)
+
+-- opening hands the check's refusal on, with its place (Req 03, reading 2)
+unfoldable pub onAcceptedPage : List ℕ → ℕ → Verdict → Verdict
+onAcceptedPage b n behind = onPage b n (unlessRefused verdict.Refused (check (pageIn b n)) behind)
+
+-- a page that is taken to be open for writing, or accepted, without a check: 15 where it can be neither
+unfoldable pub workableThen : List ℕ → Verdict → Verdict
+workableThen s behind = gate (workable s) NotOpen behind
 
 -- "an index past the tiles is 10"
 unfoldable pub tileThen : List ℕ → ℕ → Verdict → Verdict
@@ -48,46 +51,6 @@ timeThen t behind = gate (passes ((t ≢? 0) ∷ [])) Input behind
 unfoldable pub roomLeft : List ℕ → ℕ → Verdict
 roomLeft b m = gate (passes ((m ≤? length b) ∷ [])) Room (gate (passes ((m ≤? mostFileBytes) ∷ [])) Ceiling verdict.Accepted)
 
--- the four calls
-unfoldable pub openVerdict : List ℕ → ℕ → ℕ → Verdict
-openVerdict b n t =
-    onPage b n (unlessRefused verdict.Refused (check (pageIn b n)) (timeThen t (roomLeft b (openedLength (pageIn b n)))))
-
-unfoldable pub storeVerdict : List ℕ → ℕ → ℕ → List ℕ → Verdict
-storeVerdict b n i c =
-    onOpenPage b n (tileThen (pageIn b n) i (cellsThen (pageIn b n) c (roomLeft b (storedLength (pageIn b n) i))))
-
-unfoldable pub removeVerdict : List ℕ → ℕ → ℕ → Verdict
-removeVerdict b n i = onOpenPage b n (tileThen (pageIn b n) i verdict.Accepted)
-
-unfoldable pub closeVerdict : List ℕ → ℕ → ℕ → Verdict
-closeVerdict b n t = onOpenPage b n (timeThen t (roomLeft b (closedLength (pageIn b n))))
-
 -- Req 03, reading 1: the answer is the new length, or the refusal
 unfoldable pub answered : Verdict → ℕ → Laid
 answered v m = unlessRefused Refused v (Length m)
-
-unfoldable pub openAnswer : List ℕ → ℕ → ℕ → Laid
-openAnswer b n t = answered (openVerdict b n t) (openedLength (pageIn b n))
-
-unfoldable pub storeAnswer : List ℕ → ℕ → ℕ → List ℕ → Laid
-storeAnswer b n i c = answered (storeVerdict b n i c) (storedLength (pageIn b n) i)
-
-unfoldable pub removeAnswer : List ℕ → ℕ → ℕ → Laid
-removeAnswer b n i = answered (removeVerdict b n i) n
-
-unfoldable pub closeAnswer : List ℕ → ℕ → ℕ → Laid
-closeAnswer b n t = answered (closeVerdict b n t) (closedLength (pageIn b n))
-
--- "Every refusal changes nothing; bytes behind the page's end stay"
-unfoldable pub openOut : List ℕ → ℕ → ℕ → List ℕ
-openOut b n t = written (openAnswer b n t) (openedPage (pageIn b n) t) b
-
-unfoldable pub storeOut : List ℕ → ℕ → ℕ → List ℕ → List ℕ
-storeOut b n i c = written (storeAnswer b n i c) (storedPage (pageIn b n) i c) b
-
-unfoldable pub removeOut : List ℕ → ℕ → ℕ → List ℕ
-removeOut b n i = written (removeAnswer b n i) (removedPage (pageIn b n) i) b
-
-unfoldable pub closeOut : List ℕ → ℕ → ℕ → List ℕ
-closeOut b n t = written (closeAnswer b n t) (closedPage (pageIn b n) t) b

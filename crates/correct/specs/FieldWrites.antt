@@ -1,9 +1,10 @@
 -- Req 05: the writes of the header. Opening's first store sets a byte of the opened time that is not zero, and closing's last store clears
 -- the last such byte (Req 05, reading 2).
-use Prim.Native.Nat.{ℕ, suc, _+_, _-_}
+use Prim.Native.Nat.{ℕ, suc, _+_, _-_, _<_}
+use mathlib.Core.Path.{_≡_}
 use mathlib.Core.List.{List, [], _∷_, _++_}
 use mathlib.Core.Bool.{Bool}
-use lib.ListN.{length}
+use lib.ListN.{length, getD}
 use lib.Dec.{eqb}
 use Rattle.wire.specs.Pick.{pick}
 use Rattle.wire.specs.Bytes.{part, bytesOf, put, zeros}
@@ -15,6 +16,11 @@ use Rattle.stores.specs.Writes.{oneWrite, sealWrite}
 unfoldable pub firstSet : List ℕ → ℕ
 firstSet [] = 0
 firstSet (b ∷ bs) = pick (eqb b 0) (suc (firstSet bs)) 0
+
+-- that one of them is not zero
+pub record Lowest (v : List ℕ) : Type 0 where
+  pub inside : firstSet v < length v
+  pub set : getD v (firstSet v) 0 ≡ 0 → ⊥
 
 -- bytes at a position, byte number p of them first, then those before it and those behind it
 unfoldable pub setWrites : ℕ → List ℕ → ℕ → List Write

@@ -14,3 +14,4 @@ pub mod Answers
 pub mod RecordWrites
 pub mod FieldWrites
 pub mod Writes
+pub mod Calls

@@ -9,7 +9,7 @@ use Rattle.record.specs.declared.Found.the-variants.{At, Nothing}
 use Rattle.record.specs.Chain.{headerEnd, joined}
 use Rattle.pieces.specs.Pieces.{pieces}
 use Rattle.pieces.specs.Edits.{withReference}
-use Rattle.correct.specs.Storing.{tileAt, freedOf}
+use Rattle.correct.specs.Storing.{tileReferred, freedOf}
 
 -- the tile has a record
 abbrev pub isFound : Found → Bool
@@ -17,7 +17,7 @@ isFound Nothing = false
 isFound (At x) = true
 
 unfoldable pub isThere : List ℕ → ℕ → Bool
-isThere s i = isFound (tileAt s i)
+isThere s i = isFound (tileReferred s i)
 
 -- Req 03, readings 8 and 13: the record is freed and joined, and the directory's reference is zero; absent, nothing changes
 unfoldable pub removedPieces : List ℕ → ℕ → List (List ℕ)

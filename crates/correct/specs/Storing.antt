@@ -2,29 +2,46 @@
 -- first. A new record, its reserved fields and padding zero, takes the start of the lowest free record of its length or at least 16
 -- more, else the end". s is the page, i the tile's index, c its cell bytes: all elements in order, no lengths, no padding (Req 03,
 -- reading 14).
-use Prim.Native.Nat.{ℕ, zero, suc, _+_, max}
-use mathlib.Core.List.{List, [], _∷_, _++_, map}
-use mathlib.Core.Bool.{Bool, false}
+use Prim.Native.Nat.{ℕ, zero, suc, _+_, _<_, max}
+use mathlib.Core.Path.{_≡_}
+use mathlib.Core.List.{List, _++_, map}
+use mathlib.Core.Bool.{Bool, true, false}
 use lib.ListN.{length, take}
 use lib.Dec.{eqb}
 use Rattle.wire.specs.Pick.{pick}
 use Rattle.wire.specs.Tests.{allBelow, sumBelow}
 use Rattle.wire.specs.Bytes.{part, put}
+use Rattle.wire.specs.Lists.{below}
 use Rattle.record.specs.Record.{contentAt}
 use Rattle.record.specs.declared.Found.{Found}
 use Rattle.record.specs.declared.Found.the-variants.{At, Nothing}
 use Rattle.record.specs.Chain.{headerEnd, joined}
 use Rattle.header.specs.Fields.{checksumEnabled, elementCount}
+use Rattle.geometry.specs.Tiles.{tileCount}
 use Rattle.geometry.specs.Sizes.{elementBytes, plainTileLength}
 use Rattle.bodies.specs.TileRecord.{sectionLength, elementContentAt}
-use Rattle.cells.specs.Routes.{carries, walkedTo}
+use Rattle.bodies.specs.TileDirectory.{tileDirectoryAt}
+use Rattle.cells.specs.Routes.{carries, referredTo, walkedTo}
 use Rattle.written_records.specs.Tile.{tileRecord}
 use Rattle.pieces.specs.Pieces.{pieces, freeing}
 use Rattle.pieces.specs.Edits.{placeFor, placed, resealed, withReference}
+use Rattle.writable.specs.Writable.{openForWriting}
 
 -- the tile's record; a page that is open for writing has one at most
 unfoldable pub tileAt : List ℕ → ℕ → Found
 tileAt s i = walkedTo s (headerEnd s) i
+
+-- the same by the tile directory, as storing and removing find it: what the reference gives, if that is a tile record with the index. On a
+-- page that is open for writing it is the record that the walk finds, on other bytes it may be none
+abbrev pub carrying : List ℕ → ℕ → Found → Found
+carrying s i Nothing = Nothing
+carrying s i (At x) = pick (carries s i x) (At x) Nothing
+
+unfoldable pub tileReferred : List ℕ → ℕ → Found
+tileReferred s i = carrying s i (referredTo s (tileDirectoryAt s) i)
+
+abbrev pub ReferredIsWalked : Type 0
+ReferredIsWalked = (s : List ℕ) → openForWriting s ≡ true → (i : ℕ) → i < tileCount s → tileReferred s i ≡ tileAt s i
 
 -- all elements of the tile record at x are uncompressed
 unfoldable pub isPlain : List ℕ → ℕ → Bool
@@ -36,7 +53,7 @@ plainIn s Nothing = false
 plainIn s (At x) = isPlain s x
 
 unfoldable pub storedOver : List ℕ → ℕ → Bool
-storedOver s i = plainIn s (tileAt s i)
+storedOver s i = plainIn s (tileReferred s i)
 
 -- the cell bytes of the first n elements put where these stand in the tile record r
 unfoldable pub cellsPut : List ℕ → List ℕ → ℕ → List ℕ → List ℕ
@@ -69,3 +86,7 @@ storedPage s i c = take (headerEnd s) s ++ joined (storedPieces s i c)
 -- Req 03, readings 3, 5 and 10: stored over, or put into a free record, the page is as long as it was; else it ends with the new record
 unfoldable pub storedLength : List ℕ → ℕ → ℕ
 storedLength s i = pick (storedOver s i) (length s) (max (length s) (storedAt s i + plainTileLength s))
+
+-- what the tile then holds: the content of each element
+unfoldable pub plainContents : List ℕ → List ℕ → List (List ℕ)
+plainContents s c = map (λ e. part c (sumBelow e (elementBytes s)) (elementBytes s e)) (below (elementCount s))

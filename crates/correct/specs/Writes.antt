@@ -1,7 +1,6 @@
--- Req 05: the byte stores of each call, in their order. d is the buffer, n the page's length. Where a value depends on what was written
+-- Req 05: the byte stores of each call, in their order. d is the buffer, s the page in it. Where a value depends on what was written
 -- before, as a checksum over the buffer's own bytes does, the list is `xs ++ more (run xs d)`.
--- They are said of any bytes; where these pass a house ceiling (document 01) there are none. That they make the page that the call is to
--- make, where it is not refused, is a law.
+-- They are said of any bytes. That they make the page that the call is to make, where it is not refused, is a law.
 use Prim.Native.Nat.{ℕ, _+_, _-_}
 use mathlib.Core.List.{List, [], _++_}
 use mathlib.Core.Bool.{Bool, false, not}
@@ -15,7 +14,6 @@ use Rattle.record.specs.Chain.{headerEnd, records}
 use Rattle.header.specs.Fields.{checksumEnabled}
 use Rattle.header.specs.Element.{entriesRead}
 use Rattle.geometry.specs.Sizes.{elementBytes, plainTileLength}
-use Rattle.check_header.specs.Ceilings.{withinCeilings}
 use Rattle.bodies.specs.TileDirectory.{tileDirectoryAt, referenceSize}
 use Rattle.cells.specs.Routes.{carries}
 use Rattle.written_records.specs.Tile.{plainRecord}
@@ -23,18 +21,12 @@ use Rattle.pieces.specs.Edits.{roomFor}
 use Rattle.writable.specs.Writable.{directoryFull}
 use Rattle.stores.specs.Stores.{Write, run}
 use Rattle.stores.specs.Writes.{wholeWrite, sealWrite}
-use Rattle.correct.specs.Front.{pageIn}
 use Rattle.correct.specs.Opening.{unwanted, fullDirectory}
-use Rattle.correct.specs.Storing.{tileAt, storedOver, freedOf, storedAt}
+use Rattle.correct.specs.Storing.{tileReferred, storedOver, freedOf, storedAt}
 use Rattle.correct.specs.Removing.{isThere}
 use Rattle.correct.specs.Closing.{fileSpaceRecord, anyFree}
 use Rattle.correct.specs.RecordWrites.{joinWrites, restWrites, overWrites, referWrites}
 use Rattle.correct.specs.FieldWrites.{firstSet, openedFieldWrites, referTo, closedFrontWrites}
-
--- the page keeps the house ceilings, as one that is accepted or open for writing does; so that no number that is worked out from it is
--- too large
-unfoldable pub keepsCeilings : List ℕ → Bool
-keepsCeilings s = withinCeilings s (length s)
 
 -- the records of page s of which p holds freed, and what is free joined
 unfoldable pub freeingWrites : ℕ → List ℕ → (ℕ → Bool) → List Write
@@ -51,12 +43,9 @@ openBody room s t =
     openedFieldWrites t ++ directoryWrites room s ++ referTo 80 (not (directoryFull s)) (length s)
     ++ freeingWrites room s (unwanted s s)
 
-unfoldable pub openingWrites : List ℕ → List ℕ → ℕ → List Write
-openingWrites d s t =
+unfoldable pub openWrites : List ℕ → List ℕ → ℕ → List Write
+openWrites d s t =
     openBody (length d) s t ++ sealWrite (checksumEnabled s) 16 (headerEnd s - 16) (run (openBody (length d) s t) d)
-
-unfoldable pub openWrites : List ℕ → ℕ → ℕ → List Write
-openWrites d n t = pick (keepsCeilings (pageIn d n)) (openingWrites d (pageIn d n) t) []
 
 -- the reference to tile i, and the directory's checksum, behind other writes xs
 unfoldable pub thenRefer : List ℕ → ℕ → ℕ → List Write → List ℕ → List Write
@@ -75,28 +64,19 @@ abbrev pub overFound : List ℕ → List ℕ → List ℕ → Found → List Wri
 overFound d s c Nothing = []
 overFound d s c (At x) = overWrites (checksumEnabled s) x (lengthAt s x) (elementBytes s) (entriesRead s) c d
 
-unfoldable pub storingWrites : List ℕ → List ℕ → ℕ → List ℕ → List Write
-storingWrites d s i c =
-    pick (storedOver s i) (overFound d s c (tileAt s i)) (thenRefer s i (contentAt (storedAt s i)) (newWrites (length d) s i c) d)
-
-unfoldable pub storeWrites : List ℕ → ℕ → ℕ → List ℕ → List Write
-storeWrites d n i c = pick (keepsCeilings (pageIn d n)) (storingWrites d (pageIn d n) i c) []
+unfoldable pub storeWrites : List ℕ → List ℕ → ℕ → List ℕ → List Write
+storeWrites d s i c =
+    pick (storedOver s i) (overFound d s c (tileReferred s i)) (thenRefer s i (contentAt (storedAt s i)) (newWrites (length d) s i c) d)
 
 -- removing: the record freed, its reference zero; absent, none
-unfoldable pub removingWrites : List ℕ → List ℕ → ℕ → List Write
-removingWrites d s i = pick (isThere s i) (thenRefer s i 0 (freeingWrites (length d) s (carries s i)) d) []
-
-unfoldable pub removeWrites : List ℕ → ℕ → ℕ → List Write
-removeWrites d n i = pick (keepsCeilings (pageIn d n)) (removingWrites d (pageIn d n) i) []
+unfoldable pub removeWrites : List ℕ → List ℕ → ℕ → List Write
+removeWrites d s i = pick (isThere s i) (thenRefer s i 0 (freeingWrites (length d) s (carries s i)) d) []
 
 -- closing: the list of free records, if there are any, then the header
 unfoldable pub listWrites : ℕ → List ℕ → List Write
 listWrites room s = pick (anyFree s) (wholeWrite room (length s) (fileSpaceRecord s)) []
 
-unfoldable pub closingWrites : List ℕ → List ℕ → ℕ → List Write
-closingWrites d s t =
+unfoldable pub closeWrites : List ℕ → List ℕ → ℕ → List Write
+closeWrites d s t =
     listWrites (length d) s
     ++ closedFrontWrites (checksumEnabled s) (headerEnd s) t (anyFree s) (length s) (firstSet (part s 48 8)) (run (listWrites (length d) s) d)
-
-unfoldable pub closeWrites : List ℕ → ℕ → ℕ → List Write
-closeWrites d n t = pick (keepsCeilings (pageIn d n)) (closingWrites d (pageIn d n) t) []

@@ -53,10 +53,10 @@ use Rattle.page_laws.proofs.TileMapLaws.{below-count, contents-some}
 use Rattle.page_laws.proofs.TileRecordLaws.{BothAt, tile-stays}
 use Rattle.correct.specs.Front.{pageIn}
 use Rattle.correct.specs.Storing.{tileAt}
-use Rattle.page_laws.specs.Tiles.{contentsIn, contentsOf, tilesOf, recordOfTile, Follows}
-use Rattle.corrected.specs.Sequence.{pageOf, afterAll}
-use Rattle.corrected.specs.Cells.{contentIn, ReadsAs, Cells}
-use Rattle.corrected.proofs.SequenceLaws.{page-sound, sequence}
+use Rattle.page_laws.specs.Tiles.{contentsIn, contentsOf, tilesOf, recordOfTile}
+use Rattle.correct.specs.Calls.{pageOf, afterAll}
+use Rattle.corrected.specs.Cells.{contentIn, ReadsAs, Cells, CellsStay}
+use Rattle.corrected.proofs.SequenceLaws.{page-sound, sequence, sequence-stays}
 
 -- a list made by a function, by its places
 
@@ -299,38 +299,50 @@ module _ (s t : List ℕ) (o : Sound s) (q : Sound t) (j : SameJudged s t) (row 
       ⊎-elim (λ a. filled s t o q j row column e g ci (a .1) ∙ sym (filled s s o o self row column e g ci (a .0))) (λ w. both-same w ci)
       (tile-stays s t o q (cellTile s row column) h)
 
-reads-as :
-    (s t : List ℕ) → Sound s → Sound t → (named : ℕ → Bool) (tiles : ℕ → List (List ℕ)) → Follows s t named tiles → (ci row column e : ℕ) →
-    ReadsAs s t named tiles ci row column e
-unfolding contentIn
-reads-as s t o q named tiles f ci row column e =
-    let j = sound-judged o (f .header) in
-    let m = f .map-of (cellTile s row column) in
-    record {
-      outside = λ g. outside-is t ci row column e (out j g);
-      fill = λ g h. filled s t o q j row column e g ci (absent s t o q j row column e g (m ∙ h));
-      held =
-          λ g h.
-          let c = getD (tiles (cellTile s row column)) e [] in
-          let w = stands s t o q j row column e g c (ap (λ (r : List (List ℕ)). getD r e []) (sym m)) (λ z. h (sym m ∙ z)) in
-          record { start = w .start; found = w .found; reads = cell-by s t o q j row column e g c w ci };
-      kept = λ n. go j n (inGrid s row column e) refl;
-    }
-  where
-    out : SameJudged s t → inGrid s row column e ≡ false → inGrid t row column e ≡ false
-    out j g = rw (grid-same s t j o row column e) at g
+module _ (s t : List ℕ) (o : Sound s) (q : Sound t) (j : SameJudged s t) (ci row column e : ℕ) where
+  out : inGrid s row column e ≡ false → inGrid t row column e ≡ false
+  out g = rw (grid-same s t j o row column e) at g
 
-    go : SameJudged s t → named (cellTile s row column) ≡ false → (b : Bool) → inGrid s row column e ≡ b → meaning t ci row column e ≡ meaning s ci row column e
-    go j n true g = stays-same s t o q j row column e g ci (f .records (cellTile s row column) n)
-    go j n false g = outside-is t ci row column e (out j g) ∙ sym (outside-is s ci row column e g)
+  reads-as : (tiles : ℕ → List (List ℕ)) → ((i : ℕ) → tilesOf t i ≡ tiles i) → ReadsAs s t tiles ci row column e
+  unfolding contentIn
+  reads-as tiles f =
+      let m = f (cellTile s row column) in
+      record {
+        outside = λ g. outside-is t ci row column e (out g);
+        fill = λ g h. filled s t o q j row column e g ci (absent s t o q j row column e g (m ∙ h));
+        held =
+            λ g h.
+            let c = getD (tiles (cellTile s row column)) e [] in
+            let w = stands s t o q j row column e g c (ap (λ (r : List (List ℕ)). getD r e []) (sym m)) (λ z. h (sym m ∙ z)) in
+            record { start = w .start; found = w .found; reads = cell-by s t o q j row column e g c w ci };
+      }
+
+  reads-same : recordOfTile t (cellTile s row column) ≡ recordOfTile s (cellTile s row column) → meaning t ci row column e ≡ meaning s ci row column e
+  reads-same h = go (inGrid s row column e) refl
+    where
+      go : (b : Bool) → inGrid s row column e ≡ b → meaning t ci row column e ≡ meaning s ci row column e
+      go true g = stays-same s t o q j row column e g ci h
+      go false g = outside-is t ci row column e (out g) ∙ sym (outside-is s ci row column e g)
 
 pub cells : Cells
 cells b n v h calls g =
+    let s = pageIn b n in
     let k = sequence b n v h calls g in
     let t = pageOf (afterAll calls (record { buffer = b; long = n })) in
+    let o = page-sound s h in
     let q = page-sound t (k .page) in
+    let f = k .follows in
     record {
       routes = λ a ci. demand-3 t a ci;
       ways = λ ci. sound-cells t q ci;
-      cells = λ ci row column e. reads-as (pageIn b n) t (page-sound (pageIn b n) h) q _ _ (k .follows) ci row column e;
+      cells = λ ci row column e. reads-as s t o q (sound-judged o (f .header)) ci row column e _ (f .map-of);
     }
+
+pub cells-stay : CellsStay
+cells-stay b n v h calls g z ci row column e m =
+    let s = pageIn b n in
+    let k = sequence b n v h calls g in
+    let t = pageOf (afterAll calls (record { buffer = b; long = n })) in
+    let o = page-sound s h in
+    reads-same s t o (page-sound t (k .page)) (sound-judged o (k .follows .header)) ci row column e
+    (sequence-stays b n v h calls g z .places .records (cellTile s row column) m)

@@ -1,4 +1,3 @@
-pub mod PageBytes
 pub mod SequenceLaws
 pub mod RefusalLaws
 pub mod CellLaws

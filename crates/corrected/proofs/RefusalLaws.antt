@@ -1,8 +1,8 @@
--- Req 03: when calls are refused, and what a refused call leaves. Assumes nothing.
+-- Req 03: when the storing of a tile is refused for want of room. Assumes nothing.
 use Prim.Native.Nat.{ℕ, _+_, _≤_, _<_, max}
 use native.Mathlib.Omega.{arith}
 use native.Mathlib.Decide.{decLe}
-use mathlib.Core.Path.{_≡_, refl, sym, ap, _∙_}
+use mathlib.Core.Path.{_≡_, refl, sym, ap, ap₂, _∙_}
 use mathlib.Core.Logic.{_⊎_, inl, inr, ⊎-elim, by-cases}
 use mathlib.Core.List.{List, [], _∷_, _++_}
 use mathlib.Core.Bool.{Bool, true, false, _||_}
@@ -11,22 +11,20 @@ use lib.Dec.{leb, eqb}
 use borrow.Author.Tests.{leb-true, eqb-true}
 use Rattle.wire.specs.Pick.{pick}
 use Rattle.wire.specs.Tests.{_≤?_, _≡?_}
-use Rattle.wire.proofs.TestLaws.{means, yes, no, not-both}
-use Rattle.answer.proofs.VerdictLaws.{refused-not}
+use Rattle.wire.proofs.TestLaws.{means, yes, not-both}
+use Rattle.answer.proofs.VerdictLaws.{refused-not, refused-is}
 use Rattle.answer.specs.declared.Refusal.{Refusal}
-use Rattle.answer.specs.declared.Refusal.the-variants.{Ceiling, Room, Input, OutsideGrid, NotOpen}
-use Rattle.answer.specs.declared.Verdict.{Verdict}
+use Rattle.answer.specs.declared.Refusal.the-variants.{Ceiling, Room}
 use Rattle.answer.specs.declared.Verdict.the-variants as verdict
-use Rattle.answer.specs.declared.Laid.the-variants.{Length, Refused}
-use Rattle.answer.specs.Refusals.{refusalNumber, refusalPlace, gate, unlessRefused}
-use Rattle.record.specs.Chain.{headerEnd, joined, WellFormed}
+use Rattle.answer.specs.declared.Laid.the-variants.{Refused}
+use Rattle.answer.specs.Refusals.{refusalNumber, gate, unlessRefused}
+use Rattle.record.specs.Chain.{headerEnd, joined}
 use Rattle.geometry.specs.Tiles.{tileCount}
 use Rattle.geometry.specs.Sizes.{tileBytes, plainTileLength}
 use Rattle.header.specs.Fields.{checksumEnabled}
 use Rattle.check_header.specs.Ceilings.{mostFileBytes, withinCeilings}
-use Rattle.page_check.specs.Stages.{check}
 use Rattle.page_check.specs.Accepted.{Sound}
-use Rattle.pieces.specs.Pieces.{pieces, freeing, isFree}
+use Rattle.pieces.specs.Pieces.{pieces, isFree}
 use Rattle.pieces.specs.Edits.{takes, placeFor}
 use Rattle.pieces.specs.Standing.{AllOf}
 use Rattle.pieces.proofs.FreeingLaws.{and-both, freeing-length}
@@ -36,74 +34,11 @@ use Rattle.writable.proofs.PartLaws.{sound-parted}
 use Rattle.cells.specs.Routes.{carries}
 use Rattle.correct.specs.Front.{pageIn}
 use Rattle.correct.specs.Storing.{storedOver, storedAt, storedLength, freedOf}
-use Rattle.correct.specs.Answers.{onPage, onOpenPage, tileThen, cellsThen, timeThen, roomLeft, openVerdict, storeVerdict, removeVerdict, closeVerdict, answered, openAnswer, storeAnswer, removeAnswer, closeAnswer, openOut, storeOut, removeOut, closeOut}
+use Rattle.correct.specs.Answers.{tileThen, cellsThen, roomLeft, answered}
+use Rattle.correct.specs.Calls.{Call, Role, lineOf, changeOn, changeOf, answerBy}
 use Rattle.effects.proofs.BufferEffects.{page-long}
-use Rattle.corrected.specs.Sequence.{Call, State, pageOf, answerOf, after}
-use Rattle.corrected.specs.Refusals.{RefusedLeaves, RefusedPlace, AtEnd, RoomExactly, StoreRefused}
-
-pub refused-leaves : RefusedLeaves
-unfolding after openOut storeOut removeOut closeOut
-refused-leaves (Call.Opening t) st r e = rw e
-refused-leaves (Call.Storing i c) st r e = rw e
-refused-leaves (Call.Removing i) st r e = rw e
-refused-leaves (Call.Closing t) st r e = rw e
-
--- a verdict's refusal has place 0, or it is the check's
-
-abbrev Placed : Verdict → Verdict → Type 0
-Placed v w = (r : Refusal) → v ≡ verdict.Refused r → (refusalPlace r ≡ 0) ⊎ (w ≡ verdict.Refused r)
-
-refused-same : {q r : Refusal} → verdict.Refused q ≡ verdict.Refused r → q ≡ r
-refused-same e = cc
-
-placed-gate : (b : Bool) (q : Refusal) (v w : Verdict) → refusalPlace q ≡ 0 → Placed v w → Placed (gate b q v) w
-unfolding gate
-placed-gate true q v w z p = p
-placed-gate false q v w z p = λ r e. inl (ap refusalPlace (sym (refused-same e)) ∙ z)
-
-placed-accepted : (w : Verdict) → Placed verdict.Accepted w
-placed-accepted w = λ r e. let z : _≡_ {A = ℕ} 0 1 = cc in absurd (omega arith)
-
-placed-room : (b : List ℕ) (m : ℕ) (w : Verdict) → Placed (roomLeft b m) w
-unfolding roomLeft
-placed-room b m w = placed-gate _ Room _ w refl (placed-gate _ Ceiling _ w refl (placed-accepted w))
-
-placed-check : (v w : Verdict) → Placed w v → Placed (unlessRefused verdict.Refused v w) v
-unfolding unlessRefused
-placed-check verdict.Accepted w p = p
-placed-check (verdict.Refused q) w p = λ r e. inr e
-
-answer-refused : (v : Verdict) (m : ℕ) (r : Refusal) → answered v m ≡ Refused r → v ≡ verdict.Refused r
-unfolding answered unlessRefused
-answer-refused verdict.Accepted m r e = let z : _≡_ {A = ℕ} 0 1 = cc in absurd (omega arith)
-answer-refused (verdict.Refused q) m r e = let z : q ≡ r = cc in ap verdict.Refused z
-
-pub refused-place : RefusedPlace
-unfolding pageOf openAnswer storeAnswer removeAnswer closeAnswer openVerdict storeVerdict removeVerdict closeVerdict onOpenPage onPage tileThen cellsThen timeThen
-refused-place (Call.Opening t) st r e =
-    placed-gate _ Input _ _ refl (placed-check _ _ (placed-gate _ Input _ _ refl (placed-room _ _ _))) r (answer-refused _ _ r e)
-refused-place (Call.Storing i c) st r e =
-    placed-gate _ Input _ _ refl (placed-gate _ NotOpen _ _ refl (placed-gate _ OutsideGrid _ _ refl (placed-gate _ Input _ _ refl (placed-room _ _ _)))) r
-    (answer-refused _ _ r e)
-refused-place (Call.Removing i) st r e =
-    placed-gate _ Input _ _ refl (placed-gate _ NotOpen _ _ refl (placed-gate _ OutsideGrid _ _ refl (placed-accepted _))) r (answer-refused _ _ r e)
-refused-place (Call.Closing t) st r e =
-    placed-gate _ Input _ _ refl (placed-gate _ NotOpen _ _ refl (placed-gate _ Input _ _ refl (placed-room _ _ _))) r (answer-refused _ _ r e)
-
--- the room that is left
-
-module _ (b : List ℕ) (m : ℕ) where
-  room-short : length b < m → roomLeft b m ≡ verdict.Refused Room
-  unfolding roomLeft gate
-  room-short h = rw (← no ((m ≤? length b) ∷ []) (λ p. omega (arith, p .0)))
-
-  room-high : m ≤ length b → mostFileBytes < m → roomLeft b m ≡ verdict.Refused Ceiling
-  unfolding roomLeft gate
-  room-high h k = rw (← yes ((m ≤? length b) ∷ []) (h, tt), ← no ((m ≤? mostFileBytes) ∷ []) (λ p. omega (arith, p .0)))
-
-  room-enough : m ≤ length b → m ≤ mostFileBytes → roomLeft b m ≡ verdict.Accepted
-  unfolding roomLeft gate
-  room-enough h k = rw (← yes ((m ≤? length b) ∷ []) (h, tt), ← yes ((m ≤? mostFileBytes) ∷ []) (k, tt))
+use Rattle.effects.proofs.PassedLaws.{room-short, room-past, room-enough, answer-refused, wanted-admitted, judged-once}
+use Rattle.corrected.specs.Refusals.{AtEnd, RoomExactly, StoreRefused}
 
 -- where a record goes: to the end where none takes it, else inside
 
@@ -147,15 +82,22 @@ module _ (b : List ℕ) (n i : ℕ) (c : List ℕ) (h : n ≤ length b) (o : ope
   sound : Sound s
   sound = open-sound s o
 
-  verdict-is : storeVerdict b n i c ≡ roomLeft b (storedLength s i)
-  unfolding storeVerdict onOpenPage onPage tileThen cellsThen gate
-  verdict-is =
+  line-is : lineOf (Call.Storing i c) b s .verdict ≡ roomLeft b (storedLength s i)
+  unfolding lineOf tileThen cellsThen gate
+  line-is =
       let e : i + 1 ≤ tileCount s = omega arith in
-      rw (← yes ((n ≤? length b) ∷ []) (h, tt), o, ← yes ((i + 1 ≤? tileCount s) ∷ []) (e, tt), ← yes ((length c ≡? tileBytes s) ∷ []) (l, tt))
+      rw (← yes ((i + 1 ≤? tileCount s) ∷ []) (e, tt), ← yes ((length c ≡? tileBytes s) ∷ []) (l, tt))
 
-  answer-is : storeAnswer b n i c ≡ answered (roomLeft b (storedLength s i)) (storedLength s i)
-  unfolding storeAnswer
-  answer-is = rw verdict-is
+  verdict-is : changeOf (Call.Storing i c) b n .verdict ≡ roomLeft b (storedLength s i)
+  verdict-is = judged-once (Call.Storing i c) b n ∙ wanted-admitted Role.Works b n _ h o ∙ line-is
+
+  long-is : changeOf (Call.Storing i c) b n .long ≡ storedLength s i
+  unfolding changeOf changeOn lineOf
+  long-is = refl
+
+  answer-is : answerBy (changeOf (Call.Storing i c) b n) ≡ answered (roomLeft b (storedLength s i)) (storedLength s i)
+  unfolding answerBy
+  answer-is = ap₂ answered verdict-is long-is
 
   whole-long : headerEnd s + length (joined (freedOf s i)) ≡ n
   unfolding freedOf
@@ -186,29 +128,29 @@ module _ (b : List ℕ) (n i : ℕ) (c : List ℕ) (h : n ≤ length b) (o : ope
           ⊎-elim (λ a. inr (record { anew = e; none-takes = a }))
           (λ y. let a = whole-long in let d = page-long b n h in inl (omega arith)) (place-inside (headerEnd s) m (freedOf s i))
 
-  fine : storedLength s i ≡ n → roomLeft b (storedLength s i) ≡ verdict.Accepted
+  fine : storedLength s i ≡ n → verdict.Accepted ≡ roomLeft b (storedLength s i)
   fine e = room-enough b (storedLength s i) (omega arith) (omega (arith, small))
 
-  refused-of : (r : Refusal) → storeAnswer b n i c ≡ Refused r → roomLeft b (storedLength s i) ≡ verdict.Refused r
+  refused-of : (r : Refusal) → answerBy (changeOf (Call.Storing i c) b n) ≡ Refused r → roomLeft b (storedLength s i) ≡ verdict.Refused r
   refused-of r e = answer-refused (roomLeft b (storedLength s i)) (storedLength s i) r (sym answer-is ∙ e)
 
-  refused-to : (r : Refusal) → roomLeft b (storedLength s i) ≡ verdict.Refused r → storeAnswer b n i c ≡ Refused r
+  refused-to : (r : Refusal) → verdict.Refused r ≡ roomLeft b (storedLength s i) → answerBy (changeOf (Call.Storing i c) b n) ≡ Refused r
   unfolding answered unlessRefused
-  refused-to r e = answer-is ∙ rw e
+  refused-to r e = answer-is ∙ rw (← e)
 
   -- of a refusal: the record goes to the end
-  ends-there : (r : Refusal) → storeAnswer b n i c ≡ Refused r → AtEnd s i
-  ends-there r e = ⊎-elim (λ y. refused-not (sym (refused-of r e) ∙ fine y)) (λ w. w) not-longer
+  ends-there : (r : Refusal) → answerBy (changeOf (Call.Storing i c) b n) ≡ Refused r → AtEnd s i
+  ends-there r e = ⊎-elim (λ y. refused-not (sym (fine y ∙ refused-of r e))) (λ w. w) not-longer
 
-  which : (r : Refusal) → storeAnswer b n i c ≡ Refused r → ((r ≡ Room) × (length b < n + m)) ⊎ ((r ≡ Ceiling) × ((n + m ≤ length b) × (mostFileBytes < n + m)))
+  which : (r : Refusal) → answerBy (changeOf (Call.Storing i c) b n) ≡ Refused r → ((r ≡ Room) × (length b < n + m)) ⊎ ((r ≡ Ceiling) × ((n + m ≤ length b) × (mostFileBytes < n + m)))
   which r e =
       let a = at-end (ends-there r e) in
       let w = refused-of r e in
       by-cases (decLe (n + m) (length b))
       (λ y.
-      by-cases (decLe (n + m) mostFileBytes) (λ z. refused-not (sym w ∙ room-enough b (storedLength s i) (omega arith) (omega arith)))
-      (λ z. inr (refused-same (sym w ∙ room-high b (storedLength s i) (omega arith) (omega arith)), (y, omega arith))))
-      (λ y. inl (refused-same (sym w ∙ room-short b (storedLength s i) (omega arith)), omega arith))
+      by-cases (decLe (n + m) mostFileBytes) (λ z. refused-not (sym (room-enough b (storedLength s i) (omega arith) (omega arith) ∙ w)))
+      (λ z. inr (refused-is (sym (room-past b (storedLength s i) (omega arith) (omega arith) ∙ w)), (y, omega arith))))
+      (λ y. inl (refused-is (sym (room-short b (storedLength s i) (omega arith) ∙ w)), omega arith))
 
   not-same : {C : Type 0} → Room ≡ Ceiling → C
   not-same e = let z : _≡_ {A = ℕ} 13 4 = ap refusalNumber e in absurd (omega arith)
@@ -219,7 +161,7 @@ module _ (b : List ℕ) (n i : ℕ) (c : List ℕ) (h : n ≤ length b) (o : ope
         room = λ e. (ends-there Room e, ⊎-elim (λ w. w .1) (λ w. not-same (w .0)) (which Room e));
         room-if = λ w y. refused-to Room (room-short b (storedLength s i) (omega (arith, at-end w)));
         ceiling = λ e. (ends-there Ceiling e, ⊎-elim (λ w. not-same (sym (w .0))) (λ w. w .1) (which Ceiling e));
-        ceiling-if = λ w y z. refused-to Ceiling (room-high b (storedLength s i) (omega (arith, at-end w)) (omega (arith, at-end w)));
+        ceiling-if = λ w y z. refused-to Ceiling (room-past b (storedLength s i) (omega (arith, at-end w)) (omega (arith, at-end w)));
       }
 
 pub store-refused : StoreRefused

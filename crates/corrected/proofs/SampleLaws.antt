@@ -5,7 +5,7 @@ use Rattle.bodies.specs.ListDirectories.{entryCount, fileSpaceAt, freeCount, fr
 use Rattle.bodies.specs.MetadataRecord.{contentLengthAt, dataType, metadataDescriptionAt, metadataEnd, metadataLength, metadataName, recordId, recordIdAt}
 use Rattle.bodies.specs.TileDirectory.{inRectangle, inSpan, numberOf, referenceAt, referenceFrom, referenceOf, referenceSize, referencesEnd, tileDirectoryAt}
 use Rattle.bodies.specs.TileRecord.{elementContentAt, sectionAt, sectionEnd, sectionLength, tileEnd, tileIndex}
-use Rattle.cells.specs.Routes.{carries, walkedTo}
+use Rattle.cells.specs.Routes.{carries, referredTo}
 use Rattle.check_directory.specs.References.{noOther, refersOrZero, refersTo}
 use Rattle.check_directory.specs.TileRules.{formRight, givesTile, rectangleRight, spanRight, tileDirectoryRight, tilesListed, tilesOnly}
 use Rattle.check_header.specs.Ceilings.{sidesWithin, withinCeilings}
@@ -23,12 +23,12 @@ use Rattle.check_records.specs.MetadataBody.{metadataRight}
 use Rattle.check_records.specs.TileBody.{indexRight, sectionPacking, sectionRight, tileRight}
 use Rattle.correct.specs.Closing.{anyFree, closedFields, closedFront, closedMore, closedPage, closedReference, fileSpaceRecord, freeEntryBytes, freeList}
 use Rattle.correct.specs.FieldWrites.{closedFieldWrites, closedFrontWrites, firstSet, openedFieldWrites, referTo, sealWithout, setWrites}
-use Rattle.correct.specs.Front.{pageIn, sealedFront}
+use Rattle.correct.specs.Front.{sealedFront}
 use Rattle.correct.specs.Opening.{compactOf, fullDirectory, openedFields, openedFront, openedMore, openedPage, openedReference, unwanted}
 use Rattle.correct.specs.RecordWrites.{joinWrites, freeRunWrites}
 use Rattle.correct.specs.Removing.{isThere, removedPage, removedPieces}
-use Rattle.correct.specs.Storing.{cellsPut, freedOf, isPlain, newlyStored, overwritten, storedAt, storedOver, storedPage, storedPieces, tileAt}
-use Rattle.correct.specs.Writes.{closeWrites, closingWrites, directoryWrites, freeingWrites, keepsCeilings, listWrites, openBody, openWrites, openingWrites}
+use Rattle.correct.specs.Storing.{cellsPut, freedOf, isPlain, newlyStored, overwritten, storedAt, storedOver, storedPage, storedPieces, tileReferred}
+use Rattle.correct.specs.Writes.{closeWrites, directoryWrites, freeingWrites, listWrites, openBody, openWrites}
 use Rattle.crc32c.specs.Crc.{crcBit, crcByte, crcOf, crcOver, crcPart}
 use Rattle.geometry.specs.Sizes.{elementBytes, elementPacking, leastLength, packingOf, plainTileLength, storedSize, tileBytes, tileLength, uncompressed}
 use Rattle.geometry.specs.Tiles.{tileCount, tilesAcross, tilesAlong, tilesDown, tilesIn}
@@ -40,7 +40,7 @@ use Rattle.page_check.specs.Stages.{check, checkDirectories, checkFromRecords, 
 use Rattle.pieces.specs.Edits.{leftOver, placeFor, placed, referenceBytes, referring, resealed, takes, withReference}
 use Rattle.pieces.specs.Pieces.{attach, cleared, freeRecord, freeing, isFree, joinFree, nothingToJoin, pieceAt, pieces, piecesOf}
 use Rattle.pieces.specs.Standing.{standing, without}
-use Rattle.record.specs.Chain.{endOf, find, findNot, firstRecord, headerEnd, records, recordsEnd, recordsOf, starts, startsGo}
+use Rattle.record.specs.Chain.{endOf, find, findNot, headerEnd, records, recordsEnd, recordsOf, starts, startsGo}
 use Rattle.record.specs.Record.{padded, recordLimit, recordOk}
 use Rattle.stores.specs.Stores.{place, run, storeCount}
 use Rattle.stores.specs.Writes.{oneWrite, sealWrite, wholeWrite}
@@ -56,7 +56,7 @@ use Rattle.written_records.specs.Tile.{plainRecord, sections, sectionsOf, tileR
 use Rattle.corrected.specs.Samples.{Sampled}
 
 pub sampled : Sampled
-unfolding advance place noFileSpace directoriesOpen carries closingWrites directoryWrites firstRecord keepsCeilings openingWrites referenceBytes tileAt walkedTo allBelow anyFree attach below blockAt blockSize bodyFault bodyRight byteAt bytesOf cellSize cellsPut chainFault check checkDirectories checkFromRecords checkHeader checkRecords checksumAt checksumFault checksumFor checksumOf checksumRight cleared closeWrites closed closedFields closedFront closedMore closedPage closedReference closedFieldWrites closedFrontWrites compactOf contentLengthAt countBelow crcBit crcByte crcOf crcOver crcPart dataType descriptionAt directoriesRight directoryForm directoryFull directoryOf element elementBytes elementContentAt elementName elementPacking elementRight elementsRight endOf endRight entriesRead entryAt entryCount entryEnd entryStart entryTexts every fieldsEnd fileSpaceAt fileSpaceRecord fileSpaceRight find findNot firstSet firstTwo firstWrong fiveRules following formRight frameRight freeCount freeEntryBytes freeEntryAt freeEntryIs freeEntryOf freeFits freeList freeListed freeNotEmpty freeOnly freeRecord freedOf freeing freeingWrites fullDirectory gate givesTile goesOn headerEnd headerRight identified identifier inRectangle inSpan indexRight isFree isOpened isPlain isThere joinFree joinWrites keysDistinct labelAt lastByte leastLength leftOver lengthRight letter listWrites listedOnce mark metadataAt metadataCount metadataDescriptionAt metadataDirectoryRight metadataEnd metadataEntryAt metadataEntryEnd metadataEntryIs metadataEntryOf metadataEntrySize metadataFits metadataLength metadataListed metadataName metadataOnly metadataRight methodCount methodsAt nameByte nameBytes namesDiffer never newlyStored nextTwo noOther nothingElse nothingToJoin number numberAt numberOf octet oneIf oneWrite openBody openForWriting openWrites openedFields openedFront openedMore openedPage openedReference openedFieldWrites optionsRight overwritten packingOf padded pageIn part passes pieceAt pieces piecesOf placeFor placed plainRecord plainTileLength positive productLabelAt put recordHead recordId recordIdAt recordLength recordLimit recordOf recordOk records recordsEnd recordsOf recordsRight rectangleRight referTo referenceAt referenceFrom referenceOf referenceSize referencesEnd referencesOf referring refersOrZero refersTo removedPage removedPieces resealed rightOf rows run freeRunWrites sameBytes sameKey sealWithout sealWrite sealed sealedFront section sectionAt sectionEnd sectionLength sectionPacking sectionRight sections sectionsOf select setWrites sidesRight sidesWithin some spanRight stages standing starts startsGo storeCount storedAt storedOver storedPage storedPieces storedSize stringEnd stringSize stringText sumBelow summedBytes tail tailRight takes textRight tileBytes tileCount tileDirectoryAt tileDirectoryRight tileEnd tileIndex tileLength tileRecord tileRight tilesAcross tilesAlong tilesDown tilesIn tilesListed tilesOnly unclosed uncompressed unitAt unless unlessRefused unwanted utf8 versionRight wholeWrite withReference within withinCeilings without zeros
+unfolding advance place noFileSpace directoriesOpen carries directoryWrites referenceBytes referredTo tileReferred allBelow anyFree attach below blockAt blockSize bodyFault bodyRight byteAt bytesOf cellSize cellsPut chainFault check checkDirectories checkFromRecords checkHeader checkRecords checksumAt checksumFault checksumFor checksumOf checksumRight cleared closeWrites closed closedFields closedFront closedMore closedPage closedReference closedFieldWrites closedFrontWrites compactOf contentLengthAt countBelow crcBit crcByte crcOf crcOver crcPart dataType descriptionAt directoriesRight directoryForm directoryFull directoryOf element elementBytes elementContentAt elementName elementPacking elementRight elementsRight endOf endRight entriesRead entryAt entryCount entryEnd entryStart entryTexts every fieldsEnd fileSpaceAt fileSpaceRecord fileSpaceRight find findNot firstSet firstTwo firstWrong fiveRules following formRight frameRight freeCount freeEntryBytes freeEntryAt freeEntryIs freeEntryOf freeFits freeList freeListed freeNotEmpty freeOnly freeRecord freedOf freeing freeingWrites fullDirectory gate givesTile goesOn headerEnd headerRight identified identifier inRectangle inSpan indexRight isFree isOpened isPlain isThere joinFree joinWrites keysDistinct labelAt lastByte leastLength leftOver lengthRight letter listWrites listedOnce mark metadataAt metadataCount metadataDescriptionAt metadataDirectoryRight metadataEnd metadataEntryAt metadataEntryEnd metadataEntryIs metadataEntryOf metadataEntrySize metadataFits metadataLength metadataListed metadataName metadataOnly metadataRight methodCount methodsAt nameByte nameBytes namesDiffer never newlyStored nextTwo noOther nothingElse nothingToJoin number numberAt numberOf octet oneIf oneWrite openBody openForWriting openWrites openedFields openedFront openedMore openedPage openedReference openedFieldWrites optionsRight overwritten packingOf padded part passes pieceAt pieces piecesOf placeFor placed plainRecord plainTileLength positive productLabelAt put recordHead recordId recordIdAt recordLength recordLimit recordOf recordOk records recordsEnd recordsOf recordsRight rectangleRight referTo referenceAt referenceFrom referenceOf referenceSize referencesEnd referencesOf referring refersOrZero refersTo removedPage removedPieces resealed rightOf rows run freeRunWrites sameBytes sameKey sealWithout sealWrite sealed sealedFront section sectionAt sectionEnd sectionLength sectionPacking sectionRight sections sectionsOf select setWrites sidesRight sidesWithin some spanRight stages standing starts startsGo storeCount storedAt storedOver storedPage storedPieces storedSize stringEnd stringSize stringText sumBelow summedBytes tail tailRight takes textRight tileBytes tileCount tileDirectoryAt tileDirectoryRight tileEnd tileIndex tileLength tileRecord tileRight tilesAcross tilesAlong tilesDown tilesIn tilesListed tilesOnly unclosed uncompressed unitAt unless unlessRefused unwanted utf8 versionRight wholeWrite withReference within withinCeilings without zeros
 sampled =
     record {
       opened-front = refl;

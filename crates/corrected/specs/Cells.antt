@@ -1,6 +1,6 @@
--- Req 03: how the cells of a corrected page read. s is the page before the calls, t the page now, `named` are the tiles that the calls
--- name, `tiles` is the map; e is an element, and the cell is at a row and a column.
-use Prim.Native.Nat.{ℕ}
+-- Req 03: how the cells of a corrected page read. s is the page before the calls, t the page now, `tiles` is the map; e is an element, and
+-- the cell is at a row and a column.
+use Prim.Native.Nat.{ℕ, _+_}
 use mathlib.Core.Path.{_≡_}
 use mathlib.Core.Bool.{Bool, true, false}
 use mathlib.Core.List.{List, []}
@@ -20,7 +20,8 @@ use Rattle.cells.specs.Demand3.{OneAnswer, OneMeaning}
 use Rattle.correct.specs.Front.{pageIn}
 use Rattle.correct.specs.Storing.{tileAt}
 use Rattle.page_laws.specs.Tiles.{tilesOf}
-use Rattle.corrected.specs.Sequence.{Call, State, AllGiven, AcceptedOrOpen, pageOf, afterAll, mapAfterAll, namedAfterAll}
+use Rattle.correct.specs.Calls.{Call, AllGiven, State, pageOf, afterAll}
+use Rattle.corrected.specs.Sequence.{NoneMoves, AcceptedOrOpen, mapAfterAll, namedAfterAll}
 
 -- what the map gives for element e of a tile: its bytes as they are stored
 unfoldable pub contentIn : (ℕ → List (List ℕ)) → ℕ → ℕ → List ℕ
@@ -34,26 +35,31 @@ pub record HeldAs (s t : List ℕ) (tiles : ℕ → List (List ℕ)) (ci row col
       let c : List ℕ = contentIn tiles (cellTile s row column) e in
       meaning t ci row column e ≡ cellFrom s ci c 0 (length c) start (elementContentAt t start e) row column e
 
-pub record ReadsAs (s t : List ℕ) (named : ℕ → Bool) (tiles : ℕ → List (List ℕ)) (ci row column e : ℕ) : Type 0 where
+pub record ReadsAs (s t : List ℕ) (tiles : ℕ → List (List ℕ)) (ci row column e : ℕ) : Type 0 where
   -- outside the grid: 10
   pub outside : inGrid s row column e ≡ false → meaning t ci row column e ≡ cell.Refused OutsideGrid
   -- a tile that the map has not: the element's fill
   pub fill : inGrid s row column e ≡ true → tiles (cellTile s row column) ≡ [] → meaning t ci row column e ≡ fillOf s (locationOf s row column) e
   -- a tile that it has
   pub held : inGrid s row column e ≡ true → (tiles (cellTile s row column) ≡ [] → ⊥) → HeldAs s t tiles ci row column e
-  -- a tile that no call names: as it was, value, place and refusal
-  pub kept : named (cellTile s row column) ≡ false → meaning t ci row column e ≡ meaning s ci row column e
 
 -- after any calls every way to a tile's record gives the cell's meaning, where the page is accepted again every read does, and the
 -- meaning goes by the map
-pub record Read (s t : List ℕ) (named : ℕ → Bool) (tiles : ℕ → List (List ℕ)) : Type 0 where
+pub record Read (s t : List ℕ) (tiles : ℕ → List (List ℕ)) : Type 0 where
   pub routes : check t ≡ Accepted → (ci : ℕ) → OneAnswer t ci
   pub ways : (ci : ℕ) → OneMeaning t ci
-  pub cells : (ci row column e : ℕ) → ReadsAs s t named tiles ci row column e
+  pub cells : (ci row column e : ℕ) → ReadsAs s t tiles ci row column e
 
 abbrev pub Cells : Type 0
 Cells =
     (b : List ℕ) (n : ℕ) → Bytes b → AcceptedOrOpen (pageIn b n) → (calls : List Call) → AllGiven calls →
     let start : State = record { buffer = b; long = n } in
-    Read (pageIn b n) (pageOf (afterAll calls start)) (namedAfterAll calls start (λ j. false))
-    (mapAfterAll (pageIn b n) calls start (tilesOf (pageIn b n)))
+    Read (pageIn b n) (pageOf (afterAll calls start)) (mapAfterAll (pageIn b n) calls start (tilesOf (pageIn b n)))
+
+-- and where no call moves a record, a cell of a tile that no call names is as it was, value, place and refusal
+abbrev pub CellsStay : Type 0
+CellsStay =
+    (b : List ℕ) (n : ℕ) → Bytes b → AcceptedOrOpen (pageIn b n) → (calls : List Call) → AllGiven calls → NoneMoves calls → (ci row column e : ℕ) →
+    let start : State = record { buffer = b; long = n } in
+    namedAfterAll calls start (λ j. false) (cellTile (pageIn b n) row column) ≡ false →
+    meaning (pageOf (afterAll calls start)) ci row column e ≡ meaning (pageIn b n) ci row column e

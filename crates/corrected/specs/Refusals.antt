@@ -1,34 +1,20 @@
--- Req 03: when calls are refused, and what a refused call leaves.
+-- Req 03: when the storing of a tile is refused for want of room.
 use Prim.Native.Nat.{ℕ, _+_, _≤_, _<_}
 use mathlib.Core.Path.{_≡_}
-use mathlib.Core.Logic.{_⊎_}
 use mathlib.Core.Bool.{true, false}
 use mathlib.Core.List.{List}
 use lib.ListN.{length}
-use Rattle.answer.specs.declared.Refusal.{Refusal}
 use Rattle.answer.specs.declared.Refusal.the-variants.{Ceiling, Room}
 use Rattle.answer.specs.declared.Laid.the-variants.{Refused}
-use Rattle.answer.specs.declared.Verdict.the-variants as verdict
-use Rattle.answer.specs.Refusals.{refusalPlace}
 use Rattle.geometry.specs.Tiles.{tileCount}
 use Rattle.geometry.specs.Sizes.{tileBytes, plainTileLength}
 use Rattle.check_header.specs.Ceilings.{mostFileBytes}
-use Rattle.page_check.specs.Stages.{check}
 use Rattle.pieces.specs.Edits.{takes}
 use Rattle.pieces.specs.Standing.{AllOf}
 use Rattle.writable.specs.Writable.{openForWriting}
 use Rattle.correct.specs.Front.{pageIn}
 use Rattle.correct.specs.Storing.{storedOver, freedOf}
-use Rattle.correct.specs.Answers.{storeAnswer}
-use Rattle.corrected.specs.Sequence.{Call, State, pageOf, answerOf, after}
-
--- "Every refusal changes nothing": neither the buffer nor the page's length
-abbrev pub RefusedLeaves : Type 0
-RefusedLeaves = (call : Call) (st : State) (r : Refusal) → answerOf call st ≡ Refused r → after call st ≡ st
-
--- a refusal has place 0, but for the check's, which an opening hands on
-abbrev pub RefusedPlace : Type 0
-RefusedPlace = (call : Call) (st : State) (r : Refusal) → answerOf call st ≡ Refused r → (refusalPlace r ≡ 0) ⊎ (check (pageOf st) ≡ verdict.Refused r)
+use Rattle.correct.specs.Calls.{Call, changeOf, answerBy}
 
 -- the tile needs a record of its own, and no free record takes it, once that of the tile is freed: it goes to the end
 pub record AtEnd (s : List ℕ) (i : ℕ) : Type 0 where
@@ -37,14 +23,14 @@ pub record AtEnd (s : List ℕ) (i : ℕ) : Type 0 where
 
 -- "13 exactly if neither has room, 4 if only the ceiling stands in the way", of a tile of an open page with as many cell bytes as it has
 pub record RoomExactly (b : List ℕ) (n i : ℕ) (c : List ℕ) : Type 0 where
-  pub room : storeAnswer b n i c ≡ Refused Room → AtEnd (pageIn b n) i × (length b < n + plainTileLength (pageIn b n))
-  pub room-if : AtEnd (pageIn b n) i → length b < n + plainTileLength (pageIn b n) → storeAnswer b n i c ≡ Refused Room
+  pub room : answerBy (changeOf (Call.Storing i c) b n) ≡ Refused Room → AtEnd (pageIn b n) i × (length b < n + plainTileLength (pageIn b n))
+  pub room-if : AtEnd (pageIn b n) i → length b < n + plainTileLength (pageIn b n) → answerBy (changeOf (Call.Storing i c) b n) ≡ Refused Room
   pub ceiling :
-      storeAnswer b n i c ≡ Refused Ceiling →
+      answerBy (changeOf (Call.Storing i c) b n) ≡ Refused Ceiling →
       AtEnd (pageIn b n) i × ((n + plainTileLength (pageIn b n) ≤ length b) × (mostFileBytes < n + plainTileLength (pageIn b n)))
   pub ceiling-if :
       AtEnd (pageIn b n) i → n + plainTileLength (pageIn b n) ≤ length b → mostFileBytes < n + plainTileLength (pageIn b n) →
-      storeAnswer b n i c ≡ Refused Ceiling
+      answerBy (changeOf (Call.Storing i c) b n) ≡ Refused Ceiling
 
 abbrev pub StoreRefused : Type 0
 StoreRefused =

@@ -55,9 +55,9 @@ pub record Sampled : Type 0 where
   pub taken : map takes32 (32 ∷ 40 ∷ 48 ∷ 56 ∷ []) ≡ true ∷ false ∷ true ∷ true ∷ []
   -- Req 05: opened with 0x0100 and closed with 7, 20 stores each, opening's first and closing's last at 49; the opening's
   -- stores make the page, and so do the closing's
-  pub open-stores : storeCount (openWrites file 424 256) ≡ 20
-  pub first-store : place 0 (openWrites file 424 256) ≡ 49
-  pub open-run : run (openWrites file 424 256) file ≡ openedPage file 256
-  pub close-stores : storeCount (closeWrites (openedPage file 256) 424 7) ≡ 20
-  pub last-store : place 19 (closeWrites (openedPage file 256) 424 7) ≡ 49
-  pub close-run : run (closeWrites (openedPage file 256) 424 7) (openedPage file 256) ≡ closedPage (openedPage file 256) 7
+  pub open-stores : storeCount (openWrites file file 256) ≡ 20
+  pub first-store : place 0 (openWrites file file 256) ≡ 49
+  pub open-run : run (openWrites file file 256) file ≡ openedPage file 256
+  pub close-stores : storeCount (closeWrites (openedPage file 256) (openedPage file 256) 7) ≡ 20
+  pub last-store : place 19 (closeWrites (openedPage file 256) (openedPage file 256) 7) ≡ 49
+  pub close-run : run (closeWrites (openedPage file 256) (openedPage file 256) 7) (openedPage file 256) ≡ closedPage (openedPage file 256) 7

@@ -3,53 +3,76 @@ use Prim.Native.Nat.{ℕ, min, _+_, _≤_, _<_}
 use mathlib.Core.Path.{_≡_, refl, sym, ap, _∙_}
 use mathlib.Core.List.{List}
 use mathlib.Core.Bool.{Bool, true, false}
+use mathlib.Core.Logic.{by-cases}
+use native.Mathlib.Decide.{decLe}
 use native.Mathlib.Omega.{arith}
 use lib.ListN.{length}
 use borrow.Author.Tests.{eq-eqb, ne-eqb}
 use Rattle.wire.specs.Tests.{allBelow}
+use Rattle.wire.specs.Pick.{pick}
 use Rattle.wire.specs.Bytes.{u32At}
-use Rattle.wire.proofs.TestLaws.{yes, no, below-none, below-more, below-not, each-all}
+use Rattle.wire.proofs.ByteLaws.{byte-out}
+use Rattle.wire.proofs.TestLaws.{means, yes, no, below-none, below-more, below-not, each-all}
 use Rattle.record.specs.declared.Found.{Found}
 use Rattle.record.specs.declared.Found.the-variants.{At, Nothing}
-use Rattle.record.specs.Record.{lengthAt, recordOk}
-use Rattle.record.specs.Chain.{firstRecord, headerEnd, recordsOf}
-use Rattle.record.proofs.ChainLaws.{ok-means, by-chain, first-none, first-here, first-next}
+use Rattle.record.specs.Record.{typeAt}
+use Rattle.record.specs.Chain.{recordsOf}
 use Rattle.record.proofs.FindLaws.{found-not, at-is}
 use Rattle.header.specs.Fields.{elementCount}
 use Rattle.geometry.specs.Sizes.{elementBytes, cap}
 use Rattle.bodies.specs.TileRecord.{sectionStart, sectionLength}
 use Rattle.bodies.proofs.SectionLaws.{section-told}
-use Rattle.cells.specs.declared.Route.the-variants.{Walk}
-use Rattle.cells.specs.Routes.{carries, walkedTo, foundBy}
-use Rattle.correct.specs.Storing.{tileAt, isPlain, storedOver}
+use Rattle.bodies.specs.TileDirectory.{tileDirectoryAt}
+use Rattle.cells.specs.declared.Route.the-variants.{Directory}
+use Rattle.cells.specs.Routes.{carries, referredTo, foundBy}
+use Rattle.correct.specs.Storing.{carrying, tileReferred, isPlain, storedOver}
 use Rattle.correct.specs.Removing.{isThere}
 use Rattle.correct.specs.Closing.{anyFree}
-use Rattle.edit_walks.specs.Walks.{overAt}
+use Rattle.edit_walks.specs.declared.Wanted.the-variants.{Tile}
+use Rattle.edit_walks.specs.Walks.{wantedBy, overAt}
 use Rattle.edit_walks.specs.Runs.{plainElement}
+
+carries-type : (s : List ℕ) (i x : ℕ) → carries s i x ≡ true → typeAt s x ≡ 2
+unfolding carries
+carries-type s i x e = means _ e .0
 
 -- the tile's record
 
-pub walk-tile : (s : List ℕ) (i end : ℕ) {r : Found} → end ≡ headerEnd s → r ≡ foundBy s (Walk end) i → r ≡ tileAt s i
-unfolding foundBy tileAt
-walk-tile s i end e f = f ∙ rw e
+module _ (s : List ℕ) (i at : ℕ) {f : Found} (e : at ≡ tileDirectoryAt s) (g : f ≡ foundBy s (Directory at) i) where
+  referred-by : carrying s i f ≡ tileReferred s i
+  unfolding foundBy tileReferred
+  referred-by = ap (carrying s i) (g ∙ ap (λ (y : ℕ). referredTo s y i) e)
 
-first-ok : (s : List ℕ) (p : ℕ → Bool) (x at : ℕ) → firstRecord s at p ≡ At x → recordOk s x ≡ true
-first-ok s p x =
-    by-chain s (λ at. firstRecord s at p ≡ At x → recordOk s x ≡ true) (λ at o e. found-not (sym e) (sym (first-none p s at o)))
-    (λ at o r e. go at o r e (p at) refl)
+  pub referred-none : f ≡ Nothing → Nothing ≡ tileReferred s i
+  referred-none h = sym (ap (carrying s i) h) ∙ referred-by
+
+  module _ (x : ℕ) {b : Bool} (h : f ≡ At x) (k : b ≡ wantedBy s (Tile i) x) where
+    pub referred-at : b ≡ true → At x ≡ tileReferred s i
+    unfolding wantedBy
+    referred-at z = sym (ap (carrying s i) h ∙ rw (← k, z)) ∙ referred-by
+
+    pub referred-not : b ≡ false → Nothing ≡ tileReferred s i
+    unfolding wantedBy
+    referred-not z = sym (ap (carrying s i) h ∙ rw (← k, z)) ∙ referred-by
+
+-- it starts in the page
+pub tile-inside : (s : List ℕ) (i x : ℕ) {t : Found} → t ≡ At x → t ≡ tileReferred s i → x < length s
+unfolding tileReferred
+tile-inside s i x {t} e g = go (referredTo s (tileDirectoryAt s) i) (sym g ∙ e)
   where
-    go :
-        (at : ℕ) → recordOk s at ≡ true → (firstRecord s (at + lengthAt s at) p ≡ At x → recordOk s x ≡ true) → firstRecord s at p ≡ At x →
-        (b : Bool) → p at ≡ b → recordOk s x ≡ true
-    go at o r e true f = let z : x ≡ at = at-is (sym e ∙ sym (first-here p s at o f)) in rw z o
-    go at o r e false f = r (sym (first-next p s at o f) ∙ e)
+    type-inside : carries s i x ≡ true → x < length s
+    type-inside c =
+        by-cases (decLe (length s) x)
+        (λ h. let z : typeAt s x ≡ 0 = sym (byte-out s (x + 4) (omega arith)) in absurd (omega (arith, carries-type s i x c)))
+        (λ h. omega arith)
 
-pub tile-ok : (s : List ℕ) (i x : ℕ) → tileAt s i ≡ At x → recordOk s x ≡ true
-unfolding tileAt walkedTo
-tile-ok s i x e = first-ok s (carries s i) x (headerEnd s) e
+    here : (y : ℕ) (b : Bool) → carries s i y ≡ b → pick b (At y) Nothing ≡ At x → x < length s
+    here y true c h = let z : y ≡ x = at-is h in type-inside (rw z at c)
+    here y false c h = found-not (sym h) refl
 
-pub tile-inside : (s : List ℕ) (i x : ℕ) {t : Found} → t ≡ At x → t ≡ tileAt s i → x < length s
-tile-inside s i x e f = let o = ok-means s x (tile-ok s i x (sym f ∙ e)) in omega (arith, o .long, o .inside)
+    go : (r : Found) → carrying s i r ≡ At x → x < length s
+    go Nothing h = found-not (sym h) refl
+    go (At y) h = here y (carries s i y) refl h
 
 -- its elements
 
@@ -89,7 +112,7 @@ plains-all s x e n p f h k = each-all (elementCount s) e (plainElement s x) f (o
 
 -- whether it is stored over
 
-module _ (s : List ℕ) (i : ℕ) {t : Found} (f : t ≡ tileAt s i) where
+module _ (s : List ℕ) (i : ℕ) {t : Found} (f : t ≡ tileReferred s i) where
   pub over-absent : t ≡ Nothing → Nothing ≡ overAt s i
   unfolding overAt storedOver
   over-absent e = rw (← f, e)

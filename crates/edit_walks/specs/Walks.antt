@@ -12,7 +12,7 @@ use Rattle.record.specs.Chain.{starts, headerEnd}
 use Rattle.cells.specs.Routes.{carries}
 use Rattle.stores.specs.Stores.{Write}
 use Rattle.pieces.specs.Edits.{placeFor, roomFor}
-use Rattle.correct.specs.Storing.{freedOf, tileAt, storedOver}
+use Rattle.correct.specs.Storing.{freedOf, tileReferred, storedOver}
 use Rattle.correct.specs.RecordWrites.{joinWrites}
 use Rattle.edit_walks.specs.declared.Spot.{Spot}
 use Rattle.edit_walks.specs.declared.Wanted.{Wanted}
@@ -34,4 +34,4 @@ spotOf s i n = record { at = placeFor (headerEnd s) n (freedOf s i); room = room
 
 -- Req 03, reading 10: the tile's record, if it is stored over
 unfoldable pub overAt : List ℕ → ℕ → Found
-overAt s i = pick (storedOver s i) (tileAt s i) Nothing
+overAt s i = pick (storedOver s i) (tileReferred s i) Nothing

@@ -16,7 +16,7 @@ ghost use Rattle.edit_walks.specs.Walks.{wantedBy, freedFrom};
 ghost use Rattle.edit_walks.specs.Runs.{looseBy, dueBy};
 
 // Whether the record of a type at a position is a tile record with an index.
-fn is_tile(s: &[u8], i: u32, kind: u32, at: usize) -> bool
+pub(crate) fn is_tile(s: &[u8], i: u32, kind: u32, at: usize) -> bool
     requires { ⌜ kind ≡ typeAt (now s) at ⌝ }
     ensures { λ r. ⌜ r ≡ wantedBy (now (s .entry)) (Wanted.Tile i) at ⌝ }
 {

@@ -1,4 +1,6 @@
 // What is asked of a tile before it is stored or removed, and of a page before it is closed.
+use crate::freeing;
+use bodies::tile_directory;
 use bodies::tile_record;
 use cells::Route;
 use cells::routes;
@@ -9,17 +11,26 @@ use record::chain;
 ghost use mathlib.Core.Path.{_≡_};
 ghost use Prim.Native.Nat.{_<_};
 ghost use lib.ListN.{length};
-ghost use Rattle.correct.specs.Storing.{tileAt, isPlain};
+ghost use Rattle.correct.specs.Storing.{tileReferred, isPlain};
 ghost use Rattle.correct.specs.Removing.{isThere};
 ghost use Rattle.correct.specs.Closing.{anyFree};
 ghost use Rattle.edit_walks.specs.Walks.{overAt};
 ghost use Rattle.edit_walks.specs.Runs.{plainElement};
 
-// The tile's record.
-fn tile_at(s: &[u8], tile: u32) -> Found
-    ensures { λ r. ⌜ r ≡ tileAt (now (s .entry)) tile ⌝ }
+// The tile's record, by the tile directory: what the reference gives, if that is a tile record with the index.
+fn tile_referred(s: &[u8], tile: u32) -> Found
+    ensures { λ r. ⌜ r ≡ tileReferred (now (s .entry)) tile ⌝ }
 {
-    routes::found_by(s, Route::Walk(chain::header_end(s)), tile)
+    let at = tile_directory::tile_directory_at(s);
+    match routes::found_by(s, Route::Directory(at), tile) {
+        Found::Nothing => Found::Nothing,
+        Found::At(x) => {
+            if freeing::is_tile(s, tile, wire::byte_off(s, x, 4), x) {
+                return Found::At(x);
+            }
+            Found::Nothing
+        }
+    }
 }
 
 // Whether an element of the tile record at x is uncompressed.
@@ -55,7 +66,7 @@ fn is_plain(s: &[u8], x: usize) -> bool
 pub fn stored_over(s: &[u8], tile: u32) -> Found
     ensures { λ r. ⌜ r ≡ overAt (now (s .entry)) tile ⌝ }
 {
-    match tile_at(s, tile) {
+    match tile_referred(s, tile) {
         Found::Nothing => Found::Nothing,
         Found::At(x) => {
             if is_plain(s, x) {
@@ -70,7 +81,7 @@ pub fn stored_over(s: &[u8], tile: u32) -> Found
 pub fn is_there(s: &[u8], tile: u32) -> bool
     ensures { λ r. ⌜ r ≡ isThere (now (s .entry)) tile ⌝ }
 {
-    if let Found::At(_) = tile_at(s, tile) {
+    if let Found::At(_) = tile_referred(s, tile) {
         return true;
     }
     false

@@ -16,7 +16,6 @@ use Rattle.stores.specs.Stores.{run}
 use Rattle.stores.specs.Writes.{wholeWrite}
 use Rattle.writable.proofs.PartLaws.{sound-parted}
 use Rattle.correct.specs.Front.{pageIn}
-use Rattle.correct.specs.Writes.{keepsCeilings}
 use Rattle.page_laws.proofs.MoreLaws.{joined-append}
 use Rattle.effects.proofs.LieLaws.{whole-middle, Lie, lie-none, lie-whole}
 
@@ -85,10 +84,6 @@ module _ (b : List ℕ) (n : ℕ) (inside : n ≤ length b) (sound : Sound (page
   pub pieces-long : length (take (headerEnd s) s) + length (joined (pieces s)) ≡ n
   pieces-long =
       sym (length-append (take (headerEnd s) s) (joined (pieces s))) ∙ ap length (sym (sound-parted s sound .whole)) ∙ page-long b n inside
-
-  pub page-ceilings : keepsCeilings s ≡ true
-  unfolding keepsCeilings
-  page-ceilings = sound .headed .ceilings
 
   pub end-made :
       (g : List ℕ) (there : Bool) (v : List ℕ) → length g ≡ length (take (headerEnd s) s) → length s + length (added there v) ≤ length b →

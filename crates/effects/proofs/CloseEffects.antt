@@ -18,23 +18,21 @@ use Rattle.writable.specs.Writable.{Open}
 use Rattle.writable.proofs.OpenLaws.{open-means}
 use Rattle.correct.specs.Front.{pageIn, sealedFront}
 use Rattle.correct.specs.Closing.{fileSpaceRecord, anyFree, closedMore, closedFields, closedReference, closedFront, closedPage, closedLength}
-use Rattle.correct.specs.Answers.{closeVerdict}
-use Rattle.correct.specs.FieldWrites.{firstSet, closedFrontWrites}
-use Rattle.correct.specs.Writes.{listWrites, closingWrites, closeWrites}
-use Rattle.effects.specs.Effects.{Makes, CloseMakes}
+use Rattle.correct.specs.FieldWrites.{firstSet, Lowest, closedFrontWrites}
+use Rattle.correct.specs.Writes.{listWrites, closeWrites}
+use Rattle.correct.specs.Calls.{Call, lineOf}
+use Rattle.correct.proofs.FieldLaws.{lowest-set}
+use Rattle.effects.specs.Effects.{Makes, CallMakes}
 use Rattle.effects.proofs.MadeLaws.{run-append, made-makes}
 use Rattle.effects.proofs.LieLaws.{Lie, lie-append, lie-more}
-use Rattle.effects.proofs.PassedLaws.{open-passed, time-passed, room-passed}
-use Rattle.effects.proofs.FrontEffects.{front-run, first-there, closed-run, closed-lies, closed-within}
-use Rattle.effects.proofs.BufferEffects.{page-long, buffer-split, front-ends, front-least, pieces-long, page-ceilings, end-lies, end-made, page-made}
+use Rattle.effects.proofs.PassedLaws.{time-passed, room-passed}
+use Rattle.effects.proofs.FrontEffects.{front-run, closed-run, closed-lies, closed-within}
+use Rattle.effects.proofs.BufferEffects.{page-long, buffer-split, front-ends, front-least, pieces-long, end-lies, end-made, page-made}
 
 -- the opened time of a page that is not closed has a byte that is not zero
-opened-byte : (s : List ℕ) → closed s ≡ false → 56 ≤ length s → firstSet (part s 48 8) < 8
+pub opened-lowest : (s : List ℕ) → closed s ≡ false → Lowest (part s 48 8)
 unfolding closed numberAt
-opened-byte s c h =
-    let l = part-length s 48 8 h in
-    let i : firstSet (part s 48 8) < length (part s 48 8) = first-there (part s 48 8) (λ e. not-both (sym (yes _ (e, tt))) c) in
-    omega arith
+opened-lowest s c = lowest-set (part s 48 8) (λ e. not-both (sym (yes _ (e, tt))) c)
 
 module _
     (b : List ℕ) (n t : ℕ) (inside : n ≤ length b) (o : Open (pageIn b n)) (room : closedLength (pageIn b n) ≤ length b)
@@ -70,7 +68,7 @@ module _
     least = front-least b n inside sound
 
     byte-most : byte < 8
-    byte-most = opened-byte s (o .opened) (omega (arith, least, pieces-long b n inside sound, long))
+    byte-most = omega (arith, opened-lowest s (o .opened) .inside, part-length s 48 8 (omega (arith, least, pieces-long b n inside sound, long)))
 
     abbrev rest : List ℕ
     rest = joined (pieces s) ++ (new ++ drop (length new) (drop n b))
@@ -96,8 +94,8 @@ module _
     unfolding closedFront sealedFront closedReference closedFields
     front-made = closed-run flag t (anyFree s) (length s) byte f (headerEnd s) ends least byte-most
 
-    page-run : run (closingWrites b s t) b ≡ closedPage s t ++ drop (closedLength s) b
-    unfolding closingWrites closedPage closedLength
+    page-run : run (closeWrites b s t) b ≡ closedPage s t ++ drop (closedLength s) b
+    unfolding closeWrites closedPage closedLength
     page-run =
         let x = listWrites (length b) s in
         run-append x (closedFrontWrites flag (headerEnd s) t (anyFree s) (length s) byte (run x b)) b
@@ -106,8 +104,8 @@ module _
         ∙ ap (λ (l : List ℕ). l ++ rest) front-made
         ∙ page-made b n inside sound (closedFront s t) (pieces s) (closedMore s)
 
-    page-lies : Lie 0 (closedLength s) 7 (closingWrites b s t)
-    unfolding closingWrites closedLength listWrites closedMore
+    page-lies : Lie 0 (closedLength s) 7 (closeWrites b s t)
+    unfolding closeWrites closedLength listWrites closedMore
     page-lies =
         let l = long in
         let k = pieces-long b n inside sound in
@@ -115,15 +113,12 @@ module _
         rw front-same (lie-more front-lie (length s + length new) 6 (omega arith) (omega arith)) in
         lie-append (end-lies (length b) (anyFree s) (fileSpaceRecord s) (length s)) x
 
-    pub closing-makes : Makes b (closingWrites b s t) (closedPage s t) (closedLength s)
+    closing-makes : Makes b (closeWrites b s t) (closedPage s t) (closedLength s)
     closing-makes =
         made-makes (record { holds = page-run; inside = room; fits = page-lies .fits; few = page-lies .few }) ceiling (omega arith)
 
-pub close-makes : CloseMakes
-unfolding closeVerdict closeWrites
-close-makes b n t w e =
-    let a = open-passed b n _ e in
-    let o = open-means (pageIn b n) (a .1 .0) in
-    let d = time-passed t _ (a .1 .1) in
-    let r = room-passed b _ (d .1) in
-    rw (page-ceilings b n (a .0) (o .sound)) (closing-makes b n t (a .0) o (r .0) (r .1))
+pub close-makes : (t : ℕ) → CallMakes (Call.Closing t)
+unfolding lineOf
+close-makes t b n w inside o e =
+    let r = room-passed b _ (time-passed t _ e .1) in
+    closing-makes b n t inside (open-means (pageIn b n) o) (r .0) (r .1)

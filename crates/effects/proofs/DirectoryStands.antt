@@ -75,6 +75,9 @@ module _ (s : List ℕ) (w : Whole s (headerEnd s) (records s)) (t : tileDirecto
   pub directory-ok : recordOk s (tileDirectoryAt s) ≡ true
   directory-ok = whole-extent s (headerEnd s) (records s) w (directory-found .0) .ok
 
+  pub directory-behind : headerEnd s ≤ tileDirectoryAt s
+  directory-behind = whole-extent s (headerEnd s) (records s) w (directory-found .0) .behind
+
   directory-holds : referencesEnd s ≤ recordLimit s (tileDirectoryAt s)
   unfolding tileDirectoryRight padded
   directory-holds = means _ (means _ t .1 .1 .1 .1 .0) .0

@@ -1,5 +1,5 @@
 -- What the writes to the header make of a front, with any bytes behind it. Assumes nothing.
-use Prim.Native.Nat.{ℕ, suc, _+_, _-_, _≤_, _<_, max}
+use Prim.Native.Nat.{ℕ, _+_, _-_, _≤_, _<_, max}
 use mathlib.Core.Path.{_≡_, refl, sym, ap, ap₂, _∙_}
 use mathlib.Core.List.{List, [], _∷_, _++_}
 use mathlib.Core.Logic.{by-cases}
@@ -8,10 +8,8 @@ use native.Mathlib.Decide.{decLe}
 use native.Mathlib.Omega.{arith}
 use native.Mathlib.Nat.{zero-add, add-zero}
 use lib.ListN.{length}
-use lib.Dec.{eqb}
-use borrow.Author.Tests.{eqb-true}
 use Rattle.wire.specs.Pick.{pick}
-use Rattle.wire.specs.Bytes.{part, number, bytesOf, put, zeros}
+use Rattle.wire.specs.Bytes.{part, bytesOf, put, zeros}
 use Rattle.wire.proofs.ByteLaws.{part-length, part-out, part-whole, part-split, part-before, bytes-length, zeros-length, zeros-joined}
 use Rattle.wire.proofs.PutLaws.{length-put, put-nil}
 use Rattle.wire.proofs.PlaceLaws.{put-before}
@@ -21,6 +19,7 @@ use Rattle.stores.specs.Stores.{Write, run, Fits}
 use Rattle.stores.specs.Writes.{oneWrite, sealWrite}
 use Rattle.stores.proofs.StoreLaws.{length-run}
 use Rattle.correct.specs.FieldWrites.{firstSet, setWrites, openedFieldWrites, referTo, closedFieldWrites, sealWithout, closedFrontWrites}
+use Rattle.correct.proofs.FieldLaws.{first-most}
 use Rattle.effects.proofs.MadeLaws.{run-append}
 use Rattle.effects.proofs.LieLaws.{Lie, lie-none, lie-one, lie-append}
 use Rattle.effects.proofs.InsideEffects.{one-run}
@@ -37,29 +36,6 @@ front-run [] f r h = refl
 front-run (w ∷ ws) f r h =
     let l = length-put f (w .at) (w .bytes) in
     ap (run ws) (put-before f r (w .at) (w .bytes) (h .0)) ∙ front-run ws (put f (w .at) (w .bytes)) r (rw l (h .1))
-
--- the lowest byte that is not zero
-
-pub first-most : (v : List ℕ) → firstSet v ≤ length v
-unfolding firstSet
-first-most [] = omega arith
-first-most (b ∷ bs) = go (eqb b 0) (first-most bs)
-  where
-    go : (c : Bool) → firstSet bs ≤ length bs → pick c (suc (firstSet bs)) 0 ≤ suc (length bs)
-    go true h = omega arith
-    go false h = omega arith
-
-pub first-there : (v : List ℕ) → (number v ≡ 0 → ⊥) → firstSet v < length v
-unfolding firstSet number
-first-there [] z = absurd (z refl)
-first-there (b ∷ bs) z = go (eqb b 0) refl (first-there bs)
-  where
-    go : (c : Bool) → eqb b 0 ≡ c → ((number bs ≡ 0 → ⊥) → firstSet bs < length bs) → pick c (suc (firstSet bs)) 0 < suc (length bs)
-    go true e r =
-        let b0 : b ≡ 0 = eqb-true b 0 e in
-        let h : firstSet bs < length bs = r (λ n. z (omega (arith, b0, n))) in
-        omega arith
-    go false e r = omega arith
 
 -- a part ends in the list, or is none
 part-ends : (v : List ℕ) (i k : ℕ) → i + length (part v i k) ≤ max i (length v)

@@ -12,7 +12,7 @@ use Rattle.wire.specs.Bytes.{put}
 use Rattle.wire.proofs.PlaceLaws.{put-there}
 use Rattle.stores.specs.Stores.{Write, run, Apart, Fits}
 use Rattle.stores.specs.Writes.{oneWrite, wholeWrite}
-use Rattle.effects.proofs.MadeLaws.{fits-append, fits-more}
+use Rattle.effects.proofs.MadeLaws.{fits-append, fits-more, apart-append}
 use Rattle.effects.proofs.InsideEffects.{whole-one, one-run}
 
 -- v over m, which is as long, in the middle
@@ -24,10 +24,6 @@ pub whole-middle :
     run (wholeWrite room at v) (f ++ (m ++ z)) ≡ f ++ (v ++ z)
 whole-middle room f m v z {at} e l h =
     ap (λ (ws : List Write). run ws (f ++ (m ++ z))) (whole-one room at v h) ∙ one-run at v (f ++ (m ++ z)) ∙ put-middle f m v z e l
-
-pub apart-append : (a b : ℕ) (xs ys : List Write) → Apart a b xs → Apart a b ys → Apart a b (xs ++ ys)
-apart-append a b [] ys f g = g
-apart-append a b (w ∷ xs) ys f g = (f .0, apart-append a b xs ys (f .1) g)
 
 -- each write starts at or behind a and ends at or before n, and they are k at most
 pub record Lie (a n k : ℕ) (ws : List Write) : Type 0 where

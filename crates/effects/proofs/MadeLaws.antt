@@ -7,7 +7,7 @@ use native.Mathlib.Nat.{mul-le-mul}
 use lib.ListN.{length, drop, length-append, length-drop}
 use lib.Seq.{drop-append-add, drop-drop}
 use Rattle.wire.specs.Bytes.{put}
-use Rattle.stores.specs.Stores.{Write, run, Fits}
+use Rattle.stores.specs.Stores.{Write, run, Apart, Fits}
 use Rattle.stores.proofs.StoreLaws.{count-most, length-run}
 use Rattle.effects.specs.Effects.{Makes}
 
@@ -23,6 +23,10 @@ fits-append n (w ∷ xs) ys f g = (f .0, fits-append n xs ys (f .1) g)
 pub fits-more : (m n : ℕ) (ws : List Write) → m ≤ n → Fits m ws → Fits n ws
 fits-more m n [] h f = _
 fits-more m n (w ∷ ws) h f = (omega (arith, f .0), fits-more m n ws h (f .1))
+
+pub apart-append : (a b : ℕ) (xs ys : List Write) → Apart a b xs → Apart a b ys → Apart a b (xs ++ ys)
+apart-append a b [] ys f g = g
+apart-append a b (w ∷ xs) ys f g = (f .0, apart-append a b xs ys (f .1) g)
 
 -- the writes ws, k at most, make the page, m bytes long, in buffer d: what stands behind it stays, and each ends in it
 pub record Made (d : List ℕ) (ws : List Write) (page : List ℕ) (m k : ℕ) : Type 0 where
@@ -53,6 +57,9 @@ module _ {d : List ℕ} {ws : List Write} {page : List ℕ} {m k : ℕ} (a : Mad
         few = omega (arith, length-append ws ys, a .few, b .few);
       }
 
+  pub made-more : (j : ℕ) → k ≤ j → Made d ws page m j
+  made-more j h = record { holds = a .holds; inside = a .inside; fits = a .fits; few = omega (arith, a .few) }
+
   -- within the ceiling of a page, and with no more writes than that, a number of 64 bits counts their stores
   pub made-makes : m ≤ 16777216 → k ≤ 16777216 → Makes d ws page m
   made-makes h g =
@@ -60,3 +67,13 @@ module _ {d : List ℕ} {ws : List Write} {page : List ℕ} {m k : ℕ} (a : Mad
       let f : length ws ≤ 16777216 = omega (arith, a .few) in
       let p : length ws * m ≤ 16777216 * 16777216 = mul-le-mul f h in
       record { long = made-long; holds = a .holds; fits = a .fits; few = omega arith }
+
+-- and each starts at or behind a
+pub record MadeBehind (a : ℕ) (d : List ℕ) (ws : List Write) (page : List ℕ) (m k : ℕ) : Type 0 where
+  pub made : Made d ws page m k
+  pub apart : Apart 0 a ws
+
+pub behind-then :
+    {a : ℕ} {d : List ℕ} {ws : List Write} {page : List ℕ} {m k : ℕ} → MadeBehind a d ws page m k → {ys : List Write} {page′ : List ℕ} {n j : ℕ} →
+    MadeBehind a (run ws d) ys page′ n j → m ≤ n → MadeBehind a d (ws ++ ys) page′ n (k + j)
+behind-then {a} {ws = ws} p {ys} q h = record { made = made-then (p .made) (q .made) h; apart = apart-append 0 a ws ys (p .apart) (q .apart) }

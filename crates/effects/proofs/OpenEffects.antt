@@ -8,7 +8,6 @@ use lib.ListN.{length, take, drop}
 use Rattle.wire.specs.Pick.{pick}
 use Rattle.wire.specs.Bytes.{bytesOf, put, zeros}
 use Rattle.wire.proofs.PutLaws.{length-put}
-use Rattle.answer.proofs.VerdictLaws.{behind-passed}
 use Rattle.record.specs.Record.{contentAt}
 use Rattle.record.specs.Chain.{headerEnd, records, joined}
 use Rattle.record.proofs.ChainLaws.{whole-extent}
@@ -22,16 +21,16 @@ use Rattle.stores.specs.Writes.{wholeWrite, sealWrite}
 use Rattle.writable.specs.Writable.{directoryFull}
 use Rattle.correct.specs.Front.{pageIn, sealedFront}
 use Rattle.correct.specs.Opening.{fullDirectory, openedMore, unwanted, openedFields, openedReference, openedFront, openedPage, openedLength}
-use Rattle.correct.specs.Answers.{openVerdict}
 use Rattle.correct.specs.FieldWrites.{openedFieldWrites, referTo}
-use Rattle.correct.specs.Writes.{freeingWrites, directoryWrites, openBody, openingWrites, openWrites}
-use Rattle.effects.specs.Effects.{Makes, OpenMakes}
+use Rattle.correct.specs.Writes.{freeingWrites, directoryWrites, openBody, openWrites}
+use Rattle.correct.specs.Calls.{Call, lineOf}
+use Rattle.effects.specs.Effects.{Makes, CallMakes}
 use Rattle.effects.proofs.MadeLaws.{run-append, made-makes}
 use Rattle.effects.proofs.LieLaws.{Lie, lie-append, lie-more, lie-low}
-use Rattle.effects.proofs.PassedLaws.{page-passed, time-passed, room-passed}
+use Rattle.effects.proofs.PassedLaws.{time-passed, room-passed}
 use Rattle.effects.proofs.FreeingEffects.{freeing-run, freeing-lies, records-few}
 use Rattle.effects.proofs.FrontEffects.{front-run, opened-run, opened-lies, refer-run, refer-lies, seal-within, seal-run, seal-lies}
-use Rattle.effects.proofs.BufferEffects.{page-long, pick-not, buffer-split, front-ends, front-least, pieces-long, page-ceilings, added, end-lies, end-made, page-made}
+use Rattle.effects.proofs.BufferEffects.{page-long, pick-not, buffer-split, front-ends, front-least, pieces-long, added, end-lies, end-made, page-made}
 
 -- a record is freed or not by its type, which its piece has too
 unwanted-same : (s : List ℕ) → Sound s → (x : ℕ) → List·Memᴰ x (records s) → unwanted s s x ≡ unwanted s (pieceAt s x) 0
@@ -164,8 +163,8 @@ module _
     seal-lie : Lie 0 (length f) 1 (sealWrite flag 16 (headerEnd s - 16) two)
     seal-lie = rw two-long at (seal-lies flag two (headerEnd s - 16) (omega (arith, two-long, ends, least)) (omega (arith, ends, least)))
 
-    page-run : run (openingWrites b s t) b ≡ openedPage s t ++ drop (openedLength s) b
-    unfolding openingWrites openedPage openedLength openedFront sealedFront
+    page-run : run (openWrites b s t) b ≡ openedPage s t ++ drop (openedLength s) b
+    unfolding openWrites openedPage openedLength openedFront sealedFront
     page-run =
         let m = headerEnd s - 16 in
         let w = sealWrite flag 16 m two in
@@ -192,8 +191,8 @@ module _
         (lie-more (lie-low 0 (omega arith) (freeing-lies s (length b) (unwanted s s) (sound .chain))) m (length (records s) + 1) (omega arith) (omega arith)))
         m 1048583 (omega arith) (omega arith)
 
-    page-lies : Lie 0 (openedLength s) 1048584 (openingWrites b s t)
-    unfolding openingWrites openedLength
+    page-lies : Lie 0 (openedLength s) 1048584 (openWrites b s t)
+    unfolding openWrites openedLength
     page-lies =
         let l = long in
         let k = pieces-long b n inside sound in
@@ -201,16 +200,12 @@ module _
         rw seal-same (lie-more seal-lie (length s + length new) 1 (omega arith) (omega arith)) in
         lie-append body-lies x
 
-    pub opening-makes : Makes b (openingWrites b s t) (openedPage s t) (openedLength s)
+    opening-makes : Makes b (openWrites b s t) (openedPage s t) (openedLength s)
     opening-makes =
         made-makes (record { holds = page-run; inside = room; fits = page-lies .fits; few = page-lies .few }) ceiling (omega arith)
 
-pub open-makes : OpenMakes
-unfolding openVerdict openWrites
-open-makes b n t w e =
-    let a = page-passed b n _ e in
-    let c = behind-passed _ _ (a .1) in
-    let d = time-passed t _ (c .1) in
-    let r = room-passed b _ (d .1) in
-    let s = accepted-sound (pageIn b n) (c .0) in
-    rw (page-ceilings b n (a .0) s) (opening-makes b n t (a .0) s (r .0) (r .1))
+pub open-makes : (t : ℕ) → CallMakes (Call.Opening t)
+unfolding lineOf
+open-makes t b n w inside a e =
+    let r = room-passed b _ (time-passed t _ e .1) in
+    opening-makes b n t inside (accepted-sound (pageIn b n) a) (r .0) (r .1)

@@ -21,7 +21,7 @@ use Rattle.pieces.proofs.FreeLaws.{free-length}
 use Rattle.pieces.proofs.PlacedLaws.{Taken, takes-means}
 use Rattle.correct.specs.RecordWrites.{restWrites}
 use Rattle.page_laws.proofs.MoreLaws.{joined-append}
-use Rattle.effects.proofs.MadeLaws.{Made, run-append}
+use Rattle.effects.proofs.MadeLaws.{MadeBehind, run-append}
 use Rattle.effects.proofs.InsideEffects.{whole-one, one-run}
 use Rattle.effects.proofs.LieLaws.{Lie, lie-none, lie-whole, lie-append}
 
@@ -52,21 +52,21 @@ module _ (flag k : ℕ) (h : (k ≡ 0 → ⊥) → 16 ≤ k) where
             let n = free-length flag k (h (eqb-false k 0 e)) in
             whole-run room at (freeRecord flag k) d (omega arith) ∙ ap (put d at) (sym (append-nil (freeRecord flag k)))
 
-    rest-lies : (m : ℕ) → at + k ≤ m → Lie 0 m 1 (restWrites room flag at k)
+    rest-lies : (a m : ℕ) → a ≤ at → at + k ≤ m → Lie a m 1 (restWrites room flag at k)
     unfolding restWrites
-    rest-lies m l = go (eqb k 0) refl
+    rest-lies a m i l = go (eqb k 0) refl
       where
-        go : (b : Bool) → eqb k 0 ≡ b → Lie 0 m 1 (pick b [] (wholeWrite room at (freeRecord flag k)))
-        go true e = lie-none 0 m 1
+        go : (b : Bool) → eqb k 0 ≡ b → Lie a m 1 (pick b [] (wholeWrite room at (freeRecord flag k)))
+        go true e = lie-none a m 1
         go false e =
             let n = free-length flag k (h (eqb-false k 0 e)) in
-            lie-whole room 0 m 1 at (freeRecord flag k) (omega arith) (omega arith) (omega arith)
+            lie-whole room a m 1 at (freeRecord flag k) i (omega arith) (omega arith)
 
 left-none : (flag : ℕ) → leftOver flag 0 ≡ []
 unfolding leftOver
 left-none flag = refl
 
-module _ (flag room : ℕ) (v : List ℕ) where
+module _ (a flag room : ℕ) (v : List ℕ) where
   -- the record, and what is left over of `long` bytes from `at` on
   abbrev placeWrites : ℕ → ℕ → List Write
   placeWrites at long = wholeWrite room at v ++ restWrites room flag (at + length v) (long - length v)
@@ -84,46 +84,43 @@ module _ (flag room : ℕ) (v : List ℕ) where
       ∙ put-put d at v u (omega arith)
 
   place-lies :
-      (at long m : ℕ) → length v ≤ long → ((long - length v ≡ 0 → ⊥) → 16 ≤ long - length v) → at + long ≤ m → Lie 0 m 2 (placeWrites at long)
-  place-lies at long m w h l =
-      lie-append (lie-whole room 0 m 1 at v (omega arith) (omega arith) (omega arith))
-      (rest-lies flag (long - length v) h room (at + length v) m (omega arith))
+      (at long m : ℕ) → a ≤ at → length v ≤ long → ((long - length v ≡ 0 → ⊥) → 16 ≤ long - length v) → at + long ≤ m → Lie a m 2 (placeWrites at long)
+  place-lies at long m i w h l =
+      lie-append (lie-whole room a m 1 at v i (omega arith) (omega arith))
+      (rest-lies flag (long - length v) h room (at + length v) a m (omega arith) (omega arith))
 
   -- behind the last piece
   place-last :
-      (f z : List ℕ) → room ≡ length (f ++ [] ++ z) → length f + length v ≤ room →
-      Made (f ++ [] ++ z) (placeWrites (length f) (length v)) (f ++ (v ++ [])) (length (f ++ (v ++ []))) 2
-  place-last f z e h =
+      (f z : List ℕ) → a ≤ length f → room ≡ length (f ++ [] ++ z) → length f + length v ≤ room →
+      MadeBehind a (f ++ [] ++ z) (placeWrites (length f) (length v)) (f ++ (v ++ [])) (length (f ++ (v ++ []))) 2
+  place-last f z b e h =
       let d = f ++ [] ++ z in
       let o : length v - length v ≡ 0 = omega arith in
       let no : (length v - length v ≡ 0 → ⊥) → 16 ≤ length v - length v = λ i. absurd (i o) in
       let m : length f + length (v ++ []) ≡ length (f ++ (v ++ [])) = sym (length-append f (v ++ [])) in
       let n = length-append v [] in
-      let p = place-lies (length f) (length v) (length (f ++ (v ++ []))) (omega arith) no (omega arith) in
+      let p = place-lies (length f) (length v) (length (f ++ (v ++ []))) b (omega arith) no (omega arith) in
       let g : take (length f) d ≡ f = ap (λ (l : List ℕ). take (length f) (l ++ z)) (append-nil f) ∙ take-append-seam f z in
-      record {
-        holds = place-run (length f) (length v) d (omega arith) no h e
-            ∙ ap (λ (k : ℕ). put d (length f) (v ++ joined (leftOver flag k))) o
-            ∙ ap (λ (l : List (List ℕ)). put d (length f) (v ++ joined l)) (left-none flag)
-            ∙ put-fits d (length f) (v ++ []) (omega arith)
-            ∙ ap₂ (λ (a : List ℕ) (k : ℕ). a ++ (v ++ []) ++ drop k d) g m;
-        inside = omega arith;
-        fits = p .fits;
-        few = p .few;
-      }
+      let q =
+      place-run (length f) (length v) d (omega arith) no h e
+      ∙ ap (λ (k : ℕ). put d (length f) (v ++ joined (leftOver flag k))) o
+      ∙ ap (λ (l : List (List ℕ)). put d (length f) (v ++ joined l)) (left-none flag)
+      ∙ put-fits d (length f) (v ++ []) (omega arith)
+      ∙ ap₂ (λ (a : List ℕ) (k : ℕ). a ++ (v ++ []) ++ drop k d) g m in
+      record { made = record { holds = q; inside = omega arith; fits = p .fits; few = p .few }; apart = p .apart }
 
   -- in a free record
   place-in :
-      (f z r : List ℕ) (rs : List (List ℕ)) → room ≡ length (f ++ (r ++ joined rs) ++ z) → Taken (length v) r →
-      Made (f ++ (r ++ joined rs) ++ z) (placeWrites (length f) (length r)) (f ++ (v ++ joined (leftOver flag (length r - length v) ++ rs)))
+      (f z r : List ℕ) (rs : List (List ℕ)) → a ≤ length f → room ≡ length (f ++ (r ++ joined rs) ++ z) → Taken (length v) r →
+      MadeBehind a (f ++ (r ++ joined rs) ++ z) (placeWrites (length f) (length r)) (f ++ (v ++ joined (leftOver flag (length r - length v) ++ rs)))
       (length (f ++ (v ++ joined (leftOver flag (length r - length v) ++ rs)))) 2
-  place-in f z r rs e t =
+  place-in f z r rs c e t =
       let d = f ++ (r ++ joined rs) ++ z in
       let k = length r - length v in
       let u = joined (leftOver flag k) in
       let n : length u ≡ k = left-long flag k (t .left) in
       let p : Placed d (length f) r = record { before = f; behind = joined rs ++ z; whole = simp append-assoc; start = refl } in
-      let a = length-append v u in
+      let n′ = length-append v u in
       let b : length (v ++ u) ≡ length r = omega (arith, t .within) in
       let q : f ++ (v ++ joined (leftOver flag k ++ rs)) ≡ f ++ (v ++ u) ++ joined rs = rw (joined-append (leftOver flag k) rs) (simp append-assoc) in
       let m : length (f ++ (v ++ joined (leftOver flag k ++ rs))) ≡ length f + length r + length (joined rs) =
@@ -131,33 +128,31 @@ module _ (flag room : ℕ) (v : List ℕ) where
       let g : length (f ++ (r ++ joined rs)) ≡ length f + length r + length (joined rs) =
       length-append f (r ++ joined rs) ∙ omega (arith, length-append r (joined rs)) in
       let i = length-append (f ++ (r ++ joined rs)) z in
-      let y = place-lies (length f) (length r) (length (f ++ (v ++ joined (leftOver flag k ++ rs)))) (t .within) (t .left) (omega arith) in
-      record {
-        holds = place-run (length f) (length r) d (t .within) (t .left) (omega arith) e ∙ put-there p (v ++ u) (sym b)
-            ∙ sym (ap₂ (λ (x y : List ℕ). x ++ y) q (drop-at (f ++ (r ++ joined rs)) z _ (g ∙ sym m)) ∙ simp append-assoc);
-        inside = omega arith;
-        fits = y .fits;
-        few = y .few;
-      }
+      let y = place-lies (length f) (length r) (length (f ++ (v ++ joined (leftOver flag k ++ rs)))) c (t .within) (t .left) (omega arith) in
+      let w =
+      place-run (length f) (length r) d (t .within) (t .left) (omega arith) e
+      ∙ put-there p (v ++ u) (sym b)
+      ∙ sym (ap₂ (λ (x y : List ℕ). x ++ y) q (drop-at (f ++ (r ++ joined rs)) z _ (g ∙ sym m)) ∙ simp append-assoc) in
+      record { made = record { holds = w; inside = omega arith; fits = y .fits; few = y .few }; apart = y .apart }
 
   pub place-made :
-      (f z : List ℕ) (rs : List (List ℕ)) → room ≡ length (f ++ joined rs ++ z) → placeFor (length f) (length v) rs + length v ≤ room →
-      Made (f ++ joined rs ++ z) (placeWrites (placeFor (length f) (length v) rs) (roomFor (length v) rs)) (f ++ joined (placed flag v rs))
+      (f z : List ℕ) (rs : List (List ℕ)) → a ≤ length f → room ≡ length (f ++ joined rs ++ z) → placeFor (length f) (length v) rs + length v ≤ room →
+      MadeBehind a (f ++ joined rs ++ z) (placeWrites (placeFor (length f) (length v) rs) (roomFor (length v) rs)) (f ++ joined (placed flag v rs))
       (length (f ++ joined (placed flag v rs))) 2
   unfolding placeFor roomFor placed
-  place-made f z [] e h = place-last f z e h
-  place-made f z (r ∷ rs) e h = go (takes (length v) r) refl (place-made (f ++ r) z rs)
+  place-made f z [] c e h = place-last f z c e h
+  place-made f z (r ∷ rs) c e h = go (takes (length v) r) refl (place-made (f ++ r) z rs (omega (arith, length-append f r)))
     where
       go :
           (b : Bool) → takes (length v) r ≡ b →
           (room ≡ length (f ++ r ++ joined rs ++ z) → placeFor (length (f ++ r)) (length v) rs + length v ≤ room →
-          Made (f ++ r ++ joined rs ++ z) (placeWrites (placeFor (length (f ++ r)) (length v) rs) (roomFor (length v) rs)) (f ++ r ++ joined (placed flag v rs))
+          MadeBehind a (f ++ r ++ joined rs ++ z) (placeWrites (placeFor (length (f ++ r)) (length v) rs) (roomFor (length v) rs)) (f ++ r ++ joined (placed flag v rs))
           (length (f ++ r ++ joined (placed flag v rs))) 2) →
-          Made (f ++ joined (r ∷ rs) ++ z)
+          MadeBehind a (f ++ joined (r ∷ rs) ++ z)
           (placeWrites (pick (takes (length v) r) (length f) (placeFor (length f + length r) (length v) rs)) (pick (takes (length v) r) (length r) (roomFor (length v) rs)))
           (f ++ joined (pick (takes (length v) r) (v ∷ (leftOver flag (length r - length v) ++ rs)) (r ∷ placed flag v rs)))
           (length (f ++ joined (pick (takes (length v) r) (v ∷ (leftOver flag (length r - length v) ++ rs)) (r ∷ placed flag v rs)))) 2
-      go true i n = rw i (place-in f z r rs e (takes-means (length v) r i))
+      go true i n = rw i (place-in f z r rs c e (takes-means (length v) r i))
       go false i n =
           rw i
           (rw (append-assoc f r (joined rs), append-assoc f r (joined (placed flag v rs)), length-append f r) at n e (rw i at h))

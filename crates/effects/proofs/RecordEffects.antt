@@ -47,7 +47,7 @@ use Rattle.alone.proofs.TileLaws.{tile-alone}
 use Rattle.correct.specs.Storing.{tileAt, isPlain, cellsPut, overwritten}
 use Rattle.correct.specs.RecordWrites.{cellWrites, overWrites, referenceWrite, referWrites}
 use Rattle.page_laws.proofs.TileMapLaws.{carries-same}
-use Rattle.effects.proofs.MadeLaws.{Made}
+use Rattle.effects.proofs.MadeLaws.{MadeBehind}
 use Rattle.effects.proofs.LieLaws.{Lie, lie-none, lie-one, lie-whole, lie-append, lie-more}
 use Rattle.effects.proofs.InsideEffects.{refer-run, cells-long, over-run}
 use Rattle.effects.proofs.OnlyLaws.{Only, only-placed, only-put, standing-only, found-only}
@@ -56,37 +56,33 @@ resealed-long : (flag : ℕ) (r : List ℕ) → length (resealed flag r) ≡ len
 unfolding resealed sealed
 resealed-long flag r = length-put r (0 + (length r - 4)) _
 
-seal-lies : (flag x n m : ℕ) (d : List ℕ) → 4 ≤ n → x + n ≤ m → Lie 0 m 1 (sealWrite flag x n d)
+seal-lies : (a flag x n m : ℕ) (d : List ℕ) → a ≤ x → 4 ≤ n → x + n ≤ m → Lie a m 1 (sealWrite flag x n d)
 unfolding sealWrite
-seal-lies flag x n m d h l =
+seal-lies a flag x n m d i h l =
     let b = bytes-length 4 (checksumFor flag (part d x (n - 4))) in
-    lie-one 0 m 1 (x + (n - 4)) (bytesOf 4 (checksumFor flag (part d x (n - 4)))) (omega arith) (omega arith) (omega arith)
+    lie-one a m 1 (x + (n - 4)) (bytesOf 4 (checksumFor flag (part d x (n - 4)))) (omega arith) (omega arith) (omega arith)
 
 -- writes that make another of the only piece of which q holds
 only-made :
     {q : List ℕ → Bool} (f z : List ℕ) {rs : List (List ℕ)} {x : ℕ} {r : List ℕ} → Only q (length f) rs x r →
     (g : List ℕ → List ℕ) → ((p : List ℕ) → q p ≡ false → g p ≡ p) → length (g r) ≡ length r →
-    {ws : List Write} {m k : ℕ} → run ws (f ++ joined rs ++ z) ≡ put (f ++ joined rs ++ z) x (g r) → m ≡ length (f ++ joined rs) → Lie 0 m k ws →
-    Made (f ++ joined rs ++ z) ws (f ++ joined (map g rs)) m k
-only-made {q} f z {rs} o g same l {m} e n y =
-    record {
-      holds = e ∙ only-put q f z o g same l ∙ ap (λ (a : List ℕ). f ++ joined (map g rs) ++ a) (sym (drop-at (f ++ joined rs) z m (sym n)));
-      inside = omega (arith, length-append (f ++ joined rs) z);
-      fits = y .fits;
-      few = y .few;
-    }
+    {ws : List Write} {a m k : ℕ} → run ws (f ++ joined rs ++ z) ≡ put (f ++ joined rs ++ z) x (g r) → m ≡ length (f ++ joined rs) → Lie a m k ws →
+    MadeBehind a (f ++ joined rs ++ z) ws (f ++ joined (map g rs)) m k
+only-made {q} f z {rs} o g same l {m = m} e n y =
+    let w = e ∙ only-put q f z o g same l ∙ ap (λ (a : List ℕ). f ++ joined (map g rs) ++ a) (sym (drop-at (f ++ joined rs) z m (sym n))) in
+    record { made = record { holds = w; inside = omega (arith, length-append (f ++ joined rs) z); fits = y .fits; few = y .few }; apart = y .apart }
 
 -- the tile directory, the one piece of its type
 module _ (s : List ℕ) (i content : ℕ) where
   refer-lies :
-      (x n m : ℕ) (d : List ℕ) → 32 + referenceSize s * i + referenceSize s ≤ n → x + n ≤ m →
-      Lie 0 m 2 (referWrites (checksumEnabled s) x n (referenceSize s) i content d)
+      (a x n m : ℕ) (d : List ℕ) → a ≤ x → 32 + referenceSize s * i + referenceSize s ≤ n → x + n ≤ m →
+      Lie a m 2 (referWrites (checksumEnabled s) x n (referenceSize s) i content d)
   unfolding referWrites referenceWrite referenceBytes
-  refer-lies x n m d h l =
+  refer-lies a x n m d j h l =
       let w = referenceSize s in
       let b = bytes-length w (pick (eqb w 8) content (content / 8)) in
-      lie-append (lie-whole (length d) 0 m 1 (x + (32 + w * i)) (referenceBytes w content) (omega arith) (omega arith) (omega arith))
-      (seal-lies (checksumEnabled s) x n m (run (referenceWrite (length d) x w i content) d) (omega arith) l)
+      lie-append (lie-whole (length d) a m 1 (x + (32 + w * i)) (referenceBytes w content) (omega arith) (omega arith) (omega arith))
+      (seal-lies a (checksumEnabled s) x n m (run (referenceWrite (length d) x w i content) d) j (omega arith) l)
 
   others-stay : (p : List ℕ) → eqb (typeAt p 0) 5 ≡ false → withReference s i content p ≡ p
   unfolding withReference referring
@@ -97,12 +93,12 @@ module _ (s : List ℕ) (i content : ℕ) where
   changed r e = rw e
 
   pub refer-made :
-      (f z : List ℕ) (qs : List (List ℕ)) {x : ℕ} {r : List ℕ} → standing 5 (length f) qs ≡ (x, r) ∷ [] → (n m : ℕ) → n ≡ length r →
+      (a : ℕ) (f z : List ℕ) (qs : List (List ℕ)) {x : ℕ} {r : List ℕ} → a ≤ x → standing 5 (length f) qs ≡ (x, r) ∷ [] → (n m : ℕ) → n ≡ length r →
       32 + referenceSize s * i + referenceSize s ≤ n → x + n ≤ m → m ≡ length (f ++ joined qs) →
-      Made (f ++ joined qs ++ z) (referWrites (checksumEnabled s) x n (referenceSize s) i content (f ++ joined qs ++ z))
+      MadeBehind a (f ++ joined qs ++ z) (referWrites (checksumEnabled s) x n (referenceSize s) i content (f ++ joined qs ++ z))
       (f ++ joined (map (withReference s i content) qs)) m 2
   unfolding referenceBytes
-  refer-made f z qs {x} {r} e n m l h k j =
+  refer-made a f z qs {x} {r} y e n m l h k j =
       let d = f ++ joined qs ++ z in
       let flag = checksumEnabled s in
       let w = referenceSize s in
@@ -112,7 +108,7 @@ module _ (s : List ℕ) (i content : ℕ) where
       let b : length (withReference s i content r) ≡ length r = ap length c ∙ resealed-long flag (put r (32 + w * i) v) ∙ length-put r (32 + w * i) v in
       only-made f z o (withReference s i content) others-stay b
       (refer-run (only-placed (λ p. eqb (typeAt p 0) 5) f z o) flag w i content n l (bytes-length w _) (omega arith) ∙ ap (put d x) (sym c))
-      j (refer-lies x n m d h k)
+      j (refer-lies a x n m d y h k)
 
 -- a tile of a sound page
 module _ (s : List ℕ) (o : Sound s) (i : ℕ) where
@@ -153,6 +149,9 @@ module _ (s : List ℕ) (o : Sound s) (i : ℕ) where
 
     pub tile-inside : x + lengthAt s x ≤ length s
     tile-inside = is .inside
+
+    behind : headerEnd s ≤ x
+    behind = whole-extent s (headerEnd s) (records s) (o .chain) (here .0) .behind
 
     long : length (pieceAt s x) ≡ lengthAt s x
     long = piece-long s x (record-ok (here .0))
@@ -202,21 +201,21 @@ module _ (s : List ℕ) (o : Sound s) (i : ℕ) where
           let p : elementContentAt (pieceAt s x) 0 e ≡ 16 + before e = omega (arith, t, a .0) in
           (p, omega (arith, p, b .0, b .1))
 
-      cells-lie : (n m : ℕ) → n ≤ elementCount s → x + lengthAt s x ≤ m → Lie 0 m n (cellWrites x (elementBytes s) c n)
+      cells-lie : (n m : ℕ) → n ≤ elementCount s → x + lengthAt s x ≤ m → Lie (headerEnd s) m n (cellWrites x (elementBytes s) c n)
       unfolding cellWrites
-      cells-lie zero m h l = lie-none 0 m 0
+      cells-lie zero m h l = lie-none (headerEnd s) m 0
       cells-lie (suc e) m h l =
           let a = places e (omega arith) in
           let v = part c (sumBelow e (elementBytes s)) (elementBytes s e) in
           let n = long in
-          lie-more (lie-append (cells-lie e m (omega arith) l) (lie-one 0 m 1 (x + 16 + before e) v (omega arith) (omega (arith, a .0, a .1)) (omega arith))) m
+          lie-more (lie-append (cells-lie e m (omega arith) l) (lie-one (headerEnd s) m 1 (x + 16 + before e) v (omega (arith, behind)) (omega (arith, a .0, a .1)) (omega arith))) m
           (suc e) (omega arith) (omega arith)
 
-      over-lies : (n m : ℕ) (d : List ℕ) → n ≤ elementCount s → x + lengthAt s x ≤ m → Lie 0 m (n + 1) (overWrites (checksumEnabled s) x (lengthAt s x) (elementBytes s) n c d)
+      over-lies : (n m : ℕ) (d : List ℕ) → n ≤ elementCount s → x + lengthAt s x ≤ m → Lie (headerEnd s) m (n + 1) (overWrites (checksumEnabled s) x (lengthAt s x) (elementBytes s) n c d)
       unfolding overWrites
       over-lies n m d h l =
           lie-append (cells-lie n m h l)
-          (seal-lies (checksumEnabled s) x (lengthAt s x) m (run (cellWrites x (elementBytes s) c n) d) (omega (arith, is .long)) l)
+          (seal-lies (headerEnd s) (checksumEnabled s) x (lengthAt s x) m (run (cellWrites x (elementBytes s) c n) d) behind (omega (arith, is .long)) l)
 
       others-same : (p : List ℕ) → carries p i 0 ≡ false → overwritten s i c p ≡ p
       unfolding overwritten
@@ -228,7 +227,7 @@ module _ (s : List ℕ) (o : Sound s) (i : ℕ) where
 
       over-split :
           (f z : List ℕ) (m : ℕ) → length f ≡ headerEnd s → m ≡ length (f ++ joined (pieces s)) → x + lengthAt s x ≤ m →
-          Made (f ++ joined (pieces s) ++ z)
+          MadeBehind (headerEnd s) (f ++ joined (pieces s) ++ z)
           (overWrites (checksumEnabled s) x (lengthAt s x) (elementBytes s) (entriesRead s) c (f ++ joined (pieces s) ++ z))
           (f ++ joined (map (overwritten s i c) (pieces s))) m 17
       over-split f z m l j h =
@@ -248,5 +247,5 @@ module _ (s : List ℕ) (o : Sound s) (i : ℕ) where
 
       pub over-made :
           (d f z : List ℕ) (m : ℕ) → d ≡ f ++ joined (pieces s) ++ z → length f ≡ headerEnd s → m ≡ length (f ++ joined (pieces s)) → x + lengthAt s x ≤ m →
-          Made d (overWrites (checksumEnabled s) x (lengthAt s x) (elementBytes s) (entriesRead s) c d) (f ++ joined (map (overwritten s i c) (pieces s))) m 17
+          MadeBehind (headerEnd s) d (overWrites (checksumEnabled s) x (lengthAt s x) (elementBytes s) (entriesRead s) c d) (f ++ joined (map (overwritten s i c) (pieces s))) m 17
       over-made d f z m k l j h = rw k (over-split f z m l j h)

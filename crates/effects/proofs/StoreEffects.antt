@@ -41,21 +41,24 @@ use Rattle.writable.specs.Parts.{Parted}
 use Rattle.writable.proofs.OpenLaws.{open-means, open-sound}
 use Rattle.writable.proofs.PartLaws.{sound-parted}
 use Rattle.correct.specs.Front.{pageIn}
-use Rattle.correct.specs.Storing.{tileAt, storedOver, plainIn, overwritten, freedOf, storedAt, newlyStored, storedPieces, storedPage, storedLength}
+use Rattle.answer.specs.declared.Verdict.the-variants.{Accepted}
+use Rattle.correct.specs.Storing.{tileAt, tileReferred, storedOver, plainIn, overwritten, freedOf, storedAt, newlyStored, storedPieces, storedPage, storedLength}
 use Rattle.correct.specs.Removing.{isThere, removedPieces, removedPage}
-use Rattle.correct.specs.Answers.{storeVerdict, removeVerdict}
+use Rattle.correct.specs.Answers.{roomLeft}
 use Rattle.correct.specs.RecordWrites.{restWrites}
-use Rattle.correct.specs.Writes.{freeingWrites, thenRefer, newWrites, overFound, storingWrites, storeWrites, removingWrites, removeWrites}
-use Rattle.effects.specs.Effects.{Makes, StoreMakes, RemoveMakes}
-use Rattle.effects.proofs.MadeLaws.{Made, made-long, made-then, made-makes}
+use Rattle.correct.specs.Writes.{freeingWrites, thenRefer, newWrites, overFound, storeWrites, removeWrites}
+use Rattle.correct.proofs.ReferredLaws.{referred-is}
+use Rattle.correct.specs.Calls.{Call, lineOf}
+use Rattle.effects.specs.Effects.{CallMakes}
+use Rattle.effects.proofs.MadeLaws.{made-long, made-more, made-makes, MadeBehind, behind-then}
 use Rattle.effects.proofs.LieLaws.{lie-more}
 use Rattle.effects.proofs.FreeingEffects.{freeing-run, freeing-lies, records-few}
-use Rattle.effects.proofs.BufferEffects.{page-long, buffer-split, pieces-long, page-ceilings}
+use Rattle.effects.proofs.BufferEffects.{page-long, buffer-split, pieces-long}
 use Rattle.effects.proofs.OnlyLaws.{standing-only}
 use Rattle.effects.proofs.PlaceEffects.{place-made}
-use Rattle.effects.proofs.DirectoryStands.{directory-stands, directory-ok, reference-inside}
+use Rattle.effects.proofs.DirectoryStands.{directory-stands, directory-ok, directory-behind, reference-inside}
 use Rattle.effects.proofs.RecordEffects.{carried, tile-inside, over-made, refer-made}
-use Rattle.effects.proofs.PassedLaws.{room-passed, open-passed, tile-passed, cells-passed}
+use Rattle.effects.proofs.PassedLaws.{room-passed, tile-passed, cells-passed}
 
 -- the one that stands does not go
 without-one : (p : List ℕ → Bool) (x : ℕ) (r : List ℕ) → p r ≡ false → without p ((x, r) ∷ []) ≡ (x, r) ∷ []
@@ -99,20 +102,17 @@ module _ (b : List ℕ) (n i : ℕ) (inside : n ≤ length b) (writable : openFo
   split = buffer-split b n inside sound ∙ sym (append-assoc f (joined (pieces s)) (drop n b))
 
   -- its record freed
-  freed-made : Made b (freeingWrites (length b) s (carries s i)) (f ++ joined (freedOf s i)) n 1048577
+  freed-made : MadeBehind (headerEnd s) b (freeingWrites (length b) s (carries s i)) (f ++ joined (freedOf s i)) n 1048577
   unfolding freedOf
   freed-made =
       let l = long in
       let a = freeing-lies s (length b) (carries s i) (sound .chain) in
       let k = records-few s (headerEnd s) (records s) (sound .chain) in
       let e = lie-more a n 1048577 (omega arith) (omega (arith, range .file)) in
-      record {
-        holds = ap (run (freeingWrites (length b) s (carries s i))) split
-            ∙ freeing-run s f (drop n b) (length b) (carries s i) (λ r. carries r i 0) (sound .chain) (parted .ends) (omega arith) (carried s sound i);
-        inside = inside;
-        fits = e .fits;
-        few = e .few;
-      }
+      let q =
+      ap (run (freeingWrites (length b) s (carries s i))) split
+      ∙ freeing-run s f (drop n b) (length b) (carries s i) (λ r. carries r i 0) (sound .chain) (parted .ends) (omega arith) (carried s sound i) in
+      record { made = record { holds = q; inside = inside; fits = e .fits; few = e .few }; apart = e .apart }
 
   freed-stands : standing 5 (headerEnd s) (freedOf s i) ≡ directory
   unfolding freedOf
@@ -124,8 +124,8 @@ module _ (b : List ℕ) (n i : ℕ) (inside : n ≤ length b) (writable : openFo
 
   -- behind writes that leave the directory where it is, the reference to the tile
   then-refer :
-      {xs : List Write} {m k : ℕ} (qs : List (List ℕ)) (content : ℕ) → Made b xs (f ++ joined qs) m k → n ≤ m → standing 5 (headerEnd s) qs ≡ directory →
-      Made b (thenRefer s i content xs b) (f ++ joined (map (withReference s i content) qs)) m (k + 2)
+      {xs : List Write} {m k : ℕ} (qs : List (List ℕ)) (content : ℕ) → MadeBehind (headerEnd s) b xs (f ++ joined qs) m k → n ≤ m →
+      standing 5 (headerEnd s) qs ≡ directory → MadeBehind (headerEnd s) b (thenRefer s i content xs b) (f ++ joined (map (withReference s i content) qs)) m (k + 2)
   unfolding thenRefer
   then-refer {xs} {m} qs content a h d =
       let at = tileDirectoryAt s in
@@ -133,31 +133,33 @@ module _ (b : List ℕ) (n i : ℕ) (inside : n ≤ length b) (writable : openFo
       let r = ok-means s at o in
       let l = long in
       let e : standing 5 (length f) qs ≡ directory = rw (parted .ends) d in
-      made-then a
-      (rw (a .holds)
-      (refer-made s i content f (drop m b) qs e (lengthAt s at) m (sym (piece-long s at o))
-      (reference-inside s (sound .chain) (sound .tile-directory) (is-open .full) i below) (omega (arith, r .inside)) (sym (made-long a))))
+      behind-then a
+      (rw (a .made .holds)
+      (refer-made s i content (headerEnd s) f (drop m b) qs (directory-behind s (sound .chain) (sound .tile-directory)) e (lengthAt s at) m (sym (piece-long s at o))
+      (reference-inside s (sound .chain) (sound .tile-directory) (is-open .full) i below) (omega (arith, r .inside)) (sym (made-long (a .made)))))
       (omega arith)
 
   -- removing
-  there-removed : Made b (thenRefer s i 0 (freeingWrites (length b) s (carries s i)) b) (f ++ joined (map (withReference s i 0) (freedOf s i))) n 1048579
+  there-removed : MadeBehind (headerEnd s) b (thenRefer s i 0 (freeingWrites (length b) s (carries s i)) b) (f ++ joined (map (withReference s i 0) (freedOf s i))) n 1048579
   there-removed = then-refer (freedOf s i) 0 freed-made (omega arith) freed-stands
 
-  nothing-made : Made b [] (f ++ joined (pieces s)) n 0
+  nothing-made : MadeBehind (headerEnd s) b [] (f ++ joined (pieces s)) n 1048579
   unfolding run
-  nothing-made = record { holds = split; inside = inside; fits = _; few = omega arith }
+  nothing-made = record { made = record { holds = split; inside = inside; fits = _; few = omega arith }; apart = _ }
 
-  removing-makes : Makes b (removingWrites b s i) (removedPage s i) n
-  unfolding removingWrites removedPage removedPieces
-  removing-makes = go (isThere s i)
+  pub removed-made : MadeBehind (headerEnd s) b (removeWrites b s i) (removedPage s i) n 1048579
+  unfolding removeWrites removedPage removedPieces
+  removed-made = go (isThere s i)
     where
       go :
           (c : Bool) →
-          Makes b (pick c (thenRefer s i 0 (freeingWrites (length b) s (carries s i)) b) []) (f ++ joined (pick c (map (withReference s i 0) (freedOf s i)) (pieces s))) n
-      go true = made-makes there-removed (omega (arith, range .file, long)) (omega arith)
-      go false = made-makes nothing-made (omega (arith, range .file, long)) (omega arith)
+          MadeBehind (headerEnd s) b (pick c (thenRefer s i 0 (freeingWrites (length b) s (carries s i)) b) [])
+          (f ++ joined (pick c (map (withReference s i 0) (freedOf s i)) (pieces s))) n 1048579
+      go true = there-removed
+      go false = nothing-made
 
-  over-plain : storedOver s i ≡ true → plainIn s (tileAt s i) ≡ true
+  -- the record that is stored over
+  over-plain : storedOver s i ≡ true → plainIn s (tileReferred s i) ≡ true
   unfolding storedOver
   over-plain e = e
 
@@ -199,26 +201,26 @@ module _ (b : List ℕ) (n i : ℕ) (inside : n ≤ length b) (writable : openFo
           let l = new-long in
           let e : placeFor (headerEnd s) (length v) (freedOf s i) ≡ placeFor (headerEnd s) (plainTileLength s) (freedOf s i) =
           ap (λ (k : ℕ). placeFor (headerEnd s) k (freedOf s i)) l in
-          let d = made-long freed-made in
+          let d = made-long (freed-made .made) in
           let g = length-append f (joined (freedOf s i)) in
           let h = length-append f (joined (placed flag v (freedOf s i))) in
           omega (arith, parted .ends, long)
 
       -- the new record where it goes
-      new-made : Made b (newWrites (length b) s i c) (f ++ joined (placed flag v (freedOf s i))) most 1048579
+      new-made : MadeBehind (headerEnd s) b (newWrites (length b) s i c) (f ++ joined (placed flag v (freedOf s i))) most 1048579
       unfolding newWrites storedAt
       new-made =
           let xs = freeingWrites (length b) s (carries s i) in
           let at = placeFor (headerEnd s) (plainTileLength s) (freedOf s i) in
           let ys = wholeWrite (length b) at v in
           let zs = restWrites (length b) flag (at + plainTileLength s) (roomFor (plainTileLength s) (freedOf s i) - plainTileLength s) in
-          let e = freed-made .holds in
+          let e = freed-made .made .holds in
           let k : length b ≡ length (f ++ joined (freedOf s i) ++ drop n b) = sym (length-run xs b) ∙ ap length e in
           let l = new-long in
           let g = parted .ends in
-          let p : Made (run xs b) (ys ++ zs) (f ++ joined (placed flag v (freedOf s i))) most 2 =
-          rw e (rw (placed-most, g, l) at (place-made flag (length b) v f (drop n b) (freedOf s i) k (rw (g, l) room))) in
-          rw (new-is, append-assoc xs ys zs) (made-then freed-made p (omega (arith, long)))
+          let p : MadeBehind (headerEnd s) (run xs b) (ys ++ zs) (f ++ joined (placed flag v (freedOf s i))) most 2 =
+          rw e (rw (placed-most, g, l) at (place-made (headerEnd s) flag (length b) v f (drop n b) (freedOf s i) (omega arith) k (rw (g, l) room))) in
+          rw (new-is, append-assoc xs ys zs) (behind-then freed-made p (omega (arith, long)))
 
       placed-stands : standing 5 (headerEnd s) (placed flag v (freedOf s i)) ≡ directory
       placed-stands =
@@ -226,43 +228,46 @@ module _ (b : List ℕ) (n i : ℕ) (inside : n ≤ length b) (writable : openFo
           placed-others flag v (w .0) (w .1) 5 (λ z. omega arith) (λ z. omega (arith, new-type)) (headerEnd s) (freedOf s i) freed-well ∙ freed-stands
 
       newly-made :
-          Made b (thenRefer s i (contentAt (storedAt s i)) (newWrites (length b) s i c) b) (f ++ joined (newlyStored s i c)) most 1048581
+          MadeBehind (headerEnd s) b (thenRefer s i (contentAt (storedAt s i)) (newWrites (length b) s i c) b) (f ++ joined (newlyStored s i c)) most 1048581
       unfolding newlyStored
       newly-made = then-refer (placed flag v (freedOf s i)) (contentAt (storedAt s i)) new-made (omega (arith, long)) placed-stands
 
     -- over its plain record
-    over-stored : (r : Found) → tileAt s i ≡ r → plainIn s r ≡ true → Made b (overFound b s c r) (f ++ joined (map (overwritten s i c) (pieces s))) n 17
+    over-stored : (r : Found) → tileAt s i ≡ r → plainIn s r ≡ true → MadeBehind (headerEnd s) b (overFound b s c r) (f ++ joined (map (overwritten s i c) (pieces s))) n 17
     over-stored Nothing e p = not-both p refl
     over-stored (At x) e p =
         let l = long in
         let h : x + lengthAt s x ≤ n = omega (arith, tile-inside s sound i e) in
         over-made s sound i e p c cells b f (drop n b) n split (parted .ends) whole-long h
 
-    storing-makes :
-        storedLength s i ≤ length b → storedLength s i ≤ 16777216 → Makes b (storingWrites b s i c) (storedPage s i c) (storedLength s i)
-    unfolding storingWrites storedPage storedPieces storedLength
-    storing-makes g h = go (storedOver s i) refl g h
+    pub stored-made :
+        roomLeft b (storedLength s i) ≡ Accepted → MadeBehind (headerEnd s) b (storeWrites b s i c) (storedPage s i c) (storedLength s i) 1048581
+    unfolding storeWrites storedPage storedPieces storedLength
+    stored-made room = go (storedOver s i) refl (room-passed b (storedLength s i) room)
       where
         go :
-            (o : Bool) → storedOver s i ≡ o → pick o (length s) (max (length s) (storedAt s i + plainTileLength s)) ≤ length b →
-            pick o (length s) (max (length s) (storedAt s i + plainTileLength s)) ≤ 16777216 →
-            Makes b (pick o (overFound b s c (tileAt s i)) (thenRefer s i (contentAt (storedAt s i)) (newWrites (length b) s i c) b))
-            (f ++ joined (pick o (map (overwritten s i c) (pieces s)) (newlyStored s i c))) (pick o (length s) (max (length s) (storedAt s i + plainTileLength s)))
-        go true e g h = rw long (made-makes (over-stored (tileAt s i) refl (over-plain e)) (omega (arith, long)) (omega arith))
-        go false e g h = made-makes (newly-made (omega arith) (omega arith)) h (omega arith)
+            (o : Bool) → storedOver s i ≡ o →
+            (pick o (length s) (max (length s) (storedAt s i + plainTileLength s)) ≤ length b)
+            × (pick o (length s) (max (length s) (storedAt s i + plainTileLength s)) ≤ 16777216) →
+            MadeBehind (headerEnd s) b (pick o (overFound b s c (tileReferred s i)) (thenRefer s i (contentAt (storedAt s i)) (newWrites (length b) s i c) b))
+            (f ++ joined (pick o (map (overwritten s i c) (pieces s)) (newlyStored s i c))) (pick o (length s) (max (length s) (storedAt s i + plainTileLength s))) 1048581
+        go true e g =
+            let r = referred-is s sound i below in
+            let q = over-stored (tileReferred s i) (sym r) (over-plain e) in
+            rw long (record { made = made-more (q .made) 1048581 (omega arith); apart = q .apart })
+        go false e g = newly-made (omega (arith, g .0)) (omega (arith, g .1))
 
-pub remove-makes : RemoveMakes
-unfolding removeVerdict removeWrites
-remove-makes b n i w e =
-    let a = open-passed b n _ e in
-    let t = tile-passed (pageIn b n) i _ (a .1 .1) in
-    rw (page-ceilings b n (a .0) (open-sound (pageIn b n) (a .1 .0))) (removing-makes b n i (a .0) (a .1 .0) (t .0))
+pub remove-makes : (i : ℕ) → CallMakes (Call.Removing i)
+unfolding lineOf
+remove-makes i b n w inside o e =
+    let s = pageIn b n in
+    let t = tile-passed s i _ e in
+    let r = sound-range s (records s) (open-sound s o) in
+    rw (page-long b n inside) (made-makes (removed-made b n i inside o (t .0) .made) (omega (arith, r .file, page-long b n inside)) (omega arith))
 
-pub store-makes : StoreMakes
-unfolding storeVerdict storeWrites
-store-makes b n i c w u e =
-    let a = open-passed b n _ e in
-    let t = tile-passed (pageIn b n) i _ (a .1 .1) in
+pub store-makes : (i : ℕ) (c : List ℕ) → CallMakes (Call.Storing i c)
+unfolding lineOf
+store-makes i c b n w inside o e =
+    let t = tile-passed (pageIn b n) i _ e in
     let d = cells-passed (pageIn b n) c _ (t .1) in
-    let r = room-passed b (storedLength (pageIn b n) i) (d .1) in
-    rw (page-ceilings b n (a .0) (open-sound (pageIn b n) (a .1 .0))) (storing-makes b n i (a .0) (a .1 .0) (t .0) c (d .0) (r .0) (r .1))
+    made-makes (stored-made b n i inside o (t .0) c (d .0) (d .1) .made) (room-passed b _ (d .1) .1) (omega arith)

@@ -9,6 +9,7 @@ use lib.ListN.{length, take}
 use lib.Dec.{eqb}
 use borrow.Author.Tests.{eqb-true, eqb-false}
 use Rattle.wire.proofs.TestLaws.{means}
+use Rattle.wire.proofs.ByteLaws.{same-part}
 use Rattle.wire.proofs.ListLaws.{some-member}
 use Rattle.wire.proofs.PlaceLaws.{Placed, placed-inside, placed-number}
 use Rattle.record.specs.declared.Found.the-variants.{Nothing}
@@ -37,7 +38,7 @@ use Rattle.pieces.specs.Edits.{withReference}
 use Rattle.pieces.specs.Standing.{standing, placeOf}
 use Rattle.alone.specs.Alone.{SameRecord}
 use Rattle.alone.specs.Edited.{touched}
-use Rattle.alone.proofs.HeaderLaws.{header-sym, header-trans, front-judged}
+use Rattle.alone.proofs.HeaderLaws.{front-judged}
 use Rattle.alone.proofs.PieceLaws.{placed-same, wrong-none}
 use Rattle.alone.proofs.EditedLaws.{chain-none}
 use Rattle.alone.proofs.StandLaws.{stands, records-are, member-place}
@@ -45,10 +46,11 @@ use Rattle.writable.specs.Writable.{directoryFull, Open}
 use Rattle.writable.specs.Parts.{Parted, SameFront}
 use Rattle.writable.proofs.PartLaws.{sound-parted, front-begins, front-kept}
 use Rattle.page_laws.proofs.FrontLaws.{judged-trans, same-unset}
-use Rattle.page_laws.specs.Tiles.{tilesOf, metadataOf, ofTile, recordOfTile, Follows}
+use Rattle.page_laws.specs.Tiles.{tilesOf, ofTile}
 use Rattle.page_laws.specs.TileMap.{heldIn}
-use Rattle.page_laws.proofs.TileMapLaws.{tiles-stand, records-stand, pieces-are, metadata-same}
+use Rattle.page_laws.proofs.TileMapLaws.{tiles-stand, pieces-are}
 use Rattle.page_laws.proofs.PageLaws.{parted-alone}
+use Rattle.page_laws.proofs.KeptLaws.{KeptBy}
 use Rattle.page_laws.proofs.TilesKeptLaws.{tiles-kept}
 use Rattle.page_laws.proofs.FormLaws.{directory-room, SameForm, form-one, form-kept, full-same, count-same}
 use Rattle.kept_open.proofs.EntryLaws.{place-member, Stored, Entered, Indexed, indexed-of, entered-listed, entered-only}
@@ -125,27 +127,29 @@ module _ (s : List ℕ) (o : Open s) (qs : List (List ℕ)) where
         none-adjoin = ap nothingToJoin (pieces-are (frontOf s) (parted s o .front) qs (a .formed)) ∙ a .none;
       }
 
-  -- and that it follows, its tiles those that a map gives
-  pub follows-again :
-      WellFormed qs → bodyFault t ≡ Nothing → standing 1 (length (frontOf s)) (pieces s) ≡ standing 1 (length (frontOf s)) qs →
-      standing 4 (length (frontOf s)) (pieces s) ≡ standing 4 (length (frontOf s)) qs → (named : ℕ → Bool) →
+  -- what it keeps, and its tiles
+  pub kept-again :
+      WellFormed qs → standing 1 (length (frontOf s)) (pieces s) ≡ standing 1 (length (frontOf s)) qs →
+      standing 4 (length (frontOf s)) (pieces s) ≡ standing 4 (length (frontOf s)) qs → {named : ℕ → Bool} →
       ((j : ℕ) → named j ≡ false → ofTile j (standing 2 (length (frontOf s)) qs) ≡ ofTile j (standing 2 (length (frontOf s)) (pieces s))) →
-      (tiles : ℕ → List (List ℕ)) → ((j : ℕ) → heldIn (elementCount (frontOf s)) j (standing 2 (length (frontOf s)) qs) ≡ tiles j) → Follows s t named tiles
-  unfolding bodyFault
-  follows-again v b c d named k tiles h =
-      let p = parted s o in
-      let same = header-trans (header-sym (p .header)) (p .header) in
+      KeptBy s (frontOf s) (frontOf s) qs named
+  kept-again v c d k =
+      let h = sound-range s (records s) (o .sound) .header-least in
+      let f = front-begins s (joined qs) (o .sound) in
       record {
-        header = same-unset (front-begins s (joined qs) (o .sound)) (sound-range s (records s) (o .sound) .header-least);
-        records =
-            λ j n.
-            records-stand (frontOf s) (p .front) qs v j
-            ∙ k j n
-            ∙ sym (records-stand (frontOf s) (p .front) (pieces s) (p .formed) j)
-            ∙ ap (λ (l : List ℕ). recordOfTile l j) (sym (p .whole));
-        metadata = sym (ap metadataOf (p .whole) ∙ metadata-same (p .front) (p .front) same (pieces s) qs (p .formed) v c d);
-        map-of = λ j. tiles-stand (frontOf s) (p .front) qs v (wrong-none (frontOf s) (p .front) qs v Body b) j ∙ h j;
+        parted = parted s o;
+        front = parted s o .front;
+        formed = v;
+        header = same-unset f h;
+        reference = same-part f 64 72 (omega arith) (omega arith);
+        metadata = c;
+        directory = d;
+        records = k;
       }
+
+  pub tiles-again : WellFormed qs → bodyFault t ≡ Nothing → (j : ℕ) → tilesOf t j ≡ heldIn (elementCount (frontOf s)) j (standing 2 (length (frontOf s)) qs)
+  unfolding bodyFault
+  tiles-again v b j = tiles-stand (frontOf s) (parted s o .front) qs v (wrong-none (frontOf s) (parted s o .front) qs v Body b) j
 
   -- the tile directory with reference number i set to `content`
   module _

@@ -19,10 +19,11 @@ use Rattle.alone.specs.Edited.{edited, New, Edit, Keeps}
 use Rattle.alone.proofs.TouchLaws.{reference-touches}
 use Rattle.alone.proofs.EditedLaws.{well-formed, edit-keeps}
 use Rattle.writable.specs.Writable.{Open}
-use Rattle.page_laws.specs.Tiles.{ofTile, Follows}
+use Rattle.page_laws.specs.Tiles.{tilesOf, ofTile}
 use Rattle.page_laws.specs.TileMap.{heldIn}
+use Rattle.page_laws.proofs.KeptLaws.{KeptBy}
 use Rattle.kept_open.proofs.EntryLaws.{carried, Entered}
-use Rattle.kept_open.proofs.AgainLaws.{frontOf, parted, open-again, follows-again, directory-again}
+use Rattle.kept_open.proofs.AgainLaws.{frontOf, parted, open-again, kept-again, tiles-again, directory-again}
 
 module _ (s : List ℕ) (b : Bytes s) (o : Open s) (i content : ℕ) (vs : List (List ℕ)) (new : AllOf (New (frontOf s)) vs) where
   abbrev pub after : List (List ℕ)
@@ -69,10 +70,12 @@ module _ (s : List ℕ) (b : Bytes s) (o : Open s) (i content : ℕ) (vs : List 
         none = kept .none;
       })
 
-  pub edit-follows :
+  pub edit-kept :
       ((j : ℕ) → (j ≡ i → ⊥) → ofTile j (standing 2 (length (frontOf s)) after) ≡ ofTile j (standing 2 (length (frontOf s)) (pieces s))) →
-      (tiles : ℕ → List (List ℕ)) → ((j : ℕ) → heldIn (elementCount (frontOf s)) j (standing 2 (length (frontOf s)) after) ≡ tiles j) →
-      Follows s (frontOf s ++ joined after) (λ j. eqb j i) tiles
-  edit-follows k tiles h =
-      follows-again s o after well (kept .bodies (parted s o .bodies)) (stays 1 (λ e. omega arith) (λ e. omega arith) (λ e. omega arith))
-      (stays 4 (λ e. omega arith) (λ e. omega arith) (λ e. omega arith)) (λ j. eqb j i) (λ j n. k j (eqb-false j i n)) tiles h
+      KeptBy s (frontOf s) (frontOf s) after (λ j. eqb j i)
+  edit-kept k =
+      kept-again s o after well (stays 1 (λ e. omega arith) (λ e. omega arith) (λ e. omega arith))
+      (stays 4 (λ e. omega arith) (λ e. omega arith) (λ e. omega arith)) (λ j n. k j (eqb-false j i n))
+
+  pub edit-tiles : (j : ℕ) → tilesOf (frontOf s ++ joined after) j ≡ heldIn (elementCount (frontOf s)) j (standing 2 (length (frontOf s)) after)
+  edit-tiles = tiles-again s o after well (kept .bodies (parted s o .bodies))

@@ -25,7 +25,7 @@ use Rattle.alone.specs.Alone.{alone}
 use Rattle.alone.specs.Edited.{New}
 use Rattle.alone.proofs.HeaderLaws.{header-sym, header-trans, front-header}
 use Rattle.writable.specs.Writable.{Open}
-use Rattle.page_laws.specs.Tiles.{plainContents}
+use Rattle.correct.specs.Storing.{plainContents}
 use Rattle.page_laws.specs.TileMap.{contentsAlone}
 use Rattle.page_laws.proofs.TileMapLaws.{below-map}
 use Rattle.written_rules.proofs.RecordLaws.{new-piece, new-checksum}

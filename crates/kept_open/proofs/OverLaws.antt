@@ -46,16 +46,18 @@ use Rattle.alone.proofs.TouchLaws.{piece-alike, sealed-checksum}
 use Rattle.alone.proofs.EditedLaws.{well-formed, mapped-pieces, mapped-alone, mapped-standing, mapped-own, mapped-none, mapped-length, body-to, checksum-to, metadata-to}
 use Rattle.writable.specs.Writable.{Open}
 use Rattle.writable.proofs.PartLaws.{front-begins}
-use Rattle.correct.specs.Storing.{tileAt, isPlain, plainIn, storedOver, cellsPut, overwritten, storedPieces, storedPage}
-use Rattle.page_laws.specs.Tiles.{tilesOf, plainContents, ofTile, Follows}
+use Rattle.correct.specs.Storing.{tileAt, tileReferred, isPlain, plainIn, storedOver, cellsPut, overwritten, storedPieces, storedPage, plainContents}
+use Rattle.correct.proofs.ReferredLaws.{referred-is}
+use Rattle.page_laws.specs.Tiles.{tilesOf, ofTile}
 use Rattle.page_laws.specs.TileMap.{contentsAlone, heldIn}
 use Rattle.page_laws.proofs.TileMapLaws.{below-map}
 use Rattle.page_laws.proofs.MapLaws.{held-carries}
 use Rattle.page_laws.proofs.PageLaws.{parted-alone}
+use Rattle.page_laws.proofs.KeptLaws.{KeptBy, kept-places, kept-follows}
 use Rattle.kept_open.specs.KeptOpen.{Stores, Beside, StoredKeeps, StoredOpen}
 use Rattle.kept_open.proofs.EntryLaws.{carried, place-member}
 use Rattle.kept_open.proofs.HeldLaws.{Turned, of-others, held-over}
-use Rattle.kept_open.proofs.AgainLaws.{frontOf, parted, records-first, indexed-first, tiles-first, open-again, follows-again, directory-stays}
+use Rattle.kept_open.proofs.AgainLaws.{frontOf, parted, records-first, indexed-first, tiles-first, open-again, kept-again, tiles-again, directory-stays}
 use Rattle.kept_open.proofs.BesideLaws.{Stays, page-byte}
 use Rattle.kept_open.proofs.StoredLaws.{stored-new}
 use Rattle.kept_open.proofs.CellLaws.{cells-piece, cells-type, over-alike, Plain, over-byte, over-index, over-section, over-length, over-content}
@@ -92,12 +94,14 @@ unfolding isPlain tileAt
 plain-here s i x e z =
     record { start = x; meant = meant-is s i x (sym (walk-finds s i) ∙ e); plain = λ d h. eqb-true _ _ (below-each (elementCount s) _ z d h) }
 
-over-plain : (s : List ℕ) (i x : ℕ) → storedOver s i ≡ true → tileAt s i ≡ At x → isPlain s x ≡ true
+over-is : (s : List ℕ) (i : ℕ) → tileReferred s i ≡ tileAt s i → storedOver s i ≡ true → plainIn s (tileAt s i) ≡ true
 unfolding storedOver
+over-is s i r over = sym (ap (plainIn s) r) ∙ over
+
+over-plain : (s : List ℕ) (i x : ℕ) → plainIn s (tileAt s i) ≡ true → tileAt s i ≡ At x → isPlain s x ≡ true
 over-plain s i x over e = sym (ap (plainIn s) e) ∙ over
 
-plain-at : (s : List ℕ) (i : ℕ) → storedOver s i ≡ true → PlainAt s i
-unfolding storedOver
+plain-at : (s : List ℕ) (i : ℕ) → plainIn s (tileAt s i) ≡ true → PlainAt s i
 plain-at s i over = go (tileAt s i) refl over
   where
     go : (f : Found) → tileAt s i ≡ f → plainIn s f ≡ true → PlainAt s i
@@ -393,11 +397,13 @@ module _ (s : List ℕ) (i : ℕ) (c : List ℕ) (o : Open s) (b : Bytes c) (lon
           none = none-adjoin;
         })
 
-    over-follows : Follows s (f ++ joined qs) (λ j. eqb j i) (λ j. pick (eqb j i) (plainContents s c) (tilesOf s j))
-    over-follows =
-        follows-again s o qs well bodies (stays 1 (λ e. omega arith)) (stays 4 (λ e. omega arith)) (λ j. eqb j i)
+    over-kept : KeptBy s f f qs (λ j. eqb j i)
+    over-kept =
+        kept-again s o qs well (stays 1 (λ e. omega arith)) (stays 4 (λ e. omega arith))
         (λ j n. ap (ofTile j) turned-are ∙ of-others (elementCount f) i (plainContents s c) (overwritten s i c) l turned-at j (eqb-false j i n))
-        (λ j. pick (eqb j i) (plainContents s c) (tilesOf s j)) held
+
+    over-tiles : (j : ℕ) → tilesOf (f ++ joined qs) j ≡ pick (eqb j i) (plainContents s c) (tilesOf s j)
+    over-tiles j = tiles-again s o qs well bodies j ∙ held j
 
 module _ (s : List ℕ) (i : ℕ) (c : List ℕ) (h : Stores s i c) (e : storedOver s i ≡ true) where
   page-is : storedPage s i c ≡ frontOf s ++ joined (map (overwritten s i c) (pieces s))
@@ -408,15 +414,17 @@ module _ (s : List ℕ) (i : ℕ) (c : List ℕ) (h : Stores s i c) (e : storedO
   unfolding plain-here
   stored-over =
       let l : length (frontOf s ++ joined (map (overwritten s i c) (pieces s))) ≤ 16777216 = rw page-is at (h .room) in
-      let x = plain-at s i e in
+      let r = referred-is s (h .open-page .sound) i (h .below) in
+      let x = plain-at s i (over-is s i r e) in
       record {
         open-page = rw page-is (over-open s i c (h .open-page) (h .cells) (h .long) (h .bytes) x l);
-        follows = rw page-is (over-follows s i c (h .open-page) (h .cells) (h .long) (h .bytes) x);
+        follows = rw page-is (kept-follows (over-kept s i c (h .open-page) (h .cells) (h .long) (h .bytes) x) (over-tiles s i c (h .open-page) (h .cells) (h .long) (h .bytes) x));
+        places = rw page-is (kept-places (over-kept s i c (h .open-page) (h .cells) (h .long) (h .bytes) x));
         front = rw page-is (front-begins s (joined (map (overwritten s i c) (pieces s))) (h .open-page .sound));
         over-long = λ y. rw page-is (over-length-same s i c (h .open-page) (h .cells) (h .long) (h .bytes) x);
         over-beside =
             λ y a b k z.
-            rw page-is (over-bytes s i c (h .open-page) (h .cells) (h .long) (h .bytes) (plain-here s i a b (over-plain s i a y b)) k z);
+            rw page-is (over-bytes s i c (h .open-page) (h .cells) (h .long) (h .bytes) (plain-here s i a b (over-plain s i a (over-is s i r y) b)) k z);
       }
 
 pub stored-open : StoredOpen

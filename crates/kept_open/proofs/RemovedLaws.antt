@@ -26,14 +26,16 @@ use Rattle.writable.specs.Writable.{Open}
 use Rattle.writable.proofs.PartLaws.{front-begins}
 use Rattle.correct.specs.Storing.{tileAt, freedOf}
 use Rattle.correct.specs.Removing.{isFound, isThere, removedPieces, removedPage}
+use Rattle.correct.proofs.ReferredLaws.{referred-is}
 use Rattle.page_laws.specs.Tiles.{contentsOf, tilesOf, ofTile}
 use Rattle.page_laws.specs.TileMap.{heldIn}
 use Rattle.page_laws.proofs.TileMapLaws.{contents-some}
 use Rattle.page_laws.proofs.MapLaws.{held-without, of-without}
+use Rattle.page_laws.proofs.KeptLaws.{KeptBy, kept-places, kept-follows}
 use Rattle.kept_open.specs.KeptOpen.{RemovedKeeps, RemovedOpen}
 use Rattle.kept_open.proofs.EntryLaws.{entered-none}
-use Rattle.kept_open.proofs.AgainLaws.{frontOf, parted, tiles-first, follows-again}
-use Rattle.kept_open.proofs.EditLaws.{kept, edit-open, edit-follows}
+use Rattle.kept_open.proofs.AgainLaws.{frontOf, parted, tiles-first, kept-again, tiles-again}
+use Rattle.kept_open.proofs.EditLaws.{kept, edit-open, edit-kept, edit-tiles}
 
 module _ (s : List ℕ) (i : ℕ) (b : Bytes s) (o : Open s) (below : i < tileCount s) where
   -- it has none: nothing changes
@@ -42,12 +44,16 @@ module _ (s : List ℕ) (i : ℕ) (b : Bytes s) (o : Open s) (below : i < tileCo
   unfolding removedPage removedPieces
   same-is e = rw e
 
+  found-is : isThere s i ≡ isFound (tileAt s i)
+  unfolding isThere
+  found-is = ap isFound (referred-is s (o .sound) i below)
+
   nothing-there : tilesOf s i ≡ [] → removedPage s i ≡ s
-  unfolding isThere tilesOf
+  unfolding tilesOf
   nothing-there h = go (tileAt s i) refl h
     where
       go : (f : Found) → tileAt s i ≡ f → contentsOf s f ≡ [] → removedPage s i ≡ s
-      go Nothing e z = same-is (ap isFound e) ∙ sym (parted s o .whole)
+      go Nothing e z = same-is (found-is ∙ ap isFound e) ∙ sym (parted s o .whole)
       go (At x) e z = absurd (contents-some s x (sound-range s (records s) (o .sound) .elements .0) z)
 
   -- it has a record
@@ -77,6 +83,9 @@ module _ (s : List ℕ) (i : ℕ) (b : Bytes s) (o : Open s) (below : i < tileCo
       ∙ held-without (elementCount (frontOf s)) i j (length (frontOf s)) (pieces s)
       ∙ ap (λ (a : List (List ℕ)). pick (eqb j i) [] a) (sym (tiles-first s o j))
 
+  others : KeptBy s (frontOf s) (frontOf s) qs (λ j. eqb j i)
+  others = edit-kept s b o i 0 [] tt (λ j z. ap (ofTile j) (kept s b o i 0 [] tt .tiles) ∙ of-without i j z (standing 2 (length (frontOf s)) (pieces s)))
+
   removed : isThere s i ≡ true → RemovedKeeps s i
   removed e =
       record {
@@ -84,10 +93,8 @@ module _ (s : List ℕ) (i : ℕ) (b : Bytes s) (o : Open s) (below : i < tileCo
             rw (page-is e)
             (edit-open s b o i 0 [] tt below room
             (entered-none (standing 2 (length (frontOf s)) (pieces s)) (standing 2 (length (frontOf s)) qs) i (kept s b o i 0 [] tt .tiles)));
-        follows =
-            rw (page-is e)
-            (edit-follows s b o i 0 [] tt
-            (λ j z. ap (ofTile j) (kept s b o i 0 [] tt .tiles) ∙ of-without i j z (standing 2 (length (frontOf s)) (pieces s))) (λ j. pick (eqb j i) [] (tilesOf s j)) held);
+        follows = rw (page-is e) (kept-follows others (λ j. edit-tiles s b o i 0 [] tt j ∙ held j));
+        places = rw (page-is e) (kept-places others);
         front = rw (page-is e) (front-begins s (joined qs) (o .sound));
         long = rw (page-is e) long-same;
         absent = nothing-there;
@@ -96,8 +103,8 @@ module _ (s : List ℕ) (i : ℕ) (b : Bytes s) (o : Open s) (below : i < tileCo
   -- it has none
 
   nothing-held : isThere s i ≡ false → tilesOf s i ≡ []
-  unfolding isThere tilesOf
-  nothing-held e = go (tileAt s i) e
+  unfolding tilesOf
+  nothing-held e = go (tileAt s i) (sym found-is ∙ e)
     where
       go : (f : Found) → isFound f ≡ false → contentsOf s f ≡ []
       go Nothing z = refl
@@ -110,14 +117,16 @@ module _ (s : List ℕ) (i : ℕ) (b : Bytes s) (o : Open s) (below : i < tileCo
       go true z = let y : j ≡ i = eqb-true _ _ z in ap (tilesOf s) y ∙ nothing-held e
       go false z = refl
 
+  all : KeptBy s (frontOf s) (frontOf s) (pieces s) (λ j. eqb j i)
+  all = kept-again s o (pieces s) (parted s o .formed) refl refl (λ j n. refl)
+
   absent : isThere s i ≡ false → RemovedKeeps s i
   absent e =
       let p = parted s o in
       record {
         open-page = rw (same-is e, ← p .whole) o;
-        follows =
-            rw (same-is e)
-            (follows-again s o (pieces s) (p .formed) (p .bodies) refl refl (λ j. eqb j i) (λ j n. refl) (λ j. pick (eqb j i) [] (tilesOf s j)) (λ j. sym (tiles-first s o j) ∙ held-same e j));
+        follows = rw (same-is e) (kept-follows all (λ j. tiles-again s o (pieces s) (p .formed) (p .bodies) j ∙ sym (tiles-first s o j) ∙ held-same e j));
+        places = rw (same-is e) (kept-places all);
         front = rw (same-is e) (front-begins s (joined (pieces s)) (o .sound));
         long = ap length (same-is e ∙ sym (p .whole));
         absent = nothing-there;

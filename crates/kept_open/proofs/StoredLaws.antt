@@ -18,14 +18,15 @@ use Rattle.pieces.specs.Edits.{placeFor, withReference}
 use Rattle.pieces.specs.Standing.{AllOf, standing, without, Inserted}
 use Rattle.alone.specs.Edited.{placedEach, edited, New}
 use Rattle.writable.proofs.PartLaws.{front-begins}
-use Rattle.correct.specs.Storing.{storedOver, freedOf, storedAt, newlyStored, storedPieces, storedPage}
-use Rattle.page_laws.specs.Tiles.{tilesOf, plainContents, ofTile}
+use Rattle.correct.specs.Storing.{storedOver, freedOf, storedAt, newlyStored, storedPieces, storedPage, plainContents}
+use Rattle.page_laws.specs.Tiles.{tilesOf, ofTile}
 use Rattle.page_laws.specs.TileMap.{contentsAlone, heldIn}
 use Rattle.page_laws.proofs.MapLaws.{held-without, of-without, of-inserted, none-without, held-inserted}
+use Rattle.page_laws.proofs.KeptLaws.{kept-places, kept-follows}
 use Rattle.kept_open.specs.KeptOpen.{Stores, StoredKeeps}
 use Rattle.kept_open.proofs.EntryLaws.{entered-new}
 use Rattle.kept_open.proofs.AgainLaws.{frontOf, parted, tiles-first}
-use Rattle.kept_open.proofs.EditLaws.{kept, edit-open, edit-follows}
+use Rattle.kept_open.proofs.EditLaws.{kept, edit-open, edit-kept, edit-tiles}
 use Rattle.kept_open.proofs.NewLaws.{new-length, new-index, new-tile, new-contents}
 
 module _ (s : List ℕ) (i : ℕ) (c : List ℕ) (h : Stores s i c) (over : storedOver s i ≡ false) where
@@ -87,7 +88,10 @@ module _ (s : List ℕ) (i : ℕ) (c : List ℕ) (h : Stores s i c) (over : stor
             rw page-is
             (edit-open s (h .bytes) (h .open-page) i content (v ∷ []) new (h .below) l
             (entered-new (standing 2 (length (frontOf s)) (pieces s)) (standing 2 (length (frontOf s)) qs) i (storedAt s i) v inserted index));
-        follows = rw page-is (edit-follows s (h .bytes) (h .open-page) i content (v ∷ []) new others (λ j. pick (eqb j i) (plainContents s c) (tilesOf s j)) held);
+        follows =
+            rw page-is
+            (kept-follows (edit-kept s (h .bytes) (h .open-page) i content (v ∷ []) new others) (λ j. edit-tiles s (h .bytes) (h .open-page) i content (v ∷ []) new j ∙ held j));
+        places = rw page-is (kept-places (edit-kept s (h .bytes) (h .open-page) i content (v ∷ []) new others));
         front = rw page-is (front-begins s (joined qs) (h .open-page .sound));
         over-long = λ e. not-both e over;
         over-beside = λ e. not-both e over;

@@ -17,9 +17,9 @@ use Rattle.geometry.specs.Sizes.{elementBytes, tileBytes}
 use Rattle.bodies.specs.TileRecord.{elementContentAt}
 use Rattle.check_header.specs.Ceilings.{mostFileBytes}
 use Rattle.writable.specs.Writable.{Open}
-use Rattle.correct.specs.Storing.{tileAt, storedOver, storedPage}
+use Rattle.correct.specs.Storing.{tileAt, storedOver, storedPage, plainContents}
 use Rattle.correct.specs.Removing.{removedPage}
-use Rattle.page_laws.specs.Tiles.{tilesOf, plainContents, Follows}
+use Rattle.page_laws.specs.Tiles.{tilesOf, Follows, InPlace}
 
 -- a tile of the grid, cell bytes of one tile, and the page does not pass the ceiling
 pub record Stores (s : List ℕ) (i : ℕ) (c : List ℕ) : Type 0 where
@@ -38,6 +38,7 @@ pub record Beside (s : List ℕ) (x k : ℕ) : Type 0 where
 pub record StoredKeeps (s : List ℕ) (i : ℕ) (c : List ℕ) : Type 0 where
   pub open-page : Open (storedPage s i c)
   pub follows : Follows s (storedPage s i c) (λ j. eqb j i) (λ j. pick (eqb j i) (plainContents s c) (tilesOf s j))
+  pub places : InPlace s (storedPage s i c) (λ j. eqb j i)
   -- Req 03, reading 16: the header is as it was, whole
   pub front : Same s (storedPage s i c) 0 (headerEnd s)
   -- Req 03, reading 10: stored over, the page is as long as it was, and each byte beside the record's cell bytes and checksum is as it
@@ -51,6 +52,7 @@ StoredOpen = (s : List ℕ) (i : ℕ) (c : List ℕ) → Stores s i c → Stored
 pub record RemovedKeeps (s : List ℕ) (i : ℕ) : Type 0 where
   pub open-page : Open (removedPage s i)
   pub follows : Follows s (removedPage s i) (λ j. eqb j i) (λ j. pick (eqb j i) [] (tilesOf s j))
+  pub places : InPlace s (removedPage s i) (λ j. eqb j i)
   pub front : Same s (removedPage s i) 0 (headerEnd s)
   -- Req 03, reading 5: the page is as long as it was
   pub long : length (removedPage s i) ≡ length s

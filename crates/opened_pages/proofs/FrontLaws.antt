@@ -7,7 +7,7 @@ use mathlib.Core.Bool.{Bool, true, false}
 use native.Mathlib.Omega.{arith}
 use lib.ListN.{length, take}
 use Rattle.wire.specs.Pick.{pick}
-use Rattle.wire.specs.Bytes.{Bytes, bytesOf, numberAt, put, zeros}
+use Rattle.wire.specs.Bytes.{Bytes, Same, bytesOf, numberAt, put, zeros}
 use Rattle.wire.proofs.TestLaws.{no}
 use Rattle.wire.proofs.ByteLaws.{number-before, bytes-length, bytes-of, bytes-take, zeros-length, zeros-bytes}
 use Rattle.wire.proofs.PutLaws.{length-put, put-aside, put-number, bytes-put}
@@ -27,7 +27,7 @@ use Rattle.writable.specs.Parts.{Parted}
 use Rattle.writable.proofs.PartLaws.{sound-parted}
 use Rattle.correct.specs.Opening.{openedFields, openedReference, openedFront}
 use Rattle.page_laws.specs.Tiles.{SameUnset}
-use Rattle.page_laws.proofs.FrontLaws.{unset-trans, front-unset, parted-unset, parted-number, FieldsSet, set-none, set-field, put-zeros, seal-length, seal-number, seal-unset, seal-judged, seal-header, seal-front, seal-checksum}
+use Rattle.page_laws.proofs.FrontLaws.{parted-number, FieldsSet, set-none, set-field, put-zeros, seal-length, seal-number, seal-judged, seal-header, seal-front, seal-checksum, page-unset, page-between}
 use Rattle.page_laws.proofs.PageLaws.{sound-judged}
 use Rattle.opened_pages.specs.OpenedPages.{Opens}
 
@@ -46,18 +46,18 @@ module _ {s : List ℕ} {t : ℕ} (o : Opens s t) where
 
   -- the fields that are set
 
-  fields-set : FieldsSet f (openedFields s t)
+  fields-set : FieldsSet 64 f (openedFields s t)
   unfolding openedFields
   fields-set =
       let l = least in
-      set-field (set-field (set-none f (omega arith)) 48 (bytesOf 8 t) (bytes-length 8 t) (omega arith) (omega arith) (inl (omega arith))) 56 (zeros 8)
+      set-field (set-field (set-none f (omega arith) (omega arith)) 48 (bytesOf 8 t) (bytes-length 8 t) (omega arith) (omega arith) (inl (omega arith))) 56 (zeros 8)
       (zeros-length 8) (omega arith) (omega arith) (inl (omega arith))
 
-  reference-set : FieldsSet f (openedReference s (openedFields s t))
+  reference-set : FieldsSet 64 f (openedReference s (openedFields s t))
   unfolding openedReference
   reference-set = go (directoryFull s)
     where
-      go : (b : Bool) → FieldsSet f (pick b (openedFields s t) (put (openedFields s t) 80 (bytesOf 8 (contentAt (length s)))))
+      go : (b : Bool) → FieldsSet 64 f (pick b (openedFields s t) (put (openedFields s t) 80 (bytesOf 8 (contentAt (length s)))))
       go true = fields-set
       go false = set-field fields-set 80 (bytesOf 8 (contentAt (length s))) (bytes-length 8 _) (omega arith) (omega arith) (inr (omega arith))
 
@@ -113,10 +113,6 @@ module _ {s : List ℕ} {t : ℕ} (o : Opens s t) where
   pub opened-judged : SameJudged f (openedFront s t)
   unfolding openedFront
   opened-judged = seal-judged s f _ (parted .front) (sym (parted .ends)) reference-set
-
-  pub opened-unset : SameUnset f (openedFront s t)
-  unfolding openedFront
-  opened-unset = seal-unset s f _ (parted .front) (sym (parted .ends)) reference-set
 
   pub opened-header : SameHeader f (openedFront s t)
   unfolding openedFront
@@ -174,8 +170,13 @@ module _ {s : List ℕ} {t : ℕ} (o : Opens s t) where
     page-space = front-number 56 (omega arith) ∙ sealed-number 56 (omega arith) ∙ before-reference 56 (omega arith) ∙ space-set
 
     -- what no call sets, and what is judged of the page
-    pub page-unset : SameUnset s (openedFront s t ++ b)
-    page-unset = unset-trans (parted-unset parted) (unset-trans opened-unset (front-unset opened-front b))
+    pub opened-unset : SameUnset s (openedFront s t ++ b)
+    unfolding openedFront
+    opened-unset = page-unset parted _ reference-set b
+
+    pub opened-between : Same s (openedFront s t ++ b) 64 80
+    unfolding openedFront
+    opened-between = page-between parted _ reference-set b
 
     pub page-judged : SameJudged s (openedFront s t ++ b)
-    page-judged = sound-judged sound page-unset
+    page-judged = sound-judged sound opened-unset

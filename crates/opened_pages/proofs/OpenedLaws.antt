@@ -5,6 +5,7 @@ use mathlib.Core.List.{List, map}
 use mathlib.Core.Bool.{true, false}
 use native.Mathlib.Omega.{arith}
 use lib.ListN.{length}
+use Rattle.wire.proofs.ByteLaws.{same-part}
 use Rattle.record.specs.Chain.{joined}
 use Rattle.check_records.specs.declared.Rule.the-variants.{Body}
 use Rattle.check_lists.specs.Metadata.{metadataDirectoryRight}
@@ -15,11 +16,12 @@ use Rattle.alone.proofs.StandLaws.{standing-keeps, records-are}
 use Rattle.writable.specs.Writable.{directoryFull, Open}
 use Rattle.writable.proofs.PartLaws.{judged-headed}
 use Rattle.correct.specs.Opening.{openedFront, openedPage}
-use Rattle.page_laws.specs.Tiles.{tilesOf, metadataOf, tileDirectoryOf, recordOfTile, Follows}
-use Rattle.page_laws.proofs.TileMapLaws.{pieces-are, tiles-same, records-same, directory-same, metadata-same}
+use Rattle.page_laws.specs.Tiles.{tilesOf, tileDirectoryOf, ofTile}
+use Rattle.page_laws.proofs.TileMapLaws.{pieces-are, tiles-same}
 use Rattle.page_laws.proofs.PageLaws.{parted-alone, made-sound}
+use Rattle.page_laws.proofs.KeptLaws.{KeptBy, kept-standing, kept-places, kept-follows}
 use Rattle.opened_pages.specs.OpenedPages.{Opens, OpenedOpens}
-use Rattle.opened_pages.proofs.FrontLaws.{sound, parted, f, opened-length, opened-front, opened-header, opened-checksum, opened-metadata, page-time, page-modified, page-reference, page-refers, page-opened, page-space, page-unset, page-judged}
+use Rattle.opened_pages.proofs.FrontLaws.{sound, parted, f, opened-length, opened-front, opened-header, opened-checksum, opened-metadata, page-time, page-modified, page-reference, page-refers, page-opened, page-space, opened-unset, opened-between, page-judged}
 use Rattle.opened_pages.proofs.PieceLaws.{qs, page-well, page-alone, page-stays, page-kept, page-spaceless, page-none}
 use Rattle.opened_pages.proofs.DirectoryLaws.{u, directory-right}
 
@@ -66,43 +68,38 @@ module _ {s : List ℕ} {t : ℕ} (o : Opens s t) where
         none-adjoin = ap nothingToJoin (pieces-are (openedFront s t) (opened-front o) (qs o) (page-well o)) ∙ page-none o;
       }
 
-  opened-follows : Follows s (u o) (λ j. false) (tilesOf s)
-  opened-follows =
-      let p = parted o in
+  kept : KeptBy s (f o) (openedFront s t) (qs o) (λ j. false)
+  kept =
       record {
-        header = page-unset o (joined (qs o));
-        records =
-            λ j n.
-            sym
-            (ap (λ (l : List ℕ). recordOfTile l j) (p .whole)
-            ∙ records-same (p .front) (opened-front o) (opened-header o) (pieces s) (qs o) (p .formed) (page-well o)
-            (stays 2 (λ e. omega arith) (λ e. omega arith) (λ e. omega arith)) j);
-        metadata =
-            sym
-            (ap metadataOf (p .whole)
-            ∙ metadata-same (p .front) (opened-front o) (opened-header o) (pieces s) (qs o) (p .formed) (page-well o)
-            (stays 1 (λ e. omega arith) (λ e. omega arith) (λ e. omega arith)) (stays 4 (λ e. omega arith) (λ e. omega arith) (λ e. omega arith)));
-        map-of =
-            λ j.
-            sym
-            (ap (λ (l : List ℕ). tilesOf l j) (p .whole)
-            ∙ tiles-same (p .front) (opened-front o) (opened-header o) (pieces s) (qs o) (p .formed) (page-well o) (parted-alone p Body) (page-alone o Body)
-            (stays 2 (λ e. omega arith) (λ e. omega arith) (λ e. omega arith)) j);
+        parted = parted o;
+        front = opened-front o;
+        formed = page-well o;
+        header = opened-unset o (joined (qs o));
+        reference = same-part (opened-between o (joined (qs o))) 64 72 (omega arith) (omega arith);
+        metadata = stays 1 (λ e. omega arith) (λ e. omega arith) (λ e. omega arith);
+        directory = stays 4 (λ e. omega arith) (λ e. omega arith) (λ e. omega arith);
+        records = λ j n. ap (ofTile j) (sym (stays 2 (λ e. omega arith) (λ e. omega arith) (λ e. omega arith)));
       }
 
-  opened-directory : directoryFull s ≡ true → tileDirectoryOf (u o) ≡ tileDirectoryOf s
-  opened-directory e =
+  opened-tiles : (j : ℕ) → tilesOf (u o) j ≡ tilesOf s j
+  opened-tiles j =
       let p = parted o in
       sym
-      (ap tileDirectoryOf (p .whole)
-      ∙ directory-same (p .front) (opened-front o) (opened-header o) (pieces s) (qs o) (p .formed) (page-well o) (page-kept o e))
+      (ap (λ (l : List ℕ). tilesOf l j) (p .whole)
+      ∙ tiles-same (p .front) (opened-front o) (opened-header o) (pieces s) (qs o) (p .formed) (page-well o) (parted-alone p Body) (page-alone o Body)
+      (stays 2 (λ e. omega arith) (λ e. omega arith) (λ e. omega arith)) j)
+
+  opened-directory : directoryFull s ≡ true → tileDirectoryOf (u o) ≡ tileDirectoryOf s
+  unfolding tileDirectoryOf
+  opened-directory e = kept-standing kept 5 (page-kept o e)
 
 pub opened-opens : OpenedOpens
 unfolding openedPage
 opened-opens s t o =
     record {
       open-page = opened-open o;
-      follows = opened-follows o;
+      follows = kept-follows (kept o) (opened-tiles o);
+      places = kept-places (kept o);
       time = page-time o (joined (qs o));
       modified = page-modified o (joined (qs o));
       directory = opened-directory o;

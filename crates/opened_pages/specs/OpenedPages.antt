@@ -11,7 +11,7 @@ use Rattle.check_header.specs.Ceilings.{mostFileBytes}
 use Rattle.page_check.specs.Accepted.{Obeys}
 use Rattle.writable.specs.Writable.{directoryFull, Open}
 use Rattle.correct.specs.Opening.{openedPage}
-use Rattle.page_laws.specs.Tiles.{tilesOf, tileDirectoryOf, Follows}
+use Rattle.page_laws.specs.Tiles.{tilesOf, tileDirectoryOf, Follows, InPlace}
 
 -- an accepted file, a time of 64 bits that is not zero, and the page does not pass the ceiling
 pub record Opens (s : List ℕ) (t : ℕ) : Type 0 where
@@ -24,6 +24,7 @@ pub record Opens (s : List ℕ) (t : ℕ) : Type 0 where
 pub record OpenedKeeps (s : List ℕ) (t : ℕ) : Type 0 where
   pub open-page : Open (openedPage s t)
   pub follows : Follows s (openedPage s t) (λ j. false) (tilesOf s)
+  pub places : InPlace s (openedPage s t) (λ j. false)
   -- Req 03, reading 15: the opened time is the caller's, the time modified stays
   pub time : timeOpened (openedPage s t) ≡ t
   pub modified : timeModified (openedPage s t) ≡ timeModified s

@@ -9,8 +9,8 @@ use native.Mathlib.Omega.{arith}
 use lib.ListN.{length}
 use Rattle.wire.specs.Bytes.{Bytes, part, bytesOf, numberAt, Same, zeros, put}
 use Rattle.wire.proofs.TestLaws.{means}
-use Rattle.wire.proofs.ByteLaws.{number-before, same-sym, same-trans, same-part, same-append, number-same, byte-same, part-length, bytes-of, bytes-part, zeros-of}
-use Rattle.wire.proofs.PutLaws.{length-put, put-same, put-number, bytes-put}
+use Rattle.wire.proofs.ByteLaws.{number-before, same-sym, same-trans, same-part, same-append, number-same, byte-same, part-length, bytes-part, zeros-of}
+use Rattle.wire.proofs.PutLaws.{length-put, put-same, put-number}
 use Rattle.wire.proofs.PlaceLaws.{Placed, placed-before}
 use Rattle.record.specs.Record.{lengthAt, typeAt}
 use Rattle.record.specs.Chain.{headerEnd, joined}
@@ -43,17 +43,20 @@ judged-trans {s} {t} {u} j k =
 
 -- the header's bytes that no call sets
 
-pub unset-judged : {s t : List ℕ} → SameUnset s t → 288 ≤ headerEnd s → headerEnd s ≤ length s → SameJudged s t
-unset-judged k l h =
+pub judged-kept : {s t : List ℕ} → Same s t 0 40 → Same s t 88 (headerEnd s - 4) → 288 ≤ headerEnd s → headerEnd s ≤ length s → headerEnd s ≤ length t → SameJudged s t
+judged-kept low high l h k =
     record {
-      block = same-part (k .low) 0 14 (omega arith) (omega arith);
-      frame = same-part (k .low) 16 21 (omega arith) (omega arith);
-      sides = same-part (k .high) 104 120 (omega arith) (omega arith);
-      options = same-part (k .high) 128 131 (omega arith) (omega arith);
-      rest = same-part (k .high) 280 _ (omega arith) (omega arith);
+      block = same-part low 0 14 (omega arith) (omega arith);
+      frame = same-part low 16 21 (omega arith) (omega arith);
+      sides = same-part high 104 120 (omega arith) (omega arith);
+      options = same-part high 128 131 (omega arith) (omega arith);
+      rest = same-part high 280 _ (omega arith) (omega arith);
       in-first = h;
-      in-second = k .whole;
+      in-second = k;
     }
+
+pub judged-then : {s d e : List ℕ} → SameJudged s d → 288 ≤ headerEnd s → Same d e 0 40 → Same d e 88 (headerEnd s - 4) → headerEnd s ≤ length e → SameJudged s e
+judged-then j l low high h = let z = end-same (j .frame) in judged-trans j (judged-kept low (rw (← z) high) (omega arith) (omega (arith, j .in-second)) (omega arith))
 
 unset-end : {s t : List ℕ} → SameUnset s t → headerEnd s ≡ headerEnd t
 unset-end k = end-same (same-part (k .low) 16 21 (omega arith) (omega arith))
@@ -73,7 +76,7 @@ pub same-unset : {s t : List ℕ} → Same s t 0 (headerEnd s) → 288 ≤ heade
 same-unset k l =
     record {
       low = same-part k 0 40 (omega arith) (omega arith);
-      between = same-part k 64 80 (omega arith) (omega arith);
+      between = same-part k 72 80 (omega arith) (omega arith);
       high = same-part k 88 _ (omega arith) (omega arith);
       whole = k .in-second;
     }
@@ -98,16 +101,18 @@ parted-number {s} {f} {rs} p w at h =
     let l = front-long (p .front) [] in
     sym (number-before w f (joined rs) at (omega arith)) ∙ ap (λ (l : List ℕ). numberAt w l at) (sym (p .whole))
 
--- g is f but for bytes between 40 and 64, and 80 and 88: times and references
-pub record FieldsSet (f g : List ℕ) : Type 0 where
+-- g is f but for bytes from 40 up to m and from 80 up to 88: times and references
+pub record FieldsSet (m : ℕ) (f g : List ℕ) : Type 0 where
+  pub most : m ≤ 72
   pub long : length g ≡ length f
   pub below : Same f g 0 40
-  pub between : Same f g 64 80
+  pub between : Same f g m 80
   pub above : Same f g 88 (length f)
 
-pub set-none : (f : List ℕ) → 88 ≤ length f → FieldsSet f f
-set-none f h =
+pub set-none : {m : ℕ} (f : List ℕ) → 88 ≤ length f → m ≤ 72 → FieldsSet m f f
+set-none f h l =
     record {
+      most = l;
       long = refl;
       below = record { in-first = omega arith; in-second = omega arith; each = λ i l m. refl };
       between = record { in-first = omega arith; in-second = omega arith; each = λ i l m. refl };
@@ -116,13 +121,14 @@ set-none f h =
 
 -- one field more
 pub set-field :
-    {f g : List ℕ} → FieldsSet f g → (at : ℕ) (v : List ℕ) {n : ℕ} → length v ≡ n → 40 ≤ at → at + n ≤ 88 → (at + n ≤ 64) ⊎ (80 ≤ at) →
-    FieldsSet f (put g at v)
-set-field {f} {g} k at v e h l o =
+    {m : ℕ} {f g : List ℕ} → FieldsSet m f g → (at : ℕ) (v : List ℕ) {n : ℕ} → length v ≡ n → 40 ≤ at → at + n ≤ 88 → (at + n ≤ m) ⊎ (80 ≤ at) →
+    FieldsSet m f (put g at v)
+set-field {m} {f} {g} k at v e h l o =
     record {
+      most = k .most;
       long = length-put g at v ∙ k .long;
       below = same-trans (k .below) (put-same g at v 0 40 (k .below .in-second) (inl h));
-      between = same-trans (k .between) (put-same g at v 64 80 (k .between .in-second) (⊎-elim (λ p. inr (omega arith)) (λ p. inl p) o));
+      between = same-trans (k .between) (put-same g at v m 80 (k .between .in-second) (⊎-elim (λ p. inr (omega arith)) (λ p. inl p) o));
       above = same-trans (k .above) (put-same g at v 88 (length f) (k .above .in-second) (inr (omega arith)));
     }
 
@@ -130,7 +136,7 @@ set-field {f} {g} k at v e h l o =
 pub put-zeros : (w : ℕ) (d : List ℕ) (at : ℕ) → at + w ≤ length d → 0 < 256 ^ w → numberAt w (put d at (zeros w)) at ≡ 0
 put-zeros w d at h k = rw (zeros-of w) (put-number w 0 d at h k)
 
-module _ (s f g : List ℕ) (w : Front f) (e : headerEnd s ≡ length f) (k : FieldsSet f g) where
+module _ {m : ℕ} (s f g : List ℕ) (w : Front f) (e : headerEnd s ≡ length f) (k : FieldsSet m f g) where
   least : 288 ≤ length f
   least = front-long w []
 
@@ -149,9 +155,8 @@ module _ (s f g : List ℕ) (w : Front f) (e : headerEnd s ≡ length f) (k : Fi
   pub seal-number : (n at : ℕ) → at + n + 4 ≤ length f → numberAt n (sealedFront s g) at ≡ numberAt n g at
   seal-number n at h = sym (number-same (seal-same at (at + n) h) n at (omega arith) (omega arith))
 
-  pub seal-bytes : Bytes g → Bytes (sealedFront s g)
-  unfolding sealedFront sealed
-  seal-bytes b = bytes-put _ b (bytes-of 4 _)
+  pub seal-between : Same f (sealedFront s g) m 80
+  seal-between = let l = least in same-trans (k .between) (seal-same m 80 (omega arith))
 
   pub seal-unset : SameUnset f (sealedFront s g)
   seal-unset =
@@ -159,13 +164,13 @@ module _ (s f g : List ℕ) (w : Front f) (e : headerEnd s ≡ length f) (k : Fi
       let z = w .whole in
       record {
         low = same-trans (k .below) (seal-same 0 40 (omega arith));
-        between = same-trans (k .between) (seal-same 64 80 (omega arith));
+        between = same-part seal-between 72 80 (k .most) (omega arith);
         high = same-trans (same-part (k .above) 88 (headerEnd f - 4) (omega arith) (omega arith)) (seal-same 88 (headerEnd f - 4) (omega arith));
         whole = omega (arith, seal-length);
       }
 
   pub seal-judged : SameJudged f (sealedFront s g)
-  seal-judged = let l = least in let z = w .whole in unset-judged seal-unset (omega arith) (omega arith)
+  seal-judged = let l = least in let z = w .whole in let u = seal-unset in judged-kept (u .low) (u .high) (omega arith) (omega arith) (u .whole)
 
   pub seal-header : SameHeader f (sealedFront s g)
   seal-header = judged-header f (sealedFront s g) (length f) seal-judged (w .right) (w .few)
@@ -209,3 +214,17 @@ module _ (s f g : List ℕ) (w : Front f) (e : headerEnd s ≡ length f) (k : Fi
       let x : checksumEnabled s ≡ checksumEnabled t =
       flag ∙ option f (sealedFront s g) seal-judged 128 (omega arith) (omega arith) ∙ byte-same c 128 (omega arith) (omega arith) in
       checksum-placed u _ (placed-before sealed-there b) (rw x) (bytes-part 16 _ v) (omega arith) (λ y. omega (arith, p, y))
+
+-- a page with such a front, whatever stands behind it
+module _ {m : ℕ} {s f : List ℕ} {rs : List (List ℕ)} (p : Parted s f rs) (g : List ℕ) (k : FieldsSet m f g) (b : List ℕ) where
+  ends : headerEnd s ≡ length f
+  ends = sym (p .ends)
+
+  pub page-unset : SameUnset s (sealedFront s g ++ b)
+  page-unset = unset-trans (parted-unset p) (unset-trans (seal-unset s f g (p .front) ends k) (front-unset (seal-front s f g (p .front) ends k) b))
+
+  pub page-between : Same s (sealedFront s g ++ b) m 80
+  page-between =
+      let l = front-long (p .front) [] in
+      let x : Same s f m 80 = rw (← p .whole) at (same-sym (same-append f (joined rs) m 80 (omega arith))) in
+      same-trans x (same-trans (seal-between s f g (p .front) ends k) (same-append (sealedFront s g) b m 80 (omega (arith, seal-length s f g (p .front) ends k))))

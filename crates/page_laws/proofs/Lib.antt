@@ -7,3 +7,4 @@ pub mod ListedLaws
 pub mod FormLaws
 pub mod TilesKeptLaws
 pub mod PageLaws
+pub mod KeptLaws

@@ -22,7 +22,7 @@ use Rattle.alone.proofs.PieceLaws.{none-here, here-right, wrong-none, checksums
 use Rattle.alone.proofs.EditedLaws.{chain-none}
 use Rattle.writable.specs.Parts.{Parted}
 use Rattle.page_laws.specs.Tiles.{SameUnset}
-use Rattle.page_laws.proofs.FrontLaws.{unset-judged}
+use Rattle.page_laws.proofs.FrontLaws.{judged-kept}
 
 -- the pieces of a sound page keep stages 7 and 8
 pub parted-alone : {s f : List ℕ} {rs : List (List ℕ)} → Parted s f rs → (rule : Rule) → AllAlone f rule rs
@@ -35,7 +35,7 @@ parted-alone {s} {f} {rs} p Body = wrong-none f (p .front) rs (p .formed) Body (
 
 -- what is judged of a page that keeps the header's bytes which no call sets
 pub sound-judged : {s t : List ℕ} → Sound s → SameUnset s t → SameJudged s t
-sound-judged {s} o k = let r = sound-range s (records s) o in unset-judged k (r .header-least) (r .header-inside)
+sound-judged {s} o k = let r = sound-range s (records s) o in judged-kept (k .low) (k .high) (r .header-least) (r .header-inside) (k .whole)
 
 -- and a page of pieces that keep them is sound
 pub made-sound :

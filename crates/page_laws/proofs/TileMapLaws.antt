@@ -1,4 +1,4 @@
--- A page's tiles and metadata by its pieces. Assumes nothing.
+-- A page's tiles and its records of a type by its pieces. Assumes nothing.
 use Prim.Native.Nat.{ℕ, zero, suc, _+_, _≤_, _<_}
 use mathlib.Core.Path.{_≡_, refl, sym, ap, ap₂, _∙_}
 use mathlib.Core.List.{List, [], _∷_, _++_, map, map-append, append-assoc}
@@ -30,7 +30,7 @@ use Rattle.alone.proofs.MovedLaws.{type-same}
 use Rattle.alone.proofs.TileLaws.{index-same, tile-alone}
 use Rattle.alone.proofs.PieceLaws.{placed-same, alone-is, pieces-joined, starts-are}
 use Rattle.correct.specs.Storing.{tileAt}
-use Rattle.page_laws.specs.Tiles.{contentsIn, contentsOf, tilesOf, metadataOf, tileDirectoryOf, ofTile, recordOfTile}
+use Rattle.page_laws.specs.Tiles.{contentsIn, contentsOf, tilesOf, standingOf}
 use Rattle.page_laws.specs.TileMap.{contentsAlone, heldIn}
 
 -- a tile record that stands at two places
@@ -105,17 +105,9 @@ module _ (f : List ℕ) (w : Front f) where
   unfolding pieces
   pieces-are rs v = ap (piecesOf (f ++ joined rs)) (starts-are f w rs v) ∙ pieces-joined (f ++ joined rs) f rs refl v
 
-  pub metadata-stands : (rs : List (List ℕ)) → WellFormed rs → metadataOf (f ++ joined rs) ≡ standing 1 (length f) rs ++ standing 4 (length f) rs
-  unfolding metadataOf
-  metadata-stands rs v = rw (front-end w (joined rs), pieces-are rs v)
-
-  pub directory-stands : (rs : List (List ℕ)) → WellFormed rs → tileDirectoryOf (f ++ joined rs) ≡ standing 5 (length f) rs
-  unfolding tileDirectoryOf
-  directory-stands rs v = rw (front-end w (joined rs), pieces-are rs v)
-
-  pub records-stand : (rs : List (List ℕ)) → WellFormed rs → (j : ℕ) → recordOfTile (f ++ joined rs) j ≡ ofTile j (standing 2 (length f) rs)
-  unfolding recordOfTile
-  records-stand rs v j = rw (front-end w (joined rs), pieces-are rs v)
+  pub stands-of : (kind : ℕ) (rs : List (List ℕ)) → WellFormed rs → standingOf kind (f ++ joined rs) ≡ standing kind (length f) rs
+  unfolding standingOf
+  stands-of kind rs v = rw (front-end w (joined rs), pieces-are rs v)
 
 -- two pages whose headers say the same
 
@@ -125,15 +117,3 @@ module _ {f g : List ℕ} (w : Front f) (u : Front g) (h : SameHeader f g) (rs q
       tilesOf (f ++ joined rs) j ≡ tilesOf (g ++ joined qs) j
   tiles-same a b e j =
       tiles-stand f w rs v a j ∙ ap₂ (λ (n : ℕ) (ps : List (ℕ × List ℕ)). heldIn n j ps) (h .count) e ∙ sym (tiles-stand g u qs x b j)
-
-  pub records-same : standing 2 (length f) rs ≡ standing 2 (length g) qs → (j : ℕ) → recordOfTile (f ++ joined rs) j ≡ recordOfTile (g ++ joined qs) j
-  records-same e j = records-stand f w rs v j ∙ ap (ofTile j) e ∙ sym (records-stand g u qs x j)
-
-  pub directory-same : standing 5 (length f) rs ≡ standing 5 (length g) qs → tileDirectoryOf (f ++ joined rs) ≡ tileDirectoryOf (g ++ joined qs)
-  directory-same e = directory-stands f w rs v ∙ e ∙ sym (directory-stands g u qs x)
-
-  pub metadata-same :
-      standing 1 (length f) rs ≡ standing 1 (length g) qs → standing 4 (length f) rs ≡ standing 4 (length g) qs →
-      metadataOf (f ++ joined rs) ≡ metadataOf (g ++ joined qs)
-  metadata-same a b =
-      metadata-stands f w rs v ∙ ap₂ (λ (p q : List (ℕ × List ℕ)). p ++ q) a b ∙ sym (metadata-stands g u qs x)

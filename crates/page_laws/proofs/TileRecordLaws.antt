@@ -23,8 +23,8 @@ use Rattle.alone.proofs.PieceLaws.{placed-same, starts-are}
 use Rattle.alone.proofs.StandLaws.{Stands, stands}
 use Rattle.writable.proofs.PartLaws.{sound-parted}
 use Rattle.correct.specs.Storing.{tileAt}
-use Rattle.page_laws.specs.Tiles.{ofTile, recordOfTile}
-use Rattle.page_laws.proofs.TileMapLaws.{carries-same, records-stand}
+use Rattle.page_laws.specs.Tiles.{standingOf, ofTile, recordOfTile}
+use Rattle.page_laws.proofs.TileMapLaws.{carries-same, stands-of}
 
 -- where the first of some records stands
 abbrev firstPlace : List (ℕ × List ℕ) → Found
@@ -69,17 +69,17 @@ module _ (s : List ℕ) (o : Sound s) (j : ℕ) where
   t = f ++ joined (pieces s)
 
   found-first : tileAt s j ≡ firstPlace (recordOfTile s j)
-  unfolding tileAt walkedTo firstRecord records
+  unfolding tileAt walkedTo firstRecord records recordOfTile
   found-first =
       let p = sound-parted s o in
       ap (λ (l : List ℕ). tileAt l j) (p .whole)
       ∙ ap (find (carries t j)) (starts-are f (p .front) (pieces s) (p .formed))
       ∙ first-found t f (pieces s) refl (p .formed) j
-      ∙ ap firstPlace (sym (records-stand f (p .front) (pieces s) (p .formed) j))
+      ∙ ap (λ (l : List (ℕ × List ℕ)). firstPlace (ofTile j l)) (sym (stands-of f (p .front) 2 (pieces s) (p .formed)))
       ∙ ap (λ (l : List ℕ). firstPlace (recordOfTile l j)) (sym (p .whole))
 
   found-stands : (q : ℕ × List ℕ) (ps : List (ℕ × List ℕ)) → recordOfTile s j ≡ q ∷ ps → Stands s (pieces s) 2 q
-  unfolding recordOfTile
+  unfolding recordOfTile standingOf
   found-stands q ps e =
       let p = sound-parted s o in
       let m : List·Memᴰ q (ofTile j (standing 2 (headerEnd s) (pieces s))) = rw e (List·Memᴰ·head refl) in

@@ -12,11 +12,11 @@ use Rattle.answer.specs.declared.Verdict.the-variants.{Accepted, Refused}
 use Rattle.answer.specs.declared.Laid.the-variants.{Length}
 use Rattle.check_header.specs.Ceilings.{mostFileBytes}
 use Rattle.page_check.specs.Stages.{check}
-use Rattle.stores.specs.Stores.{Write, storeCount}
+use Rattle.stores.specs.Stores.{storeCount}
 use Rattle.correct.specs.Front.{pageIn}
 use Rattle.correct.specs.Closing.{closedPage}
-use Rattle.corrected.specs.Sequence.{Call, State, Given, AllGiven, pageOf, answerOf, outOf, afterAll}
-use Rattle.power.specs.Calls.{storesOf, stoppedOut, storesOfAll, cutAt, NoneCloses}
+use Rattle.correct.specs.Calls.{Call, Given, AllGiven, State, pageOf, answerOf, outOf, storesOf, afterAll}
+use Rattle.power.specs.Calls.{stoppedOut, storesOfAll, cutAt, NoneCloses}
 
 -- calls, and then a closing
 abbrev pub andClose : List Call → ℕ → List Call

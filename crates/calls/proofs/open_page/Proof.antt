@@ -1,6 +1,7 @@
 -- `calls::open_page` meets its contract. Assumes nothing.
 use native.Mathlib.Omega.{arith}
-use Rattle.calls.proofs.AnswerLaws.{open-whole}
+use Rattle.effects.proofs.OpenEffects.{open-makes}
+use Rattle.calls.proofs.AnswerLaws.{whole-call}
 use borrow.Author.Needs.{needs}
 use Rattle.calls.proofs.open_page.Statement.{statement}
 use Rattle.calls.proofs.open_page.Tie as tie
@@ -11,4 +12,4 @@ open-page-spec =
     (tie.spec
     (λ c κs. search needs)
     (λ c. search needs)
-    (λ c. (c .before .before .open-page-stopped .ensures .0, open-whole _ _ _ (record { small = λ i. omega (arith, c .before .before .before .before .slice-known .given i) }) (c .before .before .open-page-stopped .ensures .1 .1))))
+    (λ c. (c .before .before .open-page-stopped .ensures .0, whole-call _ (open-makes _) _ _ (record { small = λ i. omega (arith, c .before .before .before .before .slice-known .given i) }) (c .before .before .open-page-stopped .ensures .1 .1))))

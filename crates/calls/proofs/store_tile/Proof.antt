@@ -1,6 +1,7 @@
 -- `calls::store_tile` meets its contract. Assumes nothing.
 use native.Mathlib.Omega.{arith}
-use Rattle.calls.proofs.AnswerLaws.{store-whole}
+use Rattle.effects.proofs.StoreEffects.{store-makes}
+use Rattle.calls.proofs.AnswerLaws.{whole-call}
 use borrow.Author.Needs.{needs}
 use Rattle.calls.proofs.store_tile.Statement.{statement}
 use Rattle.calls.proofs.store_tile.Tie as tie
@@ -11,4 +12,4 @@ store-tile-spec =
     (tie.spec
     (λ c κs. search needs)
     (λ c. search needs)
-    (λ c. (c .before .before .store-tile-stopped .ensures .0, store-whole _ _ _ _ (record { small = λ i. omega (arith, c .before .before .before .before .before .slice-known .given i) }) (record { small = λ i. omega (arith, c .before .before .before .before .shared-slice-known .given i) }) (c .before .before .store-tile-stopped .ensures .1 .1))))
+    (λ c. (c .before .before .store-tile-stopped .ensures .0, whole-call _ (store-makes _ _) _ _ (record { small = λ i. omega (arith, c .before .before .before .before .before .slice-known .given i) }) (c .before .before .store-tile-stopped .ensures .1 .1))))

@@ -10,6 +10,6 @@ is-there-spec =
     (tie.spec
     (λ c κs. search needs)
     (λ c. search needs)
-    (λ c. there-yes _ _ (c .before .before .tile-at .ensures) _ (c .enum-told .given .1))
+    (λ c. there-yes _ _ (c .before .before .tile-referred .ensures) _ (c .enum-told .given .1))
     (λ c. search needs)
-    (λ c. there-no _ _ (c .before .before .tile-at .ensures) (c .enum-told2 .given .1)))
+    (λ c. there-no _ _ (c .before .before .tile-referred .ensures) (c .enum-told2 .given .1)))

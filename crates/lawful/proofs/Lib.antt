@@ -1,0 +1,5 @@
+pub mod PageBytes
+pub mod HarmlessLaws
+pub mod MarkLaws
+pub mod CaseLaws
+pub mod StepLaws
