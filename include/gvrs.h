@@ -270,6 +270,18 @@ uint32_t gvrs_remove_tile(uint8_t *file, uint64_t file_n, uint64_t n, uint64_t t
    directory goes to the page's end: 13 or 4. */
 uint32_t gvrs_close_page(uint8_t *file, uint64_t file_n, uint64_t n, uint64_t time, uint64_t *out, uint64_t out_n);
 
+/* Replays a correction log on an open page: each entry is gvrs_store_tile or gvrs_remove_tile on what the last left, and the page and the
+   whole log are judged once, before the first. A log is a number of four bytes, that of the bytes behind it, and a version byte 1; then come
+   entries up to its last byte: a byte 1, an index of four bytes and the bytes of a tile, which stores it, or a byte 2 and an index, which
+   removes it. Numbers have their highest byte first. The log is not changed, and does not overlap the buffer.
+
+   0: out[0] is the page's length, out[1] the number of entries. 13 or 4 stops it at the first entry that gets that answer: out[0] is the
+   page's length and out[1] the number of entries done before it, and against what is said above the page is as these left it, and open. Any
+   other refusal comes before the first entry, and nothing has changed: out[0] is its place, out[1] is 0: 12 where n is past the buffer,
+   15, then 12 where the log is not so, or where an index anywhere in it is past the tiles. Once it is replayed to the end, the tiles
+   depend on the tiles before and on the last entry for each index alone. */
+uint32_t gvrs_replay(uint8_t *file, uint64_t file_n, uint64_t n, const uint8_t *log, uint64_t log_n, uint64_t *out, uint64_t out_n);
+
 /* The four calls, each stopped after a number of byte stores: what stands in the buffer where the power is cut. Each answers as the call
    does: 0, and out[0] is the length that the whole call reaches, or the refusal's number and its place. out[1] is the number of byte stores
    that it has made, at most `stores`, and 0 where it is refused. The buffer holds what the call's first stores make of it; one more changes

@@ -25,6 +25,8 @@ use Rattle.page_check.specs.Stages.{check}
 use Rattle.cells.specs.Reads.{readByDirectory, readByWalk, readByRecords, readMeaning, recordsMeaning}
 use Rattle.cells.proofs.ReadLaws.{directory-read, walk-read, records-read}
 use Rattle.cells.specs.TileCells.{heldBits, heldCount}
+use Rattle.replay.specs.declared.Replayed.{Replayed}
+use Rattle.replay.specs.Replay.{replayedNumber, replayedLength, replayedEntries}
 use Rattle.gvrs_c.proofs.DescriptionLaws.{list-told}
 use Rattle.gvrs_c.specs.Report.{reported, startNumbers, cellNumbers, contentNumbers, heldNumbers, laidReport}
 use Rattle.gvrs_c.specs.Route.{readBy, meaningBy, RouteMeans}
@@ -174,6 +176,12 @@ pub stopped-handed :
     (o p f g : List ℕ) (x y : Laid) (n a b : ℕ) → x ≡ y → a ≡ b → f ≡ g → n ≡ laidNumber x → p ≡ reported (laidReport x ∷ a ∷ []) o →
     (n ≡ laidNumber y) × ((p ≡ reported (laidReport y ∷ b ∷ []) o) × (f ≡ g))
 stopped-handed o p f g x y n a b e d h i j = (rw (← e) i, (rw (← e, ← d) j, h))
+
+-- and of a replay
+pub replayed-handed :
+    (o p f g : List ℕ) (x y : Replayed) (n : ℕ) → x ≡ y → f ≡ g → n ≡ replayedNumber x → p ≡ reported (replayedLength x ∷ replayedEntries x ∷ []) o →
+    (n ≡ replayedNumber y) × ((p ≡ reported (replayedLength y ∷ replayedEntries y ∷ []) o) × (f ≡ g))
+replayed-handed o p f g x y n e h i j = (rw (← e) i, (rw (← e) j, h))
 
 -- names compared
 pub compare-told :

@@ -1,10 +1,12 @@
-// A page corrected where it lies, and the calls that stop after a number of byte stores.
+// A page corrected where it lies, correction logs, and the calls that stop after a number of byte stores.
 use calls::StoppedCall;
 use calls::stops;
+use replay::Replayed;
 ghost use mathlib.Core.Path.{_≡_};
 ghost use mathlib.Core.List.{[], _∷_};
 ghost use Rattle.answer.specs.Answers.{laidNumber};
 ghost use Rattle.correct.specs.Calls.{Call, changeOf, answerBy, outBy, stoppedBy, madeBy};
+ghost use Rattle.replay.specs.Replay.{replayAnswer, replayOut, replayedNumber, replayedLength, replayedEntries};
 ghost use Rattle.gvrs_c.specs.Report.{reported, laidReport};
 
 // Opens the page in the first n bytes of the buffer for writing.
@@ -55,6 +57,27 @@ pub extern "C" fn gvrs_close_page(file: &mut [u8], n: u64, time: u64, out: &mut 
 {
     let x = calls::close_page(file, n as usize, time);
     crate::tell_laid(x, out)
+}
+
+// The same of a replay; out[1] takes the number of entries done.
+fn tell_replayed(x: Replayed, out: &mut [u64]) -> u32
+    ensures number { λ r. ⌜ r ≡ replayedNumber x ⌝ }
+    ensures numbers { λ _. ⌜ now (out .exit) ≡ reported (replayedLength x ∷ replayedEntries x ∷ []) (now (out .entry)) ⌝ }
+{
+    crate::report(out, 0, replay::replayed_length(x) as u64);
+    crate::report(out, 1, replay::replayed_entries(x) as u64);
+    replay::replayed_number(x)
+}
+
+// Replays a correction log on the open page, up to the first entry that is refused with 13 or 4.
+#[no_mangle]
+pub extern "C" fn gvrs_replay(file: &mut [u8], n: u64, log: &[u8], out: &mut [u64]) -> u32
+    ensures number { λ r. ⌜ r ≡ replayedNumber (replayAnswer (now (file .entry)) n (now (log .entry))) ⌝ }
+    ensures numbers { λ _. ⌜ now (out .exit) ≡ reported (replayedLength (replayAnswer (now (file .entry)) n (now (log .entry))) ∷ replayedEntries (replayAnswer (now (file .entry)) n (now (log .entry))) ∷ []) (now (out .entry)) ⌝ }
+    ensures buffer { λ _. ⌜ now (file .exit) ≡ replayOut (now (file .entry)) n (now (log .entry)) ⌝ }
+{
+    let x = replay::replay(file, n as usize, log);
+    tell_replayed(x, out)
 }
 
 // The same of a call that stops; out[1] takes the number of byte stores that it has made.
