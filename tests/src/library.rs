@@ -182,6 +182,15 @@ extern "C" {
         out: *mut u64,
         out_n: u64,
     ) -> u32;
+    fn gvrs_replay(
+        file: *mut u8,
+        file_n: u64,
+        n: u64,
+        log: *const u8,
+        log_n: u64,
+        out: *mut u64,
+        out_n: u64,
+    ) -> u32;
     fn gvrs_list(file: *const u8, n: u64, text: *mut u8, text_n: u64) -> u64;
     fn gvrs_is_identifier(name: *const u8, n: u64) -> u32;
     fn gvrs_is_utf8(text: *const u8, n: u64) -> u32;
@@ -576,7 +585,16 @@ pub fn correct_into(file: &mut [u8], n: u64, call: &Call, out: &mut [u64]) -> u3
     }
 }
 
-/// The same, stopped after so many byte stores. Their number goes into `out` too.
+/// The number of a replay, on such a buffer. The length or the place, and the entries done, go into
+/// `out`, of any length.
+pub fn replay_into(file: &mut [u8], n: u64, log: &[u8], out: &mut [u64]) -> u32 {
+    let (bytes, file_n) = (file.as_mut_ptr(), file.len() as u64);
+    let (log, log_n) = (log.as_ptr(), log.len() as u64);
+    // All slices are alive for the whole call and do not overlap.
+    unsafe { gvrs_replay(bytes, file_n, n, log, log_n, out.as_mut_ptr(), out.len() as u64) }
+}
+
+/// The same as `correct_into`, stopped after so many byte stores. Their number goes into `out` too.
 pub fn correct_stopped_into(
     file: &mut [u8],
     n: u64,

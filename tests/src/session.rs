@@ -184,7 +184,7 @@ impl Session {
     }
 
     /// The bytes of one tile by their elements.
-    fn parted(&self, cells: &[u8]) -> Vec<Vec<u8>> {
+    pub fn parted(&self, cells: &[u8]) -> Vec<Vec<u8>> {
         let mut cells = cells;
         let mut parts = Vec::new();
         for size in &self.sizes {

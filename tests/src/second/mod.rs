@@ -24,6 +24,7 @@ pub mod open_page;
 pub mod pack;
 pub mod predict;
 pub mod rectangles;
+pub mod replay;
 pub mod sheets;
 pub mod start;
 pub mod unpack;

@@ -85,6 +85,7 @@ impl Run {
             Function::new("gvrs_sheet_in", self.sheets.answers(Way::In)),
             Function::new("gvrs_sheet_out", self.sheets.answers(Way::Out)),
             Function::new("gvrs_list", self.listings.answers()),
+            Function::new("gvrs_replay", self.replays.answers()),
             Function::new("gvrs_is_identifier", [(0, self.names)].into_iter()),
             Function::new("gvrs_is_utf8", [(0, self.texts)].into_iter()),
             Function::new("gvrs_compare_names", [(0, self.name_pairs)].into_iter()),

@@ -27,6 +27,7 @@ mod names;
 mod out;
 mod packed;
 mod reads;
+mod replays;
 mod run;
 mod sample_sums;
 mod sheets;
@@ -65,7 +66,7 @@ fn main() -> ExitCode {
 
 /// Every section. Each has a generator of its own, so that one can change without the others.
 fn whole_run(seed: u64, small: bool) -> bool {
-    let sections: [fn(&mut Run, &mut Prng); 24] = [
+    let sections: [fn(&mut Run, &mut Prng); 25] = [
         sample_sums::section,
         made::section,
         allowed::section,
@@ -90,6 +91,7 @@ fn whole_run(seed: u64, small: bool) -> bool {
         corrections::section,
         comparisons::section,
         sheets::section,
+        replays::section,
     ];
     let mut run = Run::new(small);
     for (number, section) in sections.into_iter().enumerate() {

@@ -15,6 +15,7 @@ use crate::lay_downs;
 use crate::listings;
 use crate::packed;
 use crate::reads;
+use crate::replays;
 use crate::sheets;
 use crate::starts;
 
@@ -41,6 +42,7 @@ pub struct Run {
     pub deeds: deeds::tally::Tally,
     pub corrections: corrections::tally::Tally,
     pub comparisons: comparisons::tally::Tally,
+    pub replays: replays::tally::Tally,
     pub sheets: sheets::tally::Tally,
     /// Names asked about.
     pub names: usize,
@@ -85,6 +87,7 @@ impl Run {
             deeds: deeds::tally::Tally::new(),
             corrections: corrections::tally::Tally::new(),
             comparisons: comparisons::tally::Tally::new(),
+            replays: replays::tally::Tally::new(),
             sheets: sheets::tally::Tally::new(),
             names: 0,
             texts: 0,
@@ -222,6 +225,7 @@ impl Run {
         self.deeds.report();
         self.corrections.report();
         self.comparisons.report();
+        self.replays.report();
         self.sheets.report();
         closing::report(&self.functions());
         if !self.small {
@@ -302,6 +306,10 @@ impl Run {
         }
         for thing in self.comparisons.missed() {
             println!("FAULT: comparisons: never or wrongly reached: {thing}");
+            self.faults += 1;
+        }
+        for thing in self.replays.missed() {
+            println!("FAULT: replays: never or wrongly reached: {thing}");
             self.faults += 1;
         }
         for thing in self.sheets.missed() {

@@ -12,10 +12,10 @@ use crate::run::Run;
 
 const SORT: &str = "pages at the ceiling";
 
-const CEILING: usize = 16_777_216;
+pub const CEILING: usize = 16_777_216;
 /// A tile directory of four tiles, a tile record of four Integers, a list of one free record.
 const DIRECTORY: usize = 56;
-const RECORD: usize = 40;
+pub const RECORD: usize = 40;
 const LIST: usize = 32;
 
 const OPEN: Call = Call::Open { time: 5 };
@@ -33,7 +33,7 @@ pub fn section(run: &mut Run, random: &mut Prng) {
 }
 
 /// Two by two tiles of four Integers. A metadata record brings the file to its length.
-fn filled(mut page: Page, length: usize, checksums: bool) -> Vec<u8> {
+pub fn filled(mut page: Page, length: usize, checksums: bool) -> Vec<u8> {
     page.checksums = checksums;
     page.records.push(Record::new(Body::Metadata(Metadata::new(b"fill", 1))));
     let last = page.records.len() - 1;
@@ -57,7 +57,7 @@ fn empty_directory() -> Page {
     page
 }
 
-fn open() -> Page {
+pub fn open() -> Page {
     let mut page = accepted();
     page.time_opened = 3;
     page

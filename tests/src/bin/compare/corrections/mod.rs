@@ -3,14 +3,14 @@
 mod addresses;
 pub mod ask;
 mod changed;
-mod long_files;
+pub mod long_files;
 mod not_open;
 mod noted;
 mod places;
 mod read_back;
 mod refused;
 mod rooms;
-mod sample;
+pub mod sample;
 mod sequences;
 mod stopped;
 pub mod tally;
