@@ -25,6 +25,7 @@ struct request {
     uint64_t time;        /* milliseconds since 1970 */
     uint64_t wait;        /* seconds; 0 where none are given */
     int quiet;
+    int partial;          /* whether a replay that stops is written */
 };
 
 /* The file that the command is about, and the second of a comparison: room for the longest and a byte more, so that a longer one is
@@ -53,6 +54,9 @@ int read_stream(int stream, const char *name, uint8_t *bytes, uint64_t room, uin
 int read_file(const char *name, uint8_t *bytes, uint64_t room, uint64_t *n);
 int read_page(const char *name);
 int read_second_page(const char *name);
+
+/* Reads a file whole, of up to `most` bytes, or as much of a longer one as shows that it is longer. NULL where that fails, which is said. */
+uint8_t *read_long(const char *name, uint64_t most, uint64_t *n);
 
 /* The element that an argument names by its number or its name: DONE, REFUSED or FAILED. */
 int element_given(const char *text, uint64_t *element);
@@ -87,6 +91,7 @@ int run_deed(const struct request *request);
 int run_compare(const struct request *request);
 int run_store(const struct request *request);
 int run_remove(const struct request *request);
+int run_replay(const struct request *request);
 int run_sheet_in(const struct request *request);
 int run_sheet_out(const struct request *request);
 

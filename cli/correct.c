@@ -1,4 +1,4 @@
-/* cli/correct.c: the commands that correct a page: store, remove. The file is locked; the page is corrected in a buffer, written to a
+/* cli/correct.c: the commands that correct a page: store, remove, replay. The file is locked; the page is corrected in a buffer, written to a
    copy beside the file, and the copy takes the file's name. A symbolic link is followed: it stays, and the file that it names is
    replaced. */
 #define _DEFAULT_SOURCE
@@ -154,6 +154,9 @@ static int replace(const struct original *o) {
     return status;
 }
 
+/* The longest log: a length of four bytes, and as many as it can state. */
+static const uint64_t LONGEST_LOG = 4 + (uint64_t)UINT32_MAX;
+
 /* A tile, and the file with the bytes that it is to hold; none where it is to be removed. */
 struct change {
     uint64_t tile, time, cells_n;
@@ -177,14 +180,18 @@ static uint32_t correct(const struct change *c, uint64_t *place) {
     return number;
 }
 
-/* Says what is wrong with the input, or that the page is at the ceiling, which is the buffer's length. `is` is what the page was, by
-   gvrs_page. */
+/* The page is at the ceiling, which is the buffer's length. */
+static int refused_growth(uint64_t place, const char *behind) {
+    char note[200];
+    snprintf(note, sizeof note, "it would have more than %d bytes%s", LONGEST, behind);
+    return refused_in_words(GVRS_ROOM, place, "the page cannot grow", note);
+}
+
+/* Says what is wrong with the input, or that the page is at the ceiling. `is` is what the page was, by gvrs_page. */
 static int refused_change(uint32_t number, uint64_t place, const struct change *c, const uint64_t *is) {
     char note[100];
-    if (number == GVRS_ROOM) {
-        snprintf(note, sizeof note, "it would have more than %d bytes", LONGEST);
-        return refused_in_words(number, place, "the page cannot grow", note);
-    }
+    if (number == GVRS_ROOM)
+        return refused_growth(place, "");
     if (number == GVRS_OUTSIDE)
         snprintf(note, sizeof note, "there are tiles 0 to %" PRIu64, is[4] * is[5] - 1);
     else if (number == GVRS_INPUT && c->time == 0)
@@ -236,4 +243,73 @@ int run_store(const struct request *request) {
 
 int run_remove(const struct request *request) {
     return run_change(request, NULL);
+}
+
+/* The entries of a log that is right, of tiles with so many bytes. */
+static uint64_t entries_in(const uint8_t *log, uint64_t n, uint64_t tile) {
+    uint64_t count = 0;
+    for (uint64_t at = 5; at < n; at += 5 + (log[at] == 1 ? tile : 0))
+        count++;
+    return count;
+}
+
+/* Closes the page in its buffer, n bytes long, and replaces the file by it. */
+static int close_and_replace(const struct original *o, uint64_t n, uint64_t time) {
+    uint32_t number = gvrs_close_page(page.bytes, LONGEST, n, time, &n, 1);
+    if (number == GVRS_ROOM)
+        return refused_growth(n, ": the list of free records has no room");
+    if (number != GVRS_ACCEPTED)
+        return refused(number, n, NULL);
+    page.n = n;
+    return replace(o);
+}
+
+/* Says where the log stops, by what gvrs_replay gives. */
+static int stopped(const struct request *request, const uint64_t *out, uint64_t all) {
+    char behind[150];
+    int written = request->partial && out[1] > 0;
+    snprintf(behind, sizeof behind, "; %" PRIu64 " of %" PRIu64 " entries done, %" PRIu64 " left; %s", out[1], all, all - out[1],
+             written ? "those done are written" : "the file is left as it is");
+    return refused_growth(0, behind);
+}
+
+/* A log without an entry changes nothing: the file stays, its time too. */
+static int replay_original(const struct request *request, const struct original *o, uint64_t time, const uint8_t *log, uint64_t log_n) {
+    uint64_t is[13], out[2], n = page.n;
+    uint32_t number = gvrs_page(page.bytes, page.n, is, 13);
+    if (number != GVRS_ACCEPTED)
+        return refused(number, is[0], NULL);
+    number = gvrs_open_page(page.bytes, LONGEST, n, time, out, 1);
+    if (number == GVRS_ROOM)
+        return refused_growth(out[0], "");
+    if (number != GVRS_ACCEPTED)
+        return refused(number, out[0], time == 0 ? "the time is 0" : NULL);
+    number = gvrs_replay(page.bytes, LONGEST, out[0], log, log_n, out, 2);
+    if (number == GVRS_INPUT)
+        return refused(number, out[0], "LOG is no correction log of this page, or names a tile that the page has not");
+    int status = DONE;
+    uint64_t all = entries_in(log, log_n, is[7]);
+    if (number != GVRS_ACCEPTED)
+        status = stopped(request, out, all);
+    if (status != DONE && !request->partial)
+        return status;
+    int written = out[1] == 0 ? DONE : close_and_replace(o, out[0], time);
+    if (written != DONE)
+        return written;
+    printf("%" PRIu64 " of %" PRIu64 " entries done, file of %" PRIu64 " bytes\n", out[1], all, out[1] == 0 ? n : page.n);
+    return status;
+}
+
+int run_replay(const struct request *request) {
+    struct original o = NONE;
+    uint64_t log_n;
+    uint8_t *log = read_long(request->words[1], LONGEST_LOG, &log_n);
+    if (log == NULL)
+        return FAILED;
+    int status = open_original(request->words[0], request->wait, &o);
+    if (status == DONE)
+        status = replay_original(request, &o, request->has_time ? request->time : milliseconds(CLOCK_REALTIME), log, log_n);
+    close_original(&o);
+    free(log);
+    return status;
 }

@@ -4,6 +4,7 @@
 #include <fcntl.h>
 #include <stdarg.h>
 #include <stdio.h>
+#include <stdlib.h>
 #include <string.h>
 #include <unistd.h>
 #include "cli.h"
@@ -91,6 +92,26 @@ int read_page(const char *name) {
 
 int read_second_page(const char *name) {
     return read_whole(name, &second_page);
+}
+
+uint8_t *read_long(const char *name, uint64_t most, uint64_t *n) {
+    uint64_t room = 1 << 20;
+    uint8_t *bytes = NULL;
+    for (;;) {
+        uint8_t *more = realloc(bytes, room);
+        if (more == NULL) {
+            failed("%s: %s", name, strerror(errno));
+            break;
+        }
+        bytes = more;
+        if (read_file(name, bytes, room, n) != DONE)
+            break;
+        if (*n < room || room > most)
+            return bytes;
+        room *= 8;
+    }
+    free(bytes);
+    return NULL;
 }
 
 /* A name begins with a letter, so that none is a number too. */

@@ -4,8 +4,8 @@
 #include <string.h>
 #include "cli.h"
 
-/* The options that a command takes, each with the name and the most of the number behind it; -q has none. */
-enum { COMPRESSOR = 1, TIME = 2, WAIT = 4, QUIET = 8, SECOND = 16, MOST = 32 };
+/* The options that a command takes, each with the name and the most of the number behind it; some have none. */
+enum { COMPRESSOR = 1, TIME = 2, WAIT = 4, QUIET = 8, SECOND = 16, MOST = 32, PARTIAL = 64 };
 
 struct option {
     int option;
@@ -24,6 +24,7 @@ static const struct option OPTIONS[] = {
      "--time MS is the time modified, in milliseconds since 1970; without it, the clock's.\n"},
     {WAIT, "--wait", "SECONDS", UINT32_MAX,
      "--wait SECONDS waits up to so long for other corrections of FILE to end; without it, the command fails at once.\n"},
+    {PARTIAL, "--partial", NULL, 0, "--partial writes the entries done where LOG stops; without it, FILE stays as it is then.\n"},
     {QUIET, "-q", NULL, 0, "-q prints no answer: the exit status says it. Refusals and failures are still said.\n"},
 };
 enum { OPTION_COUNT = sizeof OPTIONS / sizeof OPTIONS[0] };
@@ -70,6 +71,11 @@ static const struct command COMMANDS[] = {
     {"remove", "FILE INDEX", 2, TIME | WAIT, run_remove,
      "Removes a tile, so that its cells are fills. The page is written to a copy beside FILE, which then\n"
      "takes its name; where anything fails FILE stays as it is.\n"},
+    {"replay", "FILE LOG", 2, TIME | WAIT | PARTIAL, run_replay,
+     "Replays a correction log: LOG is a file with stores and removals of tiles, which are done in their order.\n"
+     "It stops at the first tile that the page cannot grow for, and says how many entries are done and how\n"
+     "many are left. The page is written to a copy beside FILE, which then takes its name; where anything\n"
+     "fails FILE stays as it is.\n"},
     {"sheet-in", "FRONT SHEET FILE", 3, TIME, run_sheet_in,
      "Moves a score sheet into a page, a new file FILE. FRONT is a front, or a page of which the front is\n"
      "taken: with the sheet's rows and columns, and one element only, a Short with the fill -1.\n"},
@@ -135,6 +141,7 @@ static void set_option(struct request *request, int option, uint64_t number) {
     case TIME: request->time = number, request->has_time = 1; break;
     case WAIT: request->wait = number; break;
     case QUIET: request->quiet = 1; break;
+    case PARTIAL: request->partial = 1; break;
     }
 }
 

@@ -12,27 +12,6 @@
 /* The longest sheet: a length of four bytes, and as many as it can state. */
 static const uint64_t LONGEST_SHEET = 4 + (uint64_t)UINT32_MAX;
 
-/* Reads a sheet whole, or as much of a longer file as shows that it is none. NULL where that fails, which is said. */
-static uint8_t *read_sheet(const char *name, uint64_t *n) {
-    uint64_t room = 1 << 20;
-    uint8_t *bytes = NULL;
-    for (;;) {
-        uint8_t *more = realloc(bytes, room);
-        if (more == NULL) {
-            failed("%s: %s", name, strerror(errno));
-            break;
-        }
-        bytes = more;
-        if (read_file(name, bytes, room, n) != DONE)
-            break;
-        if (*n < room || room > LONGEST_SHEET)
-            return bytes;
-        room *= 8;
-    }
-    free(bytes);
-    return NULL;
-}
-
 static uint64_t now(void) {
     struct timespec now = {0, 0};
     clock_gettime(CLOCK_REALTIME, &now);
@@ -66,7 +45,7 @@ int run_sheet_in(const struct request *request) {
     uint64_t sheet_n;
     if (read_page(request->words[0]) != DONE)
         return FAILED;
-    uint8_t *sheet = read_sheet(request->words[1], &sheet_n);
+    uint8_t *sheet = read_long(request->words[1], LONGEST_SHEET, &sheet_n);
     if (sheet == NULL)
         return FAILED;
     int status = move_in(sheet, sheet_n, request->has_time ? request->time : now(), request->words[2]);

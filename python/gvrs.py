@@ -1,4 +1,5 @@
-"""Pages of an archive, GVRS files of version 1.4, checked, read, compared and laid down by the proved page store (libgvrs.so); score sheets too.
+"""Pages of an archive, GVRS files of version 1.4, checked, read, compared and laid down by the proved page store (libgvrs.so); score sheets and
+correction logs too.
 
     import gvrs
     page = gvrs.Page("page.gvrs")
@@ -16,6 +17,8 @@
     front = gvrs.front(2, 3, 2, 2, [("score", "Short", -1)])
     file = gvrs.from_sheet(front, sheet, time=1)
     gvrs.Page.of_bytes(file).sheet() == sheet
+
+    file = page.replay(log, time=2)          # with the corrections of a log
 
 Rows, columns, elements and tiles count from 0. An element is named by its number or its name, to pack by its name. What the store
 refuses raises Refused; a number that does not fit the C type of its argument raises ValueError before anything is called. The library is
@@ -47,7 +50,7 @@ __all__ = [
     "Shape",
     "Spot",
     "compare",
-    "from_sheet", "front",
+    "Stopped", "from_sheet", "front",
     "lay_down",
     "pack",
 ]
@@ -78,6 +81,9 @@ _FUNCTIONS = {
     "gvrs_deed": _FILE + [_U32, _U64, _U64, _U64, _U64, _U64, _LIST32, _U64],
     "gvrs_compare": (_FILE + [_U32]) * 2 + [_LIST32, _U64] * 2,
     "gvrs_lay_down": _FILE + [_U64, _LIST32, _U64, _BYTES, _U64, _BYTES, _U64],
+    "gvrs_open_page": _FILE + [_U64, _U64],
+    "gvrs_replay": _FILE + [_U64, _BYTES, _U64],
+    "gvrs_close_page": _FILE + [_U64, _U64],
     "gvrs_sheet_in": _FILE + [_U64, _BYTES, _U64, _BYTES, _U64],
     "gvrs_sheet_out": _FILE + [_U32, _LIST32, _U64, _BYTES, _U64],
 }
@@ -120,6 +126,16 @@ class Refused(Exception):
 
     def __repr__(self):
         return f"refused({self.number})"
+
+
+class Stopped(Refused):
+    """A replay that stopped, with 13: `entries` is the number of entries done, and `file` the bytes of the file with these, closed, or None
+    where closing it was refused too."""
+
+    def __init__(self, number, place, note, entries, file):
+        super().__init__(number, place, note)
+        self.args = number, place, note, entries, file
+        self.entries, self.file = entries, file
 
 
 class _Mark:
@@ -444,6 +460,34 @@ class Page:
         if [(element.type, element.fill) for element in self.elements] != [("Short", Fill(-1))]:
             return "the page has not one element only, a Short with the fill -1"
         return "a cell is neither -1 nor from 0 to 1000, or the metadata records named score_rule do not say the first rule"
+
+    def replay(self, log, time):
+        """The bytes of a new file: the page with a correction log replayed on it, opened, corrected and closed. `log` is bytes, each number
+        with its highest byte first: a length of all that follows in four bytes, a version byte 1, then entries: a byte 1, a tile's index in
+        four and the tile's bytes, as pack makes them, to store it, or a byte 2 and an index to remove it. `time` is the time modified, in
+        milliseconds since 1970. Raises Refused: the check's, 12 where the time is 0, or the log is not so or names a tile that the page has
+        not; Stopped, with 13, at the first entry for which the file would be too long."""
+        log, time = _bytes(log, "log"), _number64(time, "time")
+        file = ctypes.create_string_buffer(LONGEST)
+        self.check()
+        ctypes.memmove(file, self._file, len(self._file))
+
+        def ask(name, *arguments):
+            return _ask(name, 2, file, LONGEST, *arguments)
+
+        number, [length, _] = ask("gvrs_open_page", len(self._file), time)
+        if number != _DONE:
+            raise Refused(number, length, "the time is 0" if number == _INPUT else None)
+        number, [length, entries] = ask("gvrs_replay", length, log, len(log))
+        if number == _INPUT:
+            raise Refused(number, length, "the log is no correction log of this page, or names a tile that the page has not")
+        closed, [whole, _] = ask("gvrs_close_page", length, time)
+        corrected = ctypes.string_at(file, whole) if closed == _DONE else None
+        if number != _DONE:
+            raise Stopped(number, 0, f"stopped behind {entries} entries", entries, corrected)
+        if closed != _DONE:
+            raise Refused(closed, whole)
+        return corrected
 
     def __repr__(self):
         return f"<gvrs.Page of {len(self._file)} bytes>"

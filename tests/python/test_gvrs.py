@@ -536,6 +536,56 @@ class Sheets(Tests):
             self.assertRaises(ValueError, gvrs.from_sheet, self.FRONT, sheet, time)
 
 
+class Replays(Tests):
+    """Correction logs replayed on pages."""
+
+    @staticmethod
+    def of(*entries):
+        """The log of entries: a tile's index and its bytes, or None where it is removed."""
+        rest = b"\1" + b"".join(struct.pack(">BI", 2 if cells is None else 1, index) + (cells or b"") for index, cells in entries)
+        return struct.pack(">I", len(rest)) + rest
+
+    def test_to_the_end(self):
+        log = self.of((0, b"\x11" * 8), (2, None), (2, None))
+        self.assertEqual(log, bytes.fromhex("00000018 01 01 00000000 1111111111111111 02 00000002 02 00000002"))
+        for kind in (bytes, bytearray, memoryview):
+            corrected = Page.of_bytes(page("page").replay(kind(log), 9))
+            corrected.check()
+            self.assertEqual((corrected.shape.stored_tiles, corrected.shape.time), (1, 9))
+            self.assertEqual(corrected.tile(0, "z"), [[0x1111, 0x1111], [0x1111, 0x1111]])
+            self.assertEqual(corrected.cell(2, 0, "z").value, Fill(7))
+
+    def test_the_last_entry_decides(self):
+        cells = [bytes([number] * 8) for number in range(4)]
+        one = page("page").replay(self.of((3, cells[0]), (1, cells[0]), (3, None), (2, cells[1]), (1, cells[2]), (2, cells[3])), 9)
+        two = page("page").replay(self.of((2, cells[3]), (3, None), (1, cells[2])), 9)
+        self.assertNotEqual(one, two)
+        for index in range(4):
+            self.assertEqual(Page.of_bytes(one).tile(index, "z"), Page.of_bytes(two).tile(index, "z"))
+
+    def test_no_entry(self):
+        self.assertEqual(Page.of_bytes(page("page").replay(self.of(), 9)).shape[:10], page("page").shape[:10])
+
+    def test_bad_logs(self):
+        good, no_log = self.of((0, bytes(8)), (2, None)), "the log is no correction log of this page"
+        for log in [good[:length] for length in range(len(good))] + [good + b"\0", self.of((4, None)), self.of((0, bytes(7)))]:
+            self.assertRefused(12, 0, lambda: page("page").replay(log, 9), no_log)
+        self.assertRefused(12, 0, lambda: page("page").replay(good, 0), "the time is 0")
+        self.assertRefused(5, 0, lambda: page("refused-5").replay(good, 9))
+        self.assertSays(TypeError, "log has to be bytes", page("page").replay, "log", 9)
+        self.assertSays(ValueError, "time is -1", page("page").replay, good, -1)
+
+    def test_stopped(self):
+        large = page("large-tiles")
+        size = large.shape.tile_bytes
+        log = self.of(*((index, bytes([index]) * size) for index in range(20)))
+        stopped = self.assertRefused(13, 0, lambda: large.replay(log, 9), "stopped behind 15 entries")
+        self.assertIsInstance(stopped, gvrs.Stopped)
+        self.assertEqual((stopped.entries, Page.of_bytes(stopped.file).shape.stored_tiles), (15, 15))
+        again = pickle.loads(pickle.dumps(stopped))
+        self.assertEqual((again.number, again.entries, again.file), (13, 15, stopped.file))
+
+
 class Packing(Tests):
     FRONT = gvrs.front(3, 3, 2, 2, [("z", "Short", 7)])
     TWO = gvrs.front(3, 3, 2, 2, [("glyph", "Integer", 0), ("score", "Short", -1)])
