@@ -1,10 +1,11 @@
 //! Times the library's check, checksum, reads, lay-down and unpacking against the second
 //! implementation's, in one run, the cells and the scores of rectangles, a deed, two pages compared, a tile
-//! stored in an open page, score sheets moved in and out, and the check of hostile files. Fails where the
-//! check, unpacking, the cells or the scores of a rectangle, a deed, a comparison, the storing of a tile or
-//! the move of a sheet take longer than their bounds. With the word `hostile` it measures the hostile files
-//! alone, with `corrections` the storing of tiles alone, with `deeds` deeds alone, with `cells` the cells
-//! and scores alone, with `compare` comparisons alone, with `sheets` score sheets alone.
+//! stored in an open page, score sheets moved in and out, correction logs replayed, and the check of hostile
+//! files. Fails where the check, unpacking, the cells or the scores of a rectangle, a deed, a comparison,
+//! the storing of a tile, the move of a sheet or the replaying of a log take longer than their bounds. With
+//! the word `hostile` it measures the hostile files alone, with `corrections` the storing of tiles alone,
+//! with `deeds` deeds alone, with `cells` the cells and scores alone, with `compare` comparisons alone, with
+//! `sheets` score sheets alone, with `replays` the replaying of logs alone.
 
 mod cells;
 mod checksum;
@@ -16,6 +17,7 @@ mod lay_downs;
 mod look_up;
 mod packed;
 mod reads;
+mod replays;
 mod shapes;
 mod sheets;
 mod units;
@@ -37,6 +39,9 @@ fn main() -> ExitCode {
     }
     if env::args().any(|argument| argument == "corrections") {
         return exit_code(corrections::measure());
+    }
+    if env::args().any(|argument| argument == "replays") {
+        return exit_code(replays::measure());
     }
     if env::args().any(|argument| argument == "deeds") {
         return exit_code(deeds::measure());
@@ -62,7 +67,8 @@ fn main() -> ExitCode {
     let compared = compare::measure(&pages);
     let corrections = corrections::measure();
     let sheets = sheets::measure(&pages);
-    exit_code(checks && unpacking && cells && deeds && compared && corrections && sheets)
+    let replays = replays::measure();
+    exit_code(checks && unpacking && cells && deeds && compared && corrections && sheets && replays)
 }
 
 /// The check of some files, and of hostile ones.
