@@ -1,6 +1,6 @@
 //! Comparisons at the ceilings: grids of 65,536 by 65,536 with few tile records, or with none and other
-//! fills; 65,536 tile records; many packed tiles, and the largest: each within a second. What comes out
-//! of so many cells is known from the description.
+//! fills; 65,536 tile records; many packed tiles, and the largest: each within a second, packed ones
+//! within four. What comes out of so many cells is known from the description.
 
 use std::time::{Duration, Instant};
 
@@ -20,8 +20,9 @@ const OTHER_FILLS: &str = "2^32 cells, other fills, a list of a million entries,
 const EIGHT: &str = "2^35 cells of eight elements, other fills, a list of a million entries";
 const NONE: &str = "2^32 cells of which none differs, within a second";
 const MANY_TILES: &str = "every cell of 65,536 tiles, within a second";
-const MANY_CELLS: &str = "4,194,304 packed cells, few differing, within a second";
-const LARGEST: &str = "packed tiles of 524,288 Shorts, all differing and listed, within a second";
+const MANY_CELLS: &str = "4,194,304 packed cells, few differing, within four seconds";
+const LARGEST: &str =
+    "packed tiles of 524,288 Shorts, all differing and listed, within four seconds";
 
 const SIDE: u64 = 65_536;
 /// Numbers of memory that let every tile be unpacked as seldom as can be.
@@ -45,9 +46,9 @@ pub fn section(run: &mut Run, random: &mut Prng) {
     largest(run, random);
 }
 
-/// Asks the library until it has answered within a second, three times at most, as other work may
-/// come between, but not again where it has taken very long. The list has room for the entries given and
-/// two numbers more.
+/// Asks the library until it has answered within a second, or four where tiles are unpacked, three times
+/// at most, as other work may come between, but not again where it has taken very long. The list has room
+/// for the entries given and two numbers more.
 fn in_time(
     run: &mut Run,
     files: [&[u8]; 2],
@@ -57,6 +58,7 @@ fn in_time(
     thing: &str,
 ) {
     let [first, second] = files.map(|file| (file, u32::from(INDEX)));
+    let within = Duration::from_secs(if [MANY_CELLS, LARGEST].contains(&thing) { 4 } else { 1 });
     let mut memory = vec![3; memory];
     let wanted = [entries.concat(), vec![u32::MAX; 2]].concat();
     let mut shortest = Duration::MAX;
@@ -71,11 +73,11 @@ fn in_time(
             run.fault(&text, first.0);
             return;
         }
-        if shortest < Duration::from_secs(1) {
+        if shortest < within {
             run.comparisons.reached(thing);
             return;
         }
-        if shortest > Duration::from_secs(4) {
+        if shortest > 4 * within {
             break;
         }
     }
