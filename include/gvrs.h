@@ -36,8 +36,8 @@ enum {
     GVRS_DIRECTORY = 9,    /* directory at fault */
     GVRS_OUTSIDE = 10,     /* row, column, element, tile or rectangle asked for, or tile to correct, not in the grid */
     GVRS_COMPRESSED = 11,  /* content asked for is compressed; of a cell: and not of the compressor index named, or of a Float */
-    GVRS_INPUT = 12,       /* input wrong: of a lay-down, a score sheet, a correction or a deed, or more first bytes than the stated length; of a
-                              comparison, two pages that differ in grid, tile sides or element types */
+    GVRS_INPUT = 12,       /* input wrong: of a lay-down, a score sheet, a correction, a correction log or a deed, or more first bytes than the stated
+                              length; of a comparison, two pages that differ in grid, tile sides or element types */
     GVRS_ROOM = 13,        /* lay-down output, a score sheet's buffer, a page's for a correction, or one for the cells of a rectangle, too short */
     GVRS_MALFORMED = 14,   /* compressed content malformed, or a Short in it out of range */
     GVRS_NOT_OPEN = 15,    /* no page that is open for writing */

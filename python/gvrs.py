@@ -49,8 +49,10 @@ __all__ = [
     "Refused",
     "Shape",
     "Spot",
+    "Stopped",
     "compare",
-    "Stopped", "from_sheet", "front",
+    "from_sheet",
+    "front",
     "lay_down",
     "pack",
 ]
