@@ -1,5 +1,6 @@
 pub mod ScoreLaws
 pub mod TallyLaws
+pub mod RunLaws
 pub mod PieceLaws
 pub mod DeedLaws
 pub mod SoundLaws

@@ -1,22 +1,20 @@
 -- Scores: their order, the lower of two, and what kinds of cells have one. Assumes nothing.
-use Prim.Native.Nat.{ℕ, _%_, _^_, _<_}
-use mathlib.Core.Path.{_≡_, refl, sym, ap, _∙_}
-use mathlib.Core.List.{[], _∷_}
+use Prim.Native.Nat.{ℕ, _^_, _<_}
+use mathlib.Core.Path.{_≡_, refl, ap, _∙_}
 use mathlib.Core.Bool.{Bool, true, false}
 use native.Mathlib.Omega.{arith}
 use lib.IntN.{ℤ, pos, negsuc}
 use lib.Dec.{eqb}
 use lib.Signed.{leZ, mag}
 use mir.Syntax.{w16}
-use mir.Val.{toZ, ofZ, Fits, hbits}
+use mir.Val.{toZ, ofZ, hbits}
 use mir.Facts.{toZ-ofZ}
 use borrow.Author.Tests.{leb-true, leb-false, le-leb, ne-eqb}
 use Rattle.wire.specs.Pick.{pick}
-use Rattle.wire.specs.Tests.{_≡?_, is, both, passes}
-use Rattle.wire.proofs.TestLaws.{not-both, yes, no, either-way}
+use Rattle.wire.specs.Tests.{both, passes}
+use Rattle.wire.proofs.TestLaws.{not-both}
 use Rattle.answer.specs.declared.Cell.{Cell}
-use Rattle.answer.specs.Answers.{cellKind, cellBits}
-use Rattle.answer.proofs.SignedLaws as signed
+use Rattle.answer.specs.Answers.{cellKind}
 use Rattle.blocks.specs.Folds.{Joins}
 use Rattle.deeds.specs.declared.Rule.{Rule}
 use Rattle.deeds.specs.declared.Grade.{Grade}
@@ -24,7 +22,7 @@ use Rattle.deeds.specs.declared.Lowest.{Lowest}
 use Rattle.deeds.specs.declared.Lowest.the-variants.{Score, None}
 use Rattle.deeds.specs.declared.Deed.{Deed}
 use Rattle.deeds.specs.declared.Deed.the-variants.{Graded}
-use Rattle.deeds.specs.Deeds.{isFill, isStored, minusOne, countsAsFill, isScored, scoreOf, lesser, scoreWithin, lowestBits, deedScale}
+use Rattle.deeds.specs.Deeds.{isFill, isStored, countsAsFill, isScored, scoreOf, lesser, lowestBits, deedScale}
 
 -- the order of signed numbers
 
@@ -132,46 +130,9 @@ module _ (x : Cell) (k : ℕ) (e : k ≡ cellKind x) where
   unfolding isStored
   stored-second h = rw (← e, ne-eqb k 32 h)
 
-  pub counts-kind : (s : Bool) → s ≡ isStored x → s ≡ false → k ≡ 33 → _≡_ {A = ℕ} 1 (pick (countsAsFill x) 1 0)
-  unfolding countsAsFill isFill passes
-  counts-kind s p q h = rw (← p, q, ← e, h)
-
-  pub counts-none : (s : Bool) → s ≡ isStored x → s ≡ false → (k ≡ 33 → ⊥) → _≡_ {A = ℕ} 0 (pick (countsAsFill x) 1 0)
-  unfolding countsAsFill isFill passes
-  counts-none s p q h = rw (← p, q, ← e, ne-eqb k 33 h)
-
-pub minus-is : (x : Cell) (n : ℕ) → n ≡ cellBits x → eqb (n % 65536) 65535 ≡ minusOne x
-unfolding minusOne passes
-minus-is x n e = rw e (alone (eqb (cellBits x % 65536) 65535))
-  where
-    alone : (b : Bool) → b ≡ both b true
-    alone true = refl
-    alone false = refl
-
-module _ (x : Cell) (s m : Bool) (p : s ≡ isStored x) (q : m ≡ minusOne x) where
-  pub counts-stored : s ≡ true → m ≡ true → _≡_ {A = ℕ} 1 (pick (countsAsFill x) 1 0)
-  unfolding countsAsFill
-  counts-stored e f = rw (← p, e, ← q, f)
-
-  pub counts-score : s ≡ true → m ≡ false → _≡_ {A = ℕ} 0 (pick (countsAsFill x) 1 0)
-  unfolding countsAsFill
-  counts-score e f = rw (← p, e, ← q, f)
-
-  pub score-minus : s ≡ true → m ≡ true → None ≡ scoreOf x
-  unfolding scoreOf isScored
-  score-minus e f = rw (← p, e, ← q, f)
-
-  pub score-stored : s ≡ true → m ≡ false → (z : ℤ) → z ≡ toZ w16 (cellBits x % 65536) → Score (toZ w16 (ofZ w16 z)) ≡ scoreOf x
-  unfolding scoreOf isScored
-  score-stored e f z r = let g : Fits w16 (cellBits x % 65536) = record { fits = omega arith } in rw (← p, e, ← q, f) (ap Score (signed.kept w16 g r))
-
-pub score-none : (x : Cell) (s : Bool) → s ≡ isStored x → s ≡ false → None ≡ scoreOf x
-unfolding scoreOf isScored
-score-none x s p e = rw (← p, e)
-
 -- scores in the machine
 
-kept : (z : ℤ) → mag z < 2 ^ hbits w16 → toZ w16 (ofZ w16 z) ≡ z
+pub kept : (z : ℤ) → mag z < 2 ^ hbits w16 → toZ w16 (ofZ w16 z) ≡ z
 kept z h = toZ-ofZ {w = w16} (record { sfits = h })
 
 pub bits-of : (x : Lowest) (z : ℤ) (r : ℕ) → x ≡ Score z → mag z < 2 ^ hbits w16 → r ≡ ofZ w16 (toZ w16 (ofZ w16 z)) → r ≡ lowestBits x
@@ -181,25 +142,6 @@ pub scale-of :
     (x : Deed) (rule : Rule) (grade : Grade) (fills : ℕ) (lowest : Lowest) (r : ℕ) → x ≡ Graded rule grade fills lowest → mag (rule .scale) < 2 ^ hbits w16 →
     r ≡ ofZ w16 (toZ w16 (ofZ w16 (rule .scale))) → r ≡ deedScale x
 scale-of x rule g k l r e h q = q ∙ rw e (ap (ofZ w16) (kept (rule .scale) h))
-
-pub signed-of : (n b : ℕ) (r : ℤ) → r ≡ toZ w16 (b % 65536) → b ≡ n → toZ w16 (ofZ w16 r) ≡ toZ w16 (n % 65536)
-signed-of n b r e q = let f : Fits w16 (b % 65536) = record { fits = omega arith } in signed.kept w16 f e ∙ rw q
-
-module _ (rule : Rule) (x : Lowest) where
-  pub within-none : x ≡ None → true ≡ scoreWithin rule x
-  unfolding scoreWithin
-  within-none e = rw e
-
-  pub within-is :
-      (z : ℤ) (b : Bool) → x ≡ Score z → mag z < 2 ^ hbits w16 → mag (rule .mark) < 2 ^ hbits w16 → mag (rule .scale) < 2 ^ hbits w16 →
-      b ≡ both (leZ (toZ w16 (ofZ w16 (rule .mark))) (toZ w16 (ofZ w16 z))) (leZ (toZ w16 (ofZ w16 z)) (toZ w16 (ofZ w16 (rule .scale)))) → b ≡ scoreWithin rule x
-  unfolding scoreWithin passes
-  within-is z b e h m k q = q ∙ rw (e, kept z h, kept (rule .mark) m, kept (rule .scale) k) (sym (tests (leZ (rule .mark) z) (leZ z (rule .scale))))
-    where
-      tests : (u v : Bool) → passes (is u ∷ is v ∷ []) ≡ both u v
-      tests true true = refl
-      tests true false = refl
-      tests false v = refl
 
 module _ (a b : Lowest) where
   pub lesser-first : a ≡ None → b ≡ lesser a b

@@ -19,11 +19,11 @@ use Rattle.deeds.specs.declared.Rule.{Rule}
 use Rattle.deeds.specs.declared.Lowest.{Lowest}
 use Rattle.deeds.specs.declared.Lowest.the-variants.{None}
 use Rattle.deeds.specs.declared.tally.Tally.{Tally}
-use Rattle.deeds.specs.Deeds.{countsAsFill, scoreOf, fillsIn, lesser, lowestIn, scoreWithin, certainBy}
+use Rattle.deeds.specs.Deeds.{countsAsFill, fillsIn, lesser, lowestIn, scoreWithin, certainBy}
 use Rattle.deeds.specs.Tallies.{fillTally, cellTally, joinTally, tallyIn, tallyPassed}
 use Rattle.deeds.proofs.ScoreLaws.{scores, lesser-comm, truths, both-comm, kind-fill, fill-no-score}
 
-tally-same : (a b : Tally) → a .fills ≡ b .fills → a .certain ≡ b .certain → a .lowest ≡ b .lowest → a ≡ b
+pub tally-same : (a b : Tally) → a .fills ≡ b .fills → a .certain ≡ b .certain → a .lowest ≡ b .lowest → a ≡ b
 tally-same a b p q r =
     ap (λ (n : ℕ). record { fills = n; certain = a .certain; lowest = a .lowest }) p
     ∙ ap (λ (n : Bool). record { fills = b .fills; certain = n; lowest = a .lowest }) q
@@ -156,14 +156,7 @@ tally-all-fill rule f top bottom left right t e h =
     (sym (tally-certain rule top bottom left right f ∙ inside-none both true truths top bottom left right _ (λ r c k. rw (fill-no-score (f r c) (h r c k)))))
     (sym (tally-lowest rule top bottom left right f ∙ inside-none lesser None scores top bottom left right _ (λ r c k. fill-no-score (f r c) (h r c k))))
 
--- a cell's count, and two counts together, as the functions below give them
-
-pub tally-cell-is :
-    (rule : Rule) (x : Cell) (n : ℕ) (b : Bool) (y : Lowest) → n ≡ pick (countsAsFill x) 1 0 → y ≡ scoreOf x → b ≡ scoreWithin rule y →
-    _≡_ {A = Tally} (record { fills = n; certain = b; lowest = y }) (cellTally rule x)
-unfolding cellTally
-tally-cell-is rule x n b y e f g = tally-same _ _ e (g ∙ ap (scoreWithin rule) f) f
-
+-- two counts together, as the function gives them
 pub tally-joined :
     (a b : Tally) (c : Bool) (y : Lowest) → c ≡ both (a .certain) (b .certain) → y ≡ lesser (a .lowest) (b .lowest) →
     _≡_ {A = Tally} (record { fills = a .fills + b .fills; certain = c; lowest = y }) (joinTally a b)

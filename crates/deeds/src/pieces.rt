@@ -41,14 +41,14 @@ fn look_up_row(
     ensures { λ t. ⌜ t ≡ tallyIn rule r (r + 1) (p .left) (p .right) (cellsOf (now (file .entry)) compressor (a .e) (a .row) (a .column)) ⌝ }
 {
     let row = a.row + r;
-    let mut t = tally::of_fills(0);
+    let mut t = tally::no_cells();
     let mut c = p.left;
     while c < p.right {
         let x = many::held_cell(file, compressor, held, memory, row, a.column + c, a.e);
-        t = tally::join(t, tally::of_cell(rule, x));
+        t = tally::with_cell(t, x);
         c += 1;
     }
-    t
+    tally::of_run(rule, t)
 }
 
 // n cells of a tile by their numbers inside it, from `start` on.
@@ -66,14 +66,14 @@ fn tell_row(
     requires { ⌜ (start + n ≤ 4294967296) × (n ≤ mostGridSide) ⌝ }
     ensures { λ t. ⌜ t ≡ numberedTally rule (now (file .entry)) kind fill held (now (memory .entry)) tile start n ⌝ }
 {
-    let mut t = tally::of_fills(0);
+    let mut t = tally::no_cells();
     let mut c = 0;
     while c < n {
         let x = many::numbered_cell(file, kind, fill, held, memory, tile, (start + c) as u32);
-        t = tally::join(t, tally::of_cell(rule, x));
+        t = tally::with_cell(t, x);
         c += 1;
     }
-    t
+    tally::of_run(rule, t)
 }
 
 // The cells of one row of a piece.

@@ -3,16 +3,14 @@ use crate::Lowest;
 use crate::Rule;
 use answer::Cell;
 ghost use mathlib.Core.Path.{_≡_};
-ghost use Prim.Native.Nat.{_+_, _%_, _<_};
+ghost use Prim.Native.Nat.{_+_, _<_, min, max};
+ghost use lib.Dec.{eqb};
 ghost use lib.Signed.{leZ};
-ghost use mir.Syntax.{w16};
-ghost use mir.Val.{toZ};
 ghost use Rattle.wire.specs.Pick.{pick};
 ghost use Rattle.wire.specs.Tests as tests;
-ghost use Rattle.answer.specs.Answers.{cellBits};
 ghost use Rattle.deeds.specs.Deeds as deeds;
-ghost use Rattle.deeds.specs.Deeds.{isStored, minusOne, countsAsFill, scoreOf, scoreWithin};
-ghost use Rattle.deeds.specs.Tallies.{fillTally, cellTally, joinTally};
+ghost use Rattle.deeds.specs.Deeds.{isStored};
+ghost use Rattle.deeds.specs.Tallies.{fillTally, joinTally, rankOf, lowRank, highRank, noCells, withBits, withCell, scoreAt, certainFrom, runTally};
 
 pub(crate) struct Tally {
     pub fills: u64,
@@ -31,11 +29,93 @@ pub(crate) fn of_fills(n: u64) -> Tally
     }
 }
 
-// The signed number of a cell's 16 bits.
-fn signed_score(x: Cell) -> i16
-    ensures { λ r. ⌜ r ≡ toZ w16 (cellBits x % 65536) ⌝ }
+// A run of cells, counted in numbers alone, so that no cell costs a jump: the fills, and the ranks of the lowest and of the highest score,
+// 65,536 and 0 where there is none.
+pub(crate) struct Run {
+    pub fills: u64,
+    pub low: u32,
+    pub high: u32,
+}
+
+// No cell.
+pub(crate) fn no_cells() -> Run
+    ensures { λ r. ⌜ r ≡ noCells ⌝ }
 {
-    answer::signed_16((answer::cell_bits(x) % 65536) as u16)
+    Run {
+        fills: 0,
+        low: 65536,
+        high: 0,
+    }
+}
+
+// A score's place in the order of all, from 0 for -32,768 on, by its 16 bits; and back.
+fn rank_of(b: u32) -> u32
+    ensures is { λ r. ⌜ r ≡ rankOf b ⌝ }
+    ensures small { λ r. ⌜ r < 65536 ⌝ }
+{
+    (b % 65536 + 32768) % 65536
+}
+
+// The rank of a score, as the lowest and as the highest; -1 is none.
+fn low_rank(b: u32) -> u32
+    ensures { λ r. ⌜ r ≡ lowRank b ⌝ }
+{
+    if b == 65535 {
+        return 65536;
+    }
+    rank_of(b)
+}
+
+fn high_rank(b: u32) -> u32
+    ensures { λ r. ⌜ r ≡ highRank b ⌝ }
+{
+    if b == 65535 {
+        return 0;
+    }
+    rank_of(b)
+}
+
+// 1 where two numbers are equal.
+fn one_if(a: u32, b: u32) -> u64
+    ensures is { λ r. ⌜ r ≡ pick (eqb a b) 1 0 ⌝ }
+    ensures small { λ r. ⌜ r < 2 ⌝ }
+{
+    if a == b {
+        return 1;
+    }
+    0
+}
+
+fn lower(x: u32, y: u32) -> u32
+    ensures { λ r. ⌜ r ≡ min x y ⌝ }
+{
+    if x <= y {
+        return x;
+    }
+    y
+}
+
+fn higher(x: u32, y: u32) -> u32
+    ensures { λ r. ⌜ r ≡ max x y ⌝ }
+{
+    if x <= y {
+        return y;
+    }
+    x
+}
+
+// A stored or unpacked cell more, by its 16 bits.
+fn with_bits(t: Run, b: u32) -> Run
+    requires { ⌜ t .fills + 1 < 18446744073709551616 ⌝ }
+    ensures { λ r. ⌜ r ≡ withBits t b ⌝ }
+{
+    let low = t.low;
+    let high = t.high;
+    Run {
+        fills: t.fills + one_if(b, 65535),
+        low: lower(low, low_rank(b)),
+        high: higher(high, high_rank(b)),
+    }
 }
 
 // Whether a cell is stored or unpacked.
@@ -49,40 +129,30 @@ fn is_stored(x: Cell) -> bool
     kind == 34
 }
 
-// Whether its 16 bits are those of -1.
-fn is_minus_one(x: Cell) -> bool
-    ensures { λ r. ⌜ r ≡ minusOne x ⌝ }
-{
-    answer::cell_bits(x) % 65536 == 65535
-}
-
-// The score of a stored or unpacked cell; a fill or a -1 has none.
-fn score_of(x: Cell) -> Lowest
-    ensures { λ r. ⌜ r ≡ scoreOf x ⌝ }
+// A cell more.
+pub(crate) fn with_cell(t: Run, x: Cell) -> Run
+    requires { ⌜ t .fills + 1 < 18446744073709551616 ⌝ }
+    ensures { λ r. ⌜ r ≡ withCell t x ⌝ }
 {
     if is_stored(x) {
-        if is_minus_one(x) {
-            return Lowest::None;
-        }
-        return Lowest::Score(signed_score(x));
+        return with_bits(t, answer::cell_bits(x) % 65536);
     }
-    Lowest::None
+    let fills = t.fills + one_if(answer::cell_kind(x), 33);
+    Run {
+        fills,
+        low: t.low,
+        high: t.high,
+    }
 }
 
-// 1 of a fill, and of a stored -1.
-fn fill_count(x: Cell) -> u64
-    ensures { λ r. ⌜ r ≡ pick (countsAsFill x) 1 0 ⌝ }
+// The score of a rank.
+fn score_at(n: u32) -> Lowest
+    ensures { λ r. ⌜ r ≡ scoreAt n ⌝ }
 {
-    if is_stored(x) {
-        if is_minus_one(x) {
-            return 1;
-        }
-        return 0;
+    if n == 65536 {
+        return Lowest::None;
     }
-    if answer::cell_kind(x) == 33 {
-        return 1;
-    }
-    0
+    Lowest::Score(answer::signed_16(rank_of(n) as u16))
 }
 
 fn both(a: bool, b: bool) -> bool
@@ -94,29 +164,27 @@ fn both(a: bool, b: bool) -> bool
     false
 }
 
-// Whether a score, if there is one, is from the mark to the scale.
-fn score_within(rule: Rule, x: Lowest) -> bool
-    ensures { λ r. ⌜ r ≡ scoreWithin rule x ⌝ }
+// Whether scores from one rank to another are from the mark to the scale.
+fn certain_from(rule: Rule, low: u32, high: u32) -> bool
+    ensures { λ r. ⌜ r ≡ certainFrom rule low high ⌝ }
 {
-    match x {
-        Lowest::None => true,
-        Lowest::Score(z) => {
-            let low = rule.mark <= z;
-            let high = z <= rule.scale;
-            both(low, high)
-        }
-    }
+    let mark = rank_of(answer::bits_16(rule.mark) as u32);
+    let scale = rank_of(answer::bits_16(rule.scale) as u32);
+    let above = mark <= low;
+    let below = high <= scale;
+    both(above, below)
 }
 
-// One cell.
-pub(crate) fn of_cell(rule: Rule, x: Cell) -> Tally
-    ensures { λ r. ⌜ r ≡ cellTally rule x ⌝ }
+// What a run has counted.
+pub(crate) fn of_run(rule: Rule, t: Run) -> Tally
+    ensures { λ r. ⌜ r ≡ runTally rule t ⌝ }
 {
-    let lowest = score_of(x);
+    let low = t.low;
+    let high = t.high;
     Tally {
-        fills: fill_count(x),
-        certain: score_within(rule, lowest),
-        lowest,
+        fills: t.fills,
+        certain: certain_from(rule, low, high),
+        lowest: score_at(low),
     }
 }
 
