@@ -29,8 +29,8 @@ pub(crate) fn of_fills(n: u64) -> Tally
     }
 }
 
-// A run of cells, counted in numbers alone, so that no cell costs a jump: the fills, and the ranks of the lowest and of the highest score,
-// 65,536 and 0 where there is none.
+// A run of cells, counted in numbers alone, so that none costs a jump by its bits: the fills, and the ranks of the lowest and of the highest
+// score, 65,536 and 0 where there is none.
 pub(crate) struct Run {
     pub fills: u64,
     pub low: u32,
