@@ -1,13 +1,17 @@
 -- The cells of a piece as they are read, and those of a tile that is absent. Assumes nothing.
-use Prim.Native.Nat.{ℕ, max, _+_, _-_, _*_, _≤_, _<_}
+use Prim.Native.Nat.{ℕ, max, _+_, _-_, _*_, _%_, _≤_, _<_}
 use mathlib.Core.Path.{_≡_, refl, sym, ap, _∙_}
 use mathlib.Core.List.{List}
 use mathlib.Core.Bool.{Bool, true, false, _||_}
 use native.Mathlib.Omega.{arith}
+use native.Mathlib.Numerals.{add-one}
 use lib.Dec.{leb, eqb}
+use lib.ListN.{length}
 use borrow.Author.Tests.{eqb-false, ne-eqb}
 use Rattle.wire.specs.Pick.{pick}
-use Rattle.wire.proofs.TestLaws.{not-both}
+use Rattle.wire.specs.Bytes.{numberAt}
+use Rattle.wire.specs.Tests.{both, passes, allBelow}
+use Rattle.wire.proofs.TestLaws.{not-both, below-each}
 use Rattle.blocks.specs.Tables.{Inside}
 use Rattle.score_sheets.specs.Sheet.{scoreRight}
 use Rattle.answer.specs.declared.Refusal.{Refusal}
@@ -24,12 +28,12 @@ use Rattle.answer.proofs.ValueLaws.{short-bits-kept}
 use Rattle.store.specs.declared.many.Rectangle.{Rectangle}
 use Rattle.store.specs.declared.pieces.Piece.{Piece}
 use Rattle.store.specs.Face.{tileColumns, elementCount, tileCount, element, check, meaning, heldCell, numberedCell, Holds, Accepts, AtPiece, Answered}
-use Rattle.store.proofs.PieceLaws.{answered-piece, start-small, rectangle-small, numbered-absent}
+use Rattle.store.proofs.PieceLaws.{answered-piece, start-small, rectangle-small, numbered-absent, numbered-stored}
 use Rattle.lay_down.specs.Sheet.{scoreElement}
 use Rattle.lay_down.proofs.SheetLaws.{score-of}
 use Rattle.sheets.specs.Back.{fault, scoreCell}
 use Rattle.sheets.specs.First.{isFault}
-use Rattle.sheets.specs.Rows.{AtOrigin, isAbsent, gridFault, Reads}
+use Rattle.sheets.specs.Rows.{AtOrigin, isAbsent, gridFault, Reads, StoredRun, runRight, CleanRun, StoredRow}
 
 -- a cell told
 
@@ -142,3 +146,74 @@ module _ (s : List ℕ) (k : ℕ) (a : Rectangle) (p : Piece) (x : Held) (m : Li
       let n : heldKind x ≡ 0 → ⊥ = λ z. let u : heldKind x ≡ 33 = ap heldKind y in omega arith in
       let d = w .numbered n r (i .from-top) (i .to-bottom) .each c (i .from-left) (i .to-right) ∙ cell-at r c in
       filled (scoreCell s k r c) x y (element s (a .e) .kind) (element s (a .e) .fill) (rw (o .0) (score-of s e .short)) (rw (o .0) (score-of s e .unread)) _ _ m s d
+
+-- cells that are stored one behind the other
+
+pub short-read : (v n : ℕ) → v ≡ n → v < 65536 → v ≡ n % 65536
+short-read v n e h = omega arith
+
+module _ (a b r : Bool) (e : r ≡ b) where
+  pub right-still : r ≡ true → a ≡ both a b
+  right-still f = go a
+    where
+      go : (x : Bool) → x ≡ both x b
+      go true = sym f ∙ e
+      go false = refl
+
+  pub right-lost : r ≡ false → false ≡ both a b
+  right-lost f = go a
+    where
+      go : (x : Bool) → false ≡ both x b
+      go true = sym f ∙ e
+      go false = refl
+
+module _ (s : List ℕ) (from : ℕ) where
+  pub run-none : true ≡ runRight s from 0
+  unfolding runRight allBelow
+  run-none = refl
+
+  pub run-next : (n v : ℕ) (a r : Bool) → r ≡ both a (scoreRight v) → v ≡ numberAt 2 s (from + 2 * n) % 65536 → a ≡ runRight s from n → r ≡ runRight s from (n + 1)
+  unfolding runRight allBelow passes
+  run-next n v a r e f g = e ∙ rw (f, g, add-one) (go (allBelow n (λ i. scoreRight (numberAt 2 s (from + 2 * i) % 65536))) (scoreRight (numberAt 2 s (from + 2 * n) % 65536)))
+    where
+      go : (x y : Bool) → both x y ≡ both x (both y true)
+      go true true = refl
+      go true false = refl
+      go false y = refl
+
+  pub run-all : (n i : ℕ) (a : Bool) → a ≡ runRight s from i → i ≤ n → n ≤ i → a ≡ runRight s from n
+  run-all n i a e h k = let m : n ≡ i = omega arith in rw m e
+
+  run-each : (n i : ℕ) → runRight s from n ≡ true → i < n → scoreRight (numberAt 2 s (from + 2 * i) % 65536) ≡ true
+  unfolding runRight
+  run-each n i e h = below-each n (λ j. scoreRight (numberAt 2 s (from + 2 * j) % 65536)) e i h
+
+pub stored-here :
+    (s : List ℕ) (x : Held) (kind start n from content : ℕ) → x ≡ held.Stored content → kind ≡ 3 →
+    (1 ≤ from → (content + 1 ≤ length s) × ((from ≡ content + 2 * start) × (from + 2 * n ≤ length s))) → 1 ≤ from → StoredRun s x kind start n from
+stored-here s x kind start n from content e k w h =
+    let y = w h in
+    record { content = content; stored = e; short = k; there = y .0; begins = y .1 .0; whole = y .1 .1 }
+
+module _ (s : List ℕ) (k : ℕ) (x : Held) (m : List ℕ) (kind fill tile start r left right : ℕ) (t : Reads s k x m kind fill tile start r left right) where
+  run-cell :
+      (from : ℕ) → StoredRun s x kind start (right - left) from → (c : ℕ) → left ≤ c → c < right →
+      (numberAt 2 s (from + 2 * (c - left)) % 65536 ≡ cellBits (scoreCell s k r c)) × (cellVerdict (scoreCell s k r c) ≡ verdict.Accepted)
+  run-cell from w c l n =
+      let d = t .each c l n in
+      let e : numberedCell s 3 fill m tile (start + (c - left)) (held.Stored (w .content)) ≡ scoreCell s k r c = rw (w .stored, w .short) at d in
+      let y = numbered-stored s fill m tile (start + (c - left)) (w .content) (w .there) in
+      let z : from + 2 * (c - left) ≡ w .content + 2 * (start + (c - left)) = omega (arith, w .begins) in
+      (ap (λ (p : ℕ). numberAt 2 s p % 65536) z ∙ sym (y .0) ∙ ap cellBits e, sym (ap cellVerdict e) ∙ y .1)
+
+  pub run-row : (from : ℕ) → StoredRun s x kind start (right - left) from → StoredRow s k from r left right
+  run-row from w = record { whole = w .whole; each = λ c l n. run-cell from w c l n .0 }
+
+  pub clean-row : CleanRun s x kind start (right - left) → (i c : ℕ) → Inside r (r + 1) left right i c → gridFault s k i c ≡ verdict.Accepted
+  unfolding gridFault
+  clean-row w i c h =
+      let e : i ≡ r = omega (arith, h .from-top, h .to-bottom) in
+      let y = run-cell (w .from) (w .run) c (h .from-left) (h .to-right) in
+      let b = run-each s (w .from) (right - left) (c - left) (w .right) (omega (arith, h .from-left, h .to-right)) in
+      let u : scoreRight (cellBits (scoreCell s k r c)) ≡ true = ap scoreRight (sym (y .0)) ∙ b in
+      ap (λ (j : ℕ). fault (scoreCell s k j c)) e ∙ sym (fault-none (scoreCell s k r c) verdict.Accepted (sym (y .1)) refl (cellBits (scoreCell s k r c)) true refl (sym u) refl)

@@ -6,7 +6,10 @@ use mathlib.Core.Bool.{Bool, true, false}
 use lib.Dec.{eqb}
 use lib.ListN.{length, getD}
 use Rattle.wire.specs.Pick.{pick}
+use Rattle.wire.specs.Bytes.{numberAt}
 use Rattle.wire.specs.Big.{bigOf}
+use Rattle.wire.specs.Tests.{allBelow}
+use Rattle.score_sheets.specs.Sheet.{scoreRight}
 use Rattle.answer.specs.declared.Verdict.{Verdict}
 use Rattle.answer.specs.declared.Held.{Held}
 use Rattle.answer.specs.declared.Held.the-variants as held
@@ -44,6 +47,30 @@ pub record Reads (s : List ℕ) (k : ℕ) (x : Held) (m : List ℕ) (kind fill t
   pub each :
       (c : ℕ) → left ≤ c → c < right →
       pick (eqb (heldKind x) 0) (heldCell s k x m r c 0) (numberedCell s kind fill m tile (start + (c - left)) x) ≡ scoreCell s k r c
+
+-- n cells of a tile from the one with the number `start` inside it on are stored Shorts, in the two bytes each that stand from `from` on
+pub record StoredRun (s : List ℕ) (x : Held) (kind start n from : ℕ) : Type 0 where
+  pub content : ℕ
+  pub stored : x ≡ held.Stored content
+  pub short : kind ≡ 3
+  pub there : content + 1 ≤ length s
+  pub begins : from ≡ content + 2 * start
+  pub whole : from + 2 * n ≤ length s
+
+-- n Shorts that stand one behind the other are scores
+unfoldable pub runRight : List ℕ → ℕ → ℕ → Bool
+runRight s from n = allBelow n (λ i. scoreRight (numberAt 2 s (from + 2 * i) % 65536))
+
+-- cells that are so stored, each a score
+pub record CleanRun (s : List ℕ) (x : Held) (kind start n : ℕ) : Type 0 where
+  pub from : ℕ
+  pub run : StoredRun s x kind start n from
+  pub right : runRight s from n ≡ true
+
+-- the cells of a row of the grid, so stored
+pub record StoredRow (s : List ℕ) (k from r left right : ℕ) : Type 0 where
+  pub whole : from + 2 * (right - left) ≤ length s
+  pub each : (c : ℕ) → left ≤ c → c < right → numberAt 2 s (from + 2 * (c - left)) % 65536 ≡ cellBits (scoreCell s k r c)
 
 -- rows and columns as a sheet has them
 pub record Sides (rows columns : ℕ) : Type 0 where

@@ -14,7 +14,7 @@ ghost use lib.ListN.{length, set};
 ghost use Rattle.blocks.specs.Tables.{Inside, Filled};
 ghost use Rattle.store.specs.Face.{Accepts, AtPiece, Answered};
 ghost use Rattle.lay_down.specs.Sheet.{scoreElement};
-ghost use Rattle.sheets.specs.Rows.{AtOrigin, Known, Reads, HasRoom, scoreByte};
+ghost use Rattle.sheets.specs.Rows.{AtOrigin, Known, Reads, StoredRow, HasRoom, scoreByte};
 
 // The two bytes of a score in their places.
 fn put_score(out: &mut [u8], at: usize, v: u32)
@@ -69,6 +69,73 @@ fn put_row(
     }
 }
 
+// The same of cells whose two bytes stand one behind the other in the file.
+fn put_stored(
+    file: &[u8],
+    compressor: u32,
+    a: Rectangle,
+    from: usize,
+    r: u64,
+    left: u64,
+    right: u64,
+    out: &mut [u8],
+)
+    requires room { ⌜ HasRoom a (now out) ⌝ }
+    requires inside { ⌜ (r < a .rows) × ((left ≤ right) × (right ≤ a .columns)) ⌝ }
+    requires stored { ⌜ StoredRow (now file) compressor from r left right ⌝ }
+    ensures { λ _. ⌜ Filled (2 * a .columns) (scoreByte (now (file .entry)) compressor) (Inside r (r + 1) (2 * left) (2 * right)) (now (out .entry)) (now (out .exit)) ⌝ }
+{
+    let mut c = left;
+    while c < right {
+        let v = wire::u16_at(file, from + (2 * (c - left)) as usize);
+        put_score(out, (2 * (r * a.columns + c)) as usize, v);
+        c += 1;
+    }
+}
+
+// The cells of one row of a piece, however they are held.
+fn put_run(
+    file: &[u8],
+    compressor: u32,
+    held: Held,
+    memory: &[u32],
+    kind: u32,
+    fill: u32,
+    a: Rectangle,
+    tile: u64,
+    start: u64,
+    r: u64,
+    left: u64,
+    right: u64,
+    out: &mut [u8],
+)
+    requires room { ⌜ HasRoom a (now out) ⌝ }
+    requires inside { ⌜ (r < a .rows) × ((left ≤ right) × (right ≤ a .columns)) ⌝ }
+    requires reads { ⌜ Reads (now file) compressor held (now memory) kind fill tile start r left right ⌝ }
+    ensures { λ _. ⌜ Filled (2 * a .columns) (scoreByte (now (file .entry)) compressor) (Inside r (r + 1) (2 * left) (2 * right)) (now (out .entry)) (now (out .exit)) ⌝ }
+{
+    let from = read::stored_run(file, held, kind, start, right - left);
+    if from == 0 {
+        put_row(
+            file,
+            compressor,
+            held,
+            memory,
+            kind,
+            fill,
+            a,
+            tile,
+            start,
+            r,
+            left,
+            right,
+            out,
+        );
+        return;
+    }
+    put_stored(file, compressor, a, from, r, left, right, out);
+}
+
 // The rows of a piece.
 fn put_piece(
     file: &[u8],
@@ -92,7 +159,7 @@ fn put_piece(
     let mut r = p.top;
     while r < p.bottom {
         let start = p.inside + (r - p.top) * across;
-        put_row(
+        put_run(
             file,
             compressor,
             held,

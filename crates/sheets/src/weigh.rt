@@ -56,6 +56,45 @@ fn weigh_row(
     w
 }
 
+// The same, and without a look at each cell where all are stored and scores.
+fn weigh_run(
+    file: &[u8],
+    compressor: u32,
+    held: Held,
+    memory: &[u32],
+    kind: u32,
+    fill: u32,
+    a: Rectangle,
+    tile: u64,
+    start: u64,
+    r: u64,
+    left: u64,
+    right: u64,
+) -> u64
+    requires sides { ⌜ Sides (a .rows) (a .columns) ⌝ }
+    requires inside { ⌜ (r < a .rows) × ((left ≤ right) × (right ≤ a .columns)) ⌝ }
+    requires reads { ⌜ Reads (now file) compressor held (now memory) kind fill tile start r left right ⌝ }
+    ensures { λ w. ⌜ w ≡ heaviest (a .rows) (a .columns) (gridFault (now (file .entry)) compressor) r (r + 1) left right ⌝ }
+{
+    if read::run_clean(file, held, kind, start, right - left) {
+        return 0;
+    }
+    weigh_row(
+        file,
+        compressor,
+        held,
+        memory,
+        kind,
+        fill,
+        a,
+        tile,
+        start,
+        r,
+        left,
+        right,
+    )
+}
+
 // The rows of a piece.
 fn weigh_piece(
     file: &[u8],
@@ -79,7 +118,7 @@ fn weigh_piece(
     let mut r = p.top;
     while r < p.bottom {
         let start = p.inside + (r - p.top) * across;
-        let row = weigh_row(
+        let row = weigh_run(
             file,
             compressor,
             held,

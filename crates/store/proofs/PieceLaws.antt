@@ -1,12 +1,17 @@
 -- Pieces of a rectangle, the walk over them, and what is held of the tile of each. Assumes nothing.
-use Prim.Native.Nat.{ℕ, _+_, _-_, _*_, _≤_, _<_}
+use Prim.Native.Nat.{ℕ, _+_, _-_, _*_, _%_, _≤_, _<_}
 use mathlib.Core.Path.{_≡_, refl, sym, ap, _∙_}
 use mathlib.Core.List.{List, [], _∷_}
 use mathlib.Core.Bool.{true}
 use mathlib.Core.Logic.{inl, inr, by-cases}
 use native.Mathlib.Decide.{decLe}
 use native.Mathlib.Omega.{arith}
-use Rattle.wire.specs.Tests.{_≤?_}
+use lib.ListN.{length}
+use mir.Syntax.{w16}
+use mir.Val.{Fits}
+use mir.Facts.{ofZ-toZ}
+use Rattle.wire.specs.Bytes.{numberAt}
+use Rattle.wire.specs.Tests.{_≤?_, passes}
 use Rattle.wire.proofs.TestLaws.{yes, no}
 use Rattle.blocks.specs.Blocks.{blockEnd, OneBlock}
 use Rattle.blocks.specs.Tables.{Inside}
@@ -22,8 +27,9 @@ use Rattle.answer.specs.Values.{valueOf, valueBits}
 use Rattle.answer.specs.Answers.{cellBits, cellVerdict, heldKind, heldVerdict}
 use Rattle.record.specs.Chain.{records}
 use Rattle.header.specs.Fields.{gridRows, gridColumns, tileRows, tileColumns, elementCount}
-use Rattle.header.specs.Element.{mostElements, element}
+use Rattle.header.specs.Element.{mostElements, cellSize, element}
 use Rattle.geometry.specs.Tiles.{tileCount, cellTile, cellInside}
+use Rattle.geometry.specs.Sizes.{cellOffset}
 use Rattle.geometry.proofs.GridLaws.{inside-along}
 use Rattle.check_header.specs.Ceilings.{mostGridSide}
 use Rattle.page_check.specs.Stages.{check}
@@ -31,7 +37,7 @@ use Rattle.page_check.proofs.AcceptedLaws.{accepted-sound}
 use Rattle.page_check.proofs.GivenLaws.{sound-range}
 use Rattle.cells.specs.Asked.{inGrid}
 use Rattle.cells.specs.Meaning.{meaning, heldMeaning}
-use Rattle.cells.specs.Many.{numberedCell, Holds}
+use Rattle.cells.specs.Many.{storedFrom, numberedCell, Holds}
 use Rattle.cells.specs.Demand2.{ShortBits}
 use Rattle.cells.proofs.CellLaws.{grid-means, count-small}
 use Rattle.cells.proofs.DemandLaws.{held-each, short-bits}
@@ -358,3 +364,16 @@ pub numbered-absent :
     × (cellVerdict (numberedCell s kind fill m tile inside held.Absent) ≡ Accepted)
 unfolding numberedCell
 numbered-absent s kind fill m tile inside = (refl, refl)
+
+-- a stored Short has the bits of the two bytes at its place
+pub numbered-stored :
+    (s : List ℕ) (fill : ℕ) (m : List ℕ) (tile inside at : ℕ) → at + 1 ≤ length s →
+    (cellBits (numberedCell s 3 fill m tile inside (held.Stored at)) ≡ numberAt 2 s (at + 2 * inside) % 65536)
+    × (cellVerdict (numberedCell s 3 fill m tile inside (held.Stored at)) ≡ Accepted)
+unfolding numberedCell storedFrom cellOffset cellSize valueOf
+numbered-stored s fill m tile inside at h =
+    let b : passes ((at + 1 ≤? length s) ∷ []) ≡ true = sym (yes _ (h, tt)) in
+    let y : inside * 2 ≡ 2 * inside = omega arith in
+    let z : cellOffset 3 inside ≡ 2 * inside = y in
+    let f : Fits w16 (numberAt 2 s (at + 2 * inside) % 65536) = record { fits = omega arith } in
+    rw (b, z) (ofZ-toZ {w = w16} f, refl)

@@ -31,6 +31,6 @@ put-piece-spec =
     (λ c κs. (room-still (c .before .before .before .before .before .loop .inv .1 .1) (c .before .before .before .before .before .before .before .before .before .pre .1 .1 .0), ((omega (arith, c .before .before .before .before .before .before .before .before .before .pre .1 .1 .1 .0 .sides), (omega (arith, c .before .before .before .before .before .before .before .before .before .pre .1 .1 .1 .0 .sides), omega (arith, c .before .before .before .before .before .before .before .before .before .pre .1 .1 .1 .0 .sides))), row-read _ _ _ _ _ _ (c .before .before .before .before .before .before .before .before .before .pre .1 .0 .0) (c .before .before .before .before .before .before .before .before .before .pre .1 .0 .1) (c .before .before .before .before .before .before .before .before .before .pre .1 .1 .1 .0) (c .before .before .before .before .before .before .before .before .before .pre .1 .1 .1 .1) _ _ _ _ _ (c .before .before .before .before .before .before .before .before .before .pre .0 .0) refl (c .before .before .before .before .before .before .before .before .before .pre .0 .1 .0) (c .before .before .before .before .before .before .before .before .before .pre .0 .1 .1) (omega arith) (omega arith))))
     (λ c. record { fits = omega arith })
     (λ c. omega arith)
-    (λ c. (omega arith, (omega arith, filled-under (c .before .before .before .before .before .before .before .before .loop .inv .1 .1) (c .before .before .put-row .ensures) (omega (arith, c .before .before .before .before .before .before .before .before .before .before .before .before .pre .1 .1 .1 .0 .sides)) (omega arith) (omega arith))))
+    (λ c. (omega arith, (omega arith, filled-under (c .before .before .before .before .before .before .before .before .loop .inv .1 .1) (c .before .before .put-run .ensures) (omega (arith, c .before .before .before .before .before .before .before .before .before .before .before .before .pre .1 .1 .1 .0 .sides)) (omega arith) (omega arith))))
     (λ c. search needs)
     (λ c. filled-ends (c .before .before .loop .inv .1 .1) (omega arith) refl))

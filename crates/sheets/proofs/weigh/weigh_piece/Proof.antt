@@ -31,5 +31,5 @@ weigh-piece-spec =
     (λ c κs. search needs)
     (λ c. record { fits = omega arith })
     (λ c. omega arith)
-    (λ c. (omega arith, (omega arith, heavy-under _ _ _ _ _ _ _ _ _ _ (c .before .before .before .before .before .before .loop .inv .1 .1) (c .before .weigh-row .ensures) (c .greater .ensures) (omega arith))))
+    (λ c. (omega arith, (omega arith, heavy-under _ _ _ _ _ _ _ _ _ _ (c .before .before .before .before .before .before .loop .inv .1 .1) (c .before .weigh-run .ensures) (c .greater .ensures) (omega arith))))
     (λ c. heavy-ends _ _ _ _ _ _ _ _ _ _ (c .before .before .loop .inv .1 .1) (omega arith) refl))
