@@ -87,7 +87,7 @@ fn put_stored(
 {
     let mut c = left;
     while c < right {
-        let v = wire::u16_at(file, from + (2 * (c - left)) as usize);
+        let v = read::short_at(file, from + (2 * (c - left)) as usize);
         put_score(out, (2 * (r * a.columns + c)) as usize, v);
         c += 1;
     }

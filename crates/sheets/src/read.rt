@@ -87,7 +87,7 @@ pub(crate) fn stored_run(file: &[u8], held: Held, kind: u32, start: u64, n: u64)
 }
 
 // The bits of a Short that lies whole in the file: read without a test, so that a loop takes several in a step.
-fn short_at(file: &[u8], at: usize) -> u32
+pub(crate) fn short_at(file: &[u8], at: usize) -> u32
     requires { ⌜ at + 2 ≤ length (now file) ⌝ }
     ensures { λ r. ⌜ r ≡ numberAt 2 (now (file .entry)) at % 65536 ⌝ }
 {

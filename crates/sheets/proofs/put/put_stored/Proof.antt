@@ -4,7 +4,6 @@ use mathlib.Core.Path.{refl, _∙_}
 use Rattle.blocks.specs.Tables.{Inside, Filled}
 use Rattle.blocks.proofs.TableLaws.{filled-none}
 use Rattle.sheets.specs.Rows.{scoreByte}
-use Rattle.sheets.proofs.ReadLaws.{short-read}
 use Rattle.sheets.proofs.TableLaws.{row-start, score-room, scores-more, filled-ends}
 use borrow.Author.Needs.{needs}
 use native.Mathlib.Omega.{arith}
@@ -27,13 +26,13 @@ put-stored-spec =
     (λ c. omega arith)
     (λ c. record { fits = omega (arith, c .before .before .before .before .pre .1 .1 .whole) })
     (λ c. record { fits = omega (arith, c .before .before .before .before .pre .1 .1 .whole) })
-    (λ c κs. search needs)
+    (λ c κs. omega (arith, c .before .before .before .before .pre .1 .1 .whole))
     (λ c. record { fits = omega (arith, row-start _ _ (c .before .before .before .before .before .before .before .pre .0) _ (c .before .before .before .before .before .before .before .pre .1 .0 .0)) })
     (λ c. record { fits = omega (arith, row-start _ _ (c .before .before .before .before .before .before .before .pre .0) _ (c .before .before .before .before .before .before .before .pre .1 .0 .0), c .before .before .before .before .before .before .before .pre .0 .sides .columns-few) })
     (λ c. record { fits = omega (arith, row-start _ _ (c .before .before .before .before .before .before .before .pre .0) _ (c .before .before .before .before .before .before .before .pre .1 .0 .0), c .before .before .before .before .before .before .before .pre .0 .sides .columns-few) })
     (λ c κs. score-room _ _ (c .before .before .before .before .before .before .before .pre .0) _ (c .before .before .before .before .before .before .before .pre .1 .0 .0) _ _ (c .before .before .before .before .loop .out) refl (c .before .before .before .before .loop .inv .1 .1 .long) (omega arith))
     (λ c. record { fits = omega arith })
     (λ c. omega arith)
-    (λ c. (omega arith, (omega arith, scores-more _ _ _ _ _ _ _ _ _ _ _ _ _ (c .before .before .before .before .before .before .before .loop .inv .1 .1) refl refl (short-read _ _ (c .before .before .before .before .before .u16-at .ensures .0) (c .before .before .before .before .before .u16-at .ensures .1) ∙ c .before .before .before .before .before .before .before .before .before .before .pre .1 .1 .each (c .before .before .before .before .before .before .before .loop .c) (omega arith) (omega arith)) refl (c .before .before .put-score .ensures) (c .before .before .before .before .before .before .before .before .before .before .pre .0) (c .before .before .before .before .before .before .before .before .before .before .pre .1 .0 .0) (omega arith) (omega arith))))
+    (λ c. (omega arith, (omega arith, scores-more _ _ _ _ _ _ _ _ _ _ _ _ _ (c .before .before .before .before .before .before .before .loop .inv .1 .1) refl refl (c .before .before .before .before .before .short-at .ensures ∙ c .before .before .before .before .before .before .before .before .before .before .pre .1 .1 .each (c .before .before .before .before .before .before .before .loop .c) (omega arith) (omega arith)) refl (c .before .before .put-score .ensures) (c .before .before .before .before .before .before .before .before .before .before .pre .0) (c .before .before .before .before .before .before .before .before .before .before .pre .1 .0 .0) (omega arith) (omega arith))))
     (λ c. search needs)
     (λ c. filled-ends (c .before .loop .inv .1 .1) refl (omega arith)))
