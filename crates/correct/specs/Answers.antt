@@ -1,5 +1,5 @@
 -- Req 03: what the calls are judged by. b is the buffer, n the page's length, s the page, t a time, i a tile's index, c the cell bytes of a
--- tile. Req 03, readings 2 and 3, give the order of the refusals.
+-- tile, ps a plan. Req 03, readings 2 and 3, give the order of the refusals.
 use Prim.Native.Nat.{ℕ, _+_}
 use mathlib.Core.List.{List, [], _∷_}
 use lib.ListN.{length}
@@ -16,6 +16,7 @@ use Rattle.check_header.specs.Ceilings.{mostFileBytes}
 use Rattle.page_check.specs.Stages.{check}
 use Rattle.writable.specs.Writable.{openForWriting}
 use Rattle.correct.specs.Front.{pageIn, workable}
+use Rattle.correct.specs.Plan.{planRight}
 
 -- "given the page's length (past the buffer: 12, first)" (Req 03, reading 1); then what is judged of the page
 unfoldable pub onPage : List ℕ → ℕ → Verdict → Verdict
@@ -44,6 +45,10 @@ cellsThen s c behind = gate (passes ((length c ≡? tileBytes s) ∷ [])) Input 
 
 unfoldable pub timeThen : ℕ → Verdict → Verdict
 timeThen t behind = gate (passes ((t ≢? 0) ∷ [])) Input behind
+
+-- Req 11: "A rejected plan, or one with too few or too many starts, is 12"
+unfoldable pub planThen : List ℕ → List ℕ → Verdict → Verdict
+planThen s ps behind = gate (planRight s ps) Input behind
 
 -- "13 exactly if neither has room, 4 if only the ceiling stands in the way; opening and closing refuse in the same way" (Req 03, reading
 -- 3), of the length m that the page would have: 13 if the buffer is shorter, the ceiling passed or not; else 4 if it passes the

@@ -1,4 +1,4 @@
--- Req 03 and Req 05: the calls. A call is one value; what it does to a page in a buffer is one line of a table, and what it answers, what
+-- Req 03, Req 05 and Req 11: the calls. A call is one value; what it does to a page in a buffer is one line of a table, and what it answers, what
 -- the buffer holds afterwards and which byte stores it makes are said of every line at once. b is the buffer, n the page's length.
 use Prim.Native.Nat.{ℕ, _<_, min}
 use mathlib.Core.List.{List, [], _∷_}
@@ -18,15 +18,18 @@ use Rattle.correct.specs.Opening.{openedPage, openedLength}
 use Rattle.correct.specs.Storing.{plainContents, storedPage, storedLength}
 use Rattle.correct.specs.Removing.{removedPage}
 use Rattle.correct.specs.Closing.{closedPage, closedLength}
-use Rattle.correct.specs.Answers.{onOpenPage, onAcceptedPage, workableThen, tileThen, cellsThen, timeThen, roomLeft, answered}
-use Rattle.correct.specs.Writes.{openWrites, storeWrites, removeWrites, closeWrites}
+use Rattle.correct.specs.Plan.{plannedEnd}
+use Rattle.correct.specs.Squeezing.{squeezedPage}
+use Rattle.correct.specs.Answers.{onOpenPage, onAcceptedPage, workableThen, tileThen, cellsThen, timeThen, planThen, roomLeft, answered}
+use Rattle.correct.specs.Writes.{openWrites, storeWrites, removeWrites, closeWrites, squeezeWrites}
 
--- a call, with what the caller gives: a time, a tile's index, the cell bytes of a tile
+-- a call, with what the caller gives: a time, a tile's index, the cell bytes of a tile, a plan of new starts
 pub data Call : Type 0 where
   Opening : ℕ → Call
   Storing : ℕ → List ℕ → Call
   Removing : ℕ → Call
   Closing : ℕ → Call
+  Squeezing : List ℕ → Call
 
 -- a time has 64 bits, and cell bytes are bytes
 abbrev pub Given : Call → Type 0
@@ -34,6 +37,7 @@ Given (Opening t) = t < 18446744073709551616
 Given (Storing i c) = Bytes c
 Given (Removing i) = Unit {0}
 Given (Closing t) = t < 18446744073709551616
+Given (Squeezing ps) = Unit {0}
 
 -- a call opens a page, works on an open one, or closes it
 pub data Role : Type 0 where
@@ -53,10 +57,15 @@ kindOf (Opening t) = record { role = Opens; names = λ j. false; holds = λ s. [
 kindOf (Storing i c) = record { role = Works; names = λ j. eqb j i; holds = λ s. plainContents s c }
 kindOf (Removing i) = record { role = Works; names = λ j. eqb j i; holds = λ s. [] }
 kindOf (Closing t) = record { role = Closes; names = λ j. false; holds = λ s. [] }
+kindOf (Squeezing ps) = record { role = Works; names = λ j. false; holds = λ s. [] }
 
--- whether it moves records that it does not name: none does
+-- whether it moves records that it does not name: squeezing alone does (Req 11, reading 11)
 abbrev pub moves : Call → Bool
-moves call = false
+moves (Opening t) = false
+moves (Storing i c) = false
+moves (Removing i) = false
+moves (Closing t) = false
+moves (Squeezing ps) = true
 
 -- the map then: what each tile holds; and the tiles that are named
 abbrev pub mapThen : List ℕ → Call → (ℕ → List (List ℕ)) → ℕ → List (List ℕ)
@@ -87,6 +96,8 @@ lineOf (Storing i c) b s =
 lineOf (Removing i) b s = record { verdict = tileThen s i Accepted; page = removedPage s i; long = length s; writes = removeWrites b s i }
 lineOf (Closing t) b s =
     record { verdict = timeThen t (roomLeft b (closedLength s)); page = closedPage s t; long = closedLength s; writes = closeWrites b s t }
+lineOf (Squeezing ps) b s =
+    record { verdict = planThen s ps Accepted; page = squeezedPage s ps; long = plannedEnd s ps; writes = squeezeWrites b s ps }
 
 -- which page a call is made on, by its role
 unfoldable pub admitted : Role → List ℕ → ℕ → Verdict → Verdict

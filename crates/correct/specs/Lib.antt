@@ -1,4 +1,4 @@
--- Correcting a page where it lies (Req 03): what each of the four calls makes of a page, what it answers, and the byte stores by which
+-- Correcting a page where it lies (Req 03, Req 11): what each of the five calls makes of a page, what it answers, and the byte stores by which
 -- it does so (Req 05).
 --
 -- A page is the first n bytes of a lent buffer: its front, and behind it its pieces, the records as lists of bytes. A call changes some
@@ -10,6 +10,9 @@ pub mod Opening
 pub mod Storing
 pub mod Removing
 pub mod Closing
+pub mod Plan
+pub mod Renamed
+pub mod Squeezing
 pub mod Answers
 pub mod RecordWrites
 pub mod FieldWrites

@@ -6,12 +6,12 @@ use mathlib.Core.List.{List, [], _++_}
 use mathlib.Core.Bool.{Bool, false, not}
 use lib.ListN.{length}
 use Rattle.wire.specs.Pick.{pick}
-use Rattle.wire.specs.Bytes.{part}
+use Rattle.wire.specs.Bytes.{part, bytesOf}
 use Rattle.record.specs.declared.Found.{Found}
 use Rattle.record.specs.declared.Found.the-variants.{At, Nothing}
 use Rattle.record.specs.Record.{lengthAt, contentAt}
-use Rattle.record.specs.Chain.{headerEnd, records}
-use Rattle.header.specs.Fields.{checksumEnabled}
+use Rattle.record.specs.Chain.{headerEnd, records, joined}
+use Rattle.header.specs.Fields.{checksumEnabled, metadataReference, tileDirectoryReference}
 use Rattle.header.specs.Element.{entriesRead}
 use Rattle.geometry.specs.Sizes.{elementBytes, plainTileLength}
 use Rattle.bodies.specs.TileDirectory.{tileDirectoryAt, referenceSize}
@@ -20,11 +20,12 @@ use Rattle.written_records.specs.Tile.{plainRecord}
 use Rattle.pieces.specs.Edits.{roomFor}
 use Rattle.writable.specs.Writable.{directoryFull}
 use Rattle.stores.specs.Stores.{Write, run}
-use Rattle.stores.specs.Writes.{wholeWrite, sealWrite}
+use Rattle.stores.specs.Writes.{oneWrite, wholeWrite, sealWrite}
 use Rattle.correct.specs.Opening.{unwanted, fullDirectory}
 use Rattle.correct.specs.Storing.{tileReferred, storedOver, freedOf, storedAt}
 use Rattle.correct.specs.Removing.{isThere}
 use Rattle.correct.specs.Closing.{fileSpaceRecord, anyFree}
+use Rattle.correct.specs.Squeezing.{movedTo, squeezedPieces}
 use Rattle.correct.specs.RecordWrites.{joinWrites, restWrites, overWrites, referWrites}
 use Rattle.correct.specs.FieldWrites.{firstSet, openedFieldWrites, referTo, closedFrontWrites}
 
@@ -80,3 +81,12 @@ unfoldable pub closeWrites : List ℕ → List ℕ → ℕ → List Write
 closeWrites d s t =
     listWrites (length d) s
     ++ closedFrontWrites (checksumEnabled s) (headerEnd s) t (anyFree s) (length s) (firstSet (part s 48 8)) (run (listWrites (length d) s) d)
+
+-- squeezing: all records and gaps in one go, lowest byte first, so no byte is read where one was stored; then the header
+unfoldable pub squeezeBody : List ℕ → List ℕ → List Write
+squeezeBody s ps =
+    oneWrite (headerEnd s) (joined (squeezedPieces s ps)) ++ oneWrite 64 (bytesOf 8 (movedTo s ps (metadataReference s)))
+    ++ oneWrite 80 (bytesOf 8 (movedTo s ps (tileDirectoryReference s)))
+
+unfoldable pub squeezeWrites : List ℕ → List ℕ → List ℕ → List Write
+squeezeWrites d s ps = squeezeBody s ps ++ sealWrite (checksumEnabled s) 16 (headerEnd s - 16) (run (squeezeBody s ps) d)

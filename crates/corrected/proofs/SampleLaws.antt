@@ -28,6 +28,9 @@ use Rattle.correct.specs.Opening.{compactOf, fullDirectory, openedFields, opene
 use Rattle.correct.specs.RecordWrites.{joinWrites, freeRunWrites}
 use Rattle.correct.specs.Removing.{isThere, removedPage, removedPieces}
 use Rattle.correct.specs.Storing.{cellsPut, freedOf, isPlain, newlyStored, overwritten, storedAt, storedOver, storedPage, storedPieces, tileReferred}
+use Rattle.correct.specs.Plan.{endFrom, gapRight, isKept, keptStarts, planFrom, planRight, plannedEnd, startRight, tightFrom, tightPlan}
+use Rattle.correct.specs.Renamed.{metadataRenamed, namedBy, putEach, renamedIn, tilesRenamed}
+use Rattle.correct.specs.Squeezing.{movedTo, squeezedFields, squeezedFrom, squeezedPage, squeezedPieces}
 use Rattle.correct.specs.Writes.{closeWrites, directoryWrites, freeingWrites, listWrites, openBody, openWrites}
 use Rattle.crc32c.specs.Crc.{crcBit, crcByte, crcOf, crcOver, crcPart}
 use Rattle.geometry.specs.Sizes.{elementBytes, elementPacking, leastLength, packingOf, plainTileLength, storedSize, tileBytes, tileLength, uncompressed}
@@ -53,7 +56,8 @@ use Rattle.writable.specs.Writable.{directoriesOpen, directoryFull, isOpened, n
 use Rattle.written_records.specs.Directory.{directoryForm, directoryOf, referencesOf}
 use Rattle.written_records.specs.Pieces.{checksumFor, recordHead, recordLength, recordOf, sealed, section, unclosed}
 use Rattle.written_records.specs.Tile.{plainRecord, sections, sectionsOf, tileRecord}
-use Rattle.corrected.specs.Samples.{Sampled}
+use Rattle.squeezed.specs.Squeezed.{gapsFrom, planGaps}
+use Rattle.corrected.specs.Samples.{Sampled, SqueezeSampled}
 
 pub sampled : Sampled
 unfolding advance place noFileSpace directoriesOpen carries directoryWrites referenceBytes referredTo tileReferred allBelow anyFree attach below blockAt blockSize bodyFault bodyRight byteAt bytesOf cellSize cellsPut chainFault check checkDirectories checkFromRecords checkHeader checkRecords checksumAt checksumFault checksumFor checksumOf checksumRight cleared closeWrites closed closedFields closedFront closedMore closedPage closedReference closedFieldWrites closedFrontWrites compactOf contentLengthAt countBelow crcBit crcByte crcOf crcOver crcPart dataType descriptionAt directoriesRight directoryForm directoryFull directoryOf element elementBytes elementContentAt elementName elementPacking elementRight elementsRight endOf endRight entriesRead entryAt entryCount entryEnd entryStart entryTexts every fieldsEnd fileSpaceAt fileSpaceRecord fileSpaceRight find findNot firstSet firstTwo firstWrong fiveRules following formRight frameRight freeCount freeEntryBytes freeEntryAt freeEntryIs freeEntryOf freeFits freeList freeListed freeNotEmpty freeOnly freeRecord freedOf freeing freeingWrites fullDirectory gate givesTile goesOn headerEnd headerRight identified identifier inRectangle inSpan indexRight isFree isOpened isPlain isThere joinFree joinWrites keysDistinct labelAt lastByte leastLength leftOver lengthRight letter listWrites listedOnce mark metadataAt metadataCount metadataDescriptionAt metadataDirectoryRight metadataEnd metadataEntryAt metadataEntryEnd metadataEntryIs metadataEntryOf metadataEntrySize metadataFits metadataLength metadataListed metadataName metadataOnly metadataRight methodCount methodsAt nameByte nameBytes namesDiffer never newlyStored nextTwo noOther nothingElse nothingToJoin number numberAt numberOf octet oneIf oneWrite openBody openForWriting openWrites openedFields openedFront openedMore openedPage openedReference openedFieldWrites optionsRight overwritten packingOf padded part passes pieceAt pieces piecesOf placeFor placed plainRecord plainTileLength positive productLabelAt put recordHead recordId recordIdAt recordLength recordLimit recordOf recordOk records recordsEnd recordsOf recordsRight rectangleRight referTo referenceAt referenceFrom referenceOf referenceSize referencesEnd referencesOf referring refersOrZero refersTo removedPage removedPieces resealed rightOf rows run freeRunWrites sameBytes sameKey sealWithout sealWrite sealed sealedFront section sectionAt sectionEnd sectionLength sectionPacking sectionRight sections sectionsOf select setWrites sidesRight sidesWithin some spanRight stages standing starts startsGo storeCount storedAt storedOver storedPage storedPieces storedSize stringEnd stringSize stringText sumBelow summedBytes tail tailRight takes textRight tileBytes tileCount tileDirectoryAt tileDirectoryRight tileEnd tileIndex tileLength tileRecord tileRight tilesAcross tilesAlong tilesDown tilesIn tilesListed tilesOnly unclosed uncompressed unitAt unless unlessRefused unwanted utf8 versionRight wholeWrite withReference within withinCeilings without zeros
@@ -79,4 +83,20 @@ sampled =
       close-stores = refl;
       last-store = refl;
       close-run = refl;
+    }
+
+pub squeeze-sampled : SqueezeSampled
+unfolding endFrom gapRight gapsFrom isKept keptStarts movedTo namedBy planFrom planGaps planRight plannedEnd putEach metadataRenamed renamedIn squeezedFields squeezedFrom squeezedPage squeezedPieces startRight tightFrom tightPlan tilesRenamed advance noFileSpace directoriesOpen carries referenceBytes referredTo tileReferred allBelow anyFree attach below blockAt blockSize bodyFault bodyRight byteAt bytesOf cellSize cellsPut chainFault check checkDirectories checkFromRecords checkHeader checkRecords checksumAt checksumFault checksumFor checksumOf checksumRight cleared closed compactOf contentLengthAt countBelow crcBit crcByte crcOf crcOver crcPart dataType descriptionAt directoriesRight directoryForm directoryFull directoryOf element elementBytes elementContentAt elementName elementPacking elementRight elementsRight endOf endRight entriesRead entryAt entryCount entryEnd entryStart entryTexts every fieldsEnd fileSpaceAt fileSpaceRecord fileSpaceRight find findNot firstTwo firstWrong fiveRules following formRight frameRight freeCount freeEntryBytes freeEntryAt freeEntryIs freeEntryOf freeFits freeList freeListed freeNotEmpty freeOnly freeRecord freedOf freeing fullDirectory gate givesTile goesOn headerEnd headerRight identified identifier inRectangle inSpan indexRight isFree isOpened isPlain isThere joinFree keysDistinct labelAt lastByte leastLength leftOver lengthRight letter listedOnce mark metadataAt metadataCount metadataDescriptionAt metadataDirectoryRight metadataEnd metadataEntryAt metadataEntryEnd metadataEntryIs metadataEntryOf metadataEntrySize metadataFits metadataLength metadataListed metadataName metadataOnly metadataRight methodCount methodsAt nameByte nameBytes namesDiffer never newlyStored nextTwo noOther nothingElse nothingToJoin number numberAt numberOf octet oneIf openForWriting openedFields openedFront openedMore openedPage openedReference optionsRight overwritten packingOf padded part passes pieceAt pieces piecesOf placeFor placed plainRecord plainTileLength positive productLabelAt put recordHead recordId recordIdAt recordLength recordLimit recordOf recordOk records recordsEnd recordsOf recordsRight rectangleRight referenceAt referenceFrom referenceOf referenceSize referencesEnd referencesOf referring refersOrZero refersTo removedPage removedPieces resealed rightOf rows sameBytes sameKey sealed sealedFront section sectionAt sectionEnd sectionLength sectionPacking sectionRight sections sectionsOf select sidesRight sidesWithin some spanRight stages standing starts startsGo storedAt storedOver storedPage storedPieces storedSize stringEnd stringSize stringText sumBelow summedBytes tail tailRight takes textRight tileBytes tileCount tileDirectoryAt tileDirectoryRight tileEnd tileIndex tileLength tileRecord tileRight tilesAcross tilesAlong tilesDown tilesIn tilesListed tilesOnly unclosed uncompressed unitAt unless unlessRefused unwanted utf8 versionRight withReference within withinCeilings without zeros
+squeeze-sampled =
+    record {
+      kept = refl;
+      accepted = refl;
+      long = refl;
+      refused = refl;
+      tight = refl;
+      header-reference = refl;
+      tile-reference = refl;
+      squeezed-open = refl;
+      gaps = refl;
+      gap-head = refl;
     }

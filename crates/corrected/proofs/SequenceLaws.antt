@@ -30,7 +30,7 @@ use Rattle.effects.proofs.BufferEffects.{page-long}
 use Rattle.lawful.specs.Lawful.{Leaves}
 use Rattle.lawful.proofs.CaseLaws.{lawful}
 use Rattle.lawful.proofs.StepLaws.{refused-leaves, lineIn, Stepped, stepped, after-bytes}
-use Rattle.corrected.specs.Sequence.{ifDone, mapAfterAll, namedAfterAll, topAfterAll, NoneMoves, AcceptedOrOpen, Holds, Sequence, Stays, SequenceStays, NoneDoes, StateThen}
+use Rattle.corrected.specs.Sequence.{ifDone, mapAfterAll, namedAfterAll, topAfterAll, NoneMoves, AcceptedOrOpen, Holds, Sequence, Stays, SequenceStays, StateThen}
 
 drop-more : (b d : List ℕ) (n m : ℕ) → n ≤ m → drop n d ≡ drop n b → drop m d ≡ drop m b
 drop-more b d n m h e =
@@ -238,10 +238,6 @@ sequence b n v h calls g = ended b n v h calls g .holds
 
 pub sequence-stays : SequenceStays
 sequence-stays b n v h calls g z = all-stays (pageIn b n) b (sound b n v h) calls g z (record { buffer = b; long = n }) (started b n v h) (stays-started b n v h)
-
-pub none-does : NoneDoes
-none-does [] = _
-none-does (call ∷ calls) = (refl, none-does calls)
 
 pub state-then : StateThen
 state-then b n v h calls g call c m e = left-by b n v h calls g call c m e

@@ -1,4 +1,4 @@
--- Req 03 and Req 05, samples on document 01's page of the listing: a 3 by 3 grid with 2 by 2 tiles and one Short, header to 336, tile 2
+-- Req 03, Req 05 and Req 11, samples on document 01's page of the listing: a 3 by 3 grid with 2 by 2 tiles and one Short, header to 336, tile 2
 -- at 336, tile directory at 368, 424 bytes.
 use Prim.Native.Nat.{ℕ}
 use mathlib.Core.Path.{_≡_}
@@ -6,7 +6,7 @@ use mathlib.Core.List.{List, [], _∷_, map}
 use mathlib.Core.Bool.{Bool, true, false}
 use lib.ListN.{length, drop}
 use Rattle.wire.specs.Bytes.{u32At, part, put}
-use Rattle.header.specs.Fields.{fileSpaceReference}
+use Rattle.header.specs.Fields.{fileSpaceReference, tileDirectoryReference}
 use Rattle.answer.specs.declared.Verdict.the-variants.{Accepted}
 use Rattle.page_check.specs.Stages.{check}
 use Rattle.sample_page.specs.Page.{file, cells}
@@ -18,7 +18,10 @@ use Rattle.correct.specs.Opening.{openedPage}
 use Rattle.correct.specs.Storing.{storedAt, storedPage}
 use Rattle.correct.specs.Removing.{removedPage}
 use Rattle.correct.specs.Closing.{closedPage}
+use Rattle.correct.specs.Plan.{keptStarts, planRight, plannedEnd, tightPlan}
+use Rattle.correct.specs.Squeezing.{squeezedPage}
 use Rattle.correct.specs.Writes.{openWrites, closeWrites}
+use Rattle.squeezed.specs.Squeezed.{planGaps}
 
 -- the page opened with 9
 abbrev pub opened : List ℕ
@@ -61,3 +64,30 @@ pub record Sampled : Type 0 where
   pub close-stores : storeCount (closeWrites (openedPage file 256) (openedPage file 256) 7) ≡ 20
   pub last-store : place 19 (closeWrites (openedPage file 256) (openedPage file 256) 7) ≡ 49
   pub close-run : run (closeWrites (openedPage file 256) (openedPage file 256) 7) (openedPage file 256) ≡ closedPage (openedPage file 256) 7
+
+-- Req 11: tile 0 stored and tile 2 removed, which leaves 32 free bytes at 336, the tile directory at 368 and tile 0 at 424
+abbrev pub worn : List ℕ
+worn = removedPage (storedPage opened 0 cells) 2
+
+abbrev pub goodPlans : List (List ℕ)
+goodPlans = (336 ∷ 392 ∷ []) ∷ (352 ∷ 408 ∷ []) ∷ (336 ∷ 408 ∷ []) ∷ (352 ∷ 424 ∷ []) ∷ (368 ∷ 424 ∷ []) ∷ []
+
+-- 8 behind the header, 8 between, in the header, no multiple of 8, up; a start too few, one too many, none, out of order
+abbrev pub badPlans : List (List ℕ)
+badPlans =
+    (344 ∷ 400 ∷ []) ∷ (336 ∷ 400 ∷ []) ∷ (328 ∷ 392 ∷ []) ∷ (340 ∷ 396 ∷ []) ∷ (376 ∷ 432 ∷ []) ∷ (336 ∷ []) ∷ (336 ∷ 392 ∷ 424 ∷ []) ∷ [] ∷ (392 ∷ 336 ∷ [])
+    ∷ []
+
+pub record SqueezeSampled : Type 0 where
+  pub kept : keptStarts worn ≡ 368 ∷ 424 ∷ []
+  pub accepted : map (planRight worn) goodPlans ≡ true ∷ true ∷ true ∷ true ∷ true ∷ []
+  pub long : map (plannedEnd worn) goodPlans ≡ 424 ∷ 440 ∷ 440 ∷ 456 ∷ 456 ∷ []
+  pub refused : map (planRight worn) badPlans ≡ false ∷ false ∷ false ∷ false ∷ false ∷ false ∷ false ∷ false ∷ false ∷ []
+  -- squeezed tight, the header refers to 344 and the directory to tile 0 by 50; the page is open
+  pub tight : tightPlan worn ≡ 336 ∷ 392 ∷ []
+  pub header-reference : tileDirectoryReference (squeezedPage worn (336 ∷ 392 ∷ [])) ≡ 344
+  pub tile-reference : u32At (squeezedPage worn (336 ∷ 392 ∷ [])) 368 ≡ 50
+  pub squeezed-open : openForWriting (squeezedPage worn (336 ∷ 392 ∷ [])) ≡ true
+  -- gaps of 16 at 336 and at 408
+  pub gaps : planGaps worn (352 ∷ 424 ∷ []) ≡ (336, 16) ∷ (408, 16) ∷ []
+  pub gap-head : part (squeezedPage worn (352 ∷ 424 ∷ [])) 408 12 ≡ 16 ∷ 0 ∷ 0 ∷ 0 ∷ 0 ∷ 0 ∷ 0 ∷ 0 ∷ 0 ∷ 0 ∷ 0 ∷ 0 ∷ []

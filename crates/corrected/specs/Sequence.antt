@@ -80,10 +80,6 @@ SequenceStays =
     let start : State = record { buffer = b; long = n } in
     Stays (pageIn b n) b (afterAll calls start) (namedAfterAll calls start (λ j. false))
 
--- none of the calls that there are does
-abbrev pub NoneDoes : Type 0
-NoneDoes = (calls : List Call) → NoneMoves calls
-
 -- "the file is then accepted": a closing that is not refused leaves an accepted file, any other such call a page open for writing
 abbrev pub StateThen : Type 0
 StateThen =

@@ -16,7 +16,7 @@ use Rattle.answer.specs.declared.Refusal.the-variants.{Ceiling, Room, Input, Ou
 use Rattle.answer.specs.declared.Verdict.{Verdict}
 use Rattle.answer.specs.declared.Verdict.the-variants as verdict
 use Rattle.answer.specs.Refusals.{refusalPlace, gate}
-use Rattle.answer.proofs.VerdictLaws.{refused-not, refused-is}
+use Rattle.answer.proofs.VerdictLaws.{gate-passed, refused-not, refused-is}
 use Rattle.record.specs.Chain.{headerEnd, records}
 use Rattle.header.specs.Fields.{timeOpened, elementCount}
 use Rattle.geometry.specs.Sizes.{elementBytes, plainTileLength}
@@ -33,7 +33,9 @@ use Rattle.correct.specs.Opening.{openedPage, openedLength}
 use Rattle.correct.specs.Storing.{storedOver, storedAt, storedPage, storedLength, plainContents}
 use Rattle.correct.specs.Removing.{removedPage}
 use Rattle.correct.specs.Closing.{closedPage, closedLength}
-use Rattle.correct.specs.Answers.{tileThen, cellsThen, timeThen, roomLeft}
+use Rattle.correct.specs.Plan.{plannedEnd}
+use Rattle.correct.specs.Squeezing.{squeezedPage}
+use Rattle.correct.specs.Answers.{tileThen, cellsThen, timeThen, planThen, roomLeft}
 use Rattle.correct.specs.Calls.{Call, lineOf}
 use Rattle.correct.specs.FieldWrites.{Lowest}
 use Rattle.correct.proofs.FieldLaws.{first-most, lowest-set}
@@ -47,11 +49,14 @@ use Rattle.kept_open.proofs.OverLaws.{stored-open}
 use Rattle.kept_open.proofs.RemovedLaws.{removed-open}
 use Rattle.opened_pages.proofs.OpenedLaws.{opened-opens}
 use Rattle.closed_pages.proofs.ClosedLaws.{closed-accepted}
+use Rattle.squeezed.proofs.OpenMoves.{squeezed-open}
+use Rattle.squeezed.proofs.MakeMoves.{squeeze-makes}
+use Rattle.squeezed.proofs.ByteMoves.{squeezed-bytes}
 use Rattle.lawful.specs.Marks.{timeBytes, KeepsMark}
 use Rattle.lawful.specs.Lawful.{Done, EachLawful}
 use Rattle.lawful.proofs.PageBytes.{opened-bytes, stored-bytes, removed-bytes, closed-bytes}
 use Rattle.lawful.proofs.HarmlessLaws.{harmless-behind}
-use Rattle.lawful.proofs.MarkLaws.{opening-begins, closing-ends}
+use Rattle.lawful.proofs.MarkLaws.{opening-begins, closing-ends, squeezing-harmless}
 
 -- of every refusal that a verdict gives
 
@@ -91,7 +96,7 @@ plain-same {s} {t} c h =
     rw (a, d) refl)
     ∙ ap (λ (n : ℕ). map (λ e. part c (sumBelow e (elementBytes s)) (elementBytes s e)) (below n)) (sym (h .count))
 
--- no page gets shorter
+-- by a call that moves no record no page gets shorter
 
 opened-grows : (s : List ℕ) → length s ≤ openedLength s
 unfolding openedLength
@@ -134,7 +139,11 @@ stays-marked {s} o a f =
       time = sym (number-same f 8 48 (omega arith) (omega arith));
     }
 
--- the four calls
+-- a call that moves records promises nothing of their places
+moves-not : {A : Type 0} → true ≡ false → A
+moves-not e = let z : _≡_ {A = ℕ} 0 1 = cc in absurd (omega arith)
+
+-- the five calls
 
 module _ (b : List ℕ) (n : ℕ) (w : Bytes b) (inside : n ≤ length b) where
   abbrev p : List ℕ
@@ -219,8 +228,25 @@ module _ (b : List ℕ) (n : ℕ) (w : Bytes b) (inside : n ≤ length b) where
         marks = closing-ends b p (open-page .sound) t (timeBytes p) l (time-long p) y;
       }
 
+  squeezes : (ps : List ℕ) → openForWriting p ≡ true → lineOf (Call.Squeezing ps) b p .verdict ≡ verdict.Accepted → Done (Call.Squeezing ps) b p
+  unfolding lineOf planThen
+  squeezes ps a e =
+      let r = gate-passed _ _ _ e .0 in
+      let open-page = open-exactly p .0 a in
+      let k = squeezed-open p page-bytes open-page ps r in
+      record {
+        makes = squeeze-makes b n w inside open-page ps r;
+        room = omega (arith, k .long, k .shorter, page-long b n inside);
+        bytes = squeezed-bytes p page-bytes ps;
+        left = open-exactly (squeezedPage p ps) .1 (k .open-page);
+        follows = k .follows;
+        places = λ z. moves-not z;
+        grows = λ z. moves-not z;
+        marks = record { harmless = squeezing-harmless b p (open-page .sound) ps _ (omega (arith, first-most (timeBytes p), time-long p)); time = k .time };
+      }
+
 pub lawful : EachLawful
-unfolding lineOf timeThen tileThen cellsThen
+unfolding lineOf timeThen tileThen cellsThen planThen
 lawful (Call.Opening t) =
     record { refused = λ b s. placeless-gate _ Input _ refl (placeless-room b _); sizes = λ h. refl; done = λ g b n w i a e. opens b n w i t g a e }
 lawful (Call.Storing i c) =
@@ -233,3 +259,5 @@ lawful (Call.Removing i) =
     record { refused = λ b s. placeless-gate _ OutsideGrid _ refl placeless-none; sizes = λ h. refl; done = λ g b n w k a e. removes b n w k i a e }
 lawful (Call.Closing t) =
     record { refused = λ b s. placeless-gate _ Input _ refl (placeless-room b _); sizes = λ h. refl; done = λ g b n w i a e. closes b n w i t g a e }
+lawful (Call.Squeezing ps) =
+    record { refused = λ b s. placeless-gate _ Input _ refl placeless-none; sizes = λ h. refl; done = λ g b n w i a e. squeezes b n w i ps a e }

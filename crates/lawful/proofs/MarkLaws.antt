@@ -1,5 +1,5 @@
--- Opening begins by setting a byte of the opened time that is not zero, closing ends by clearing it, and all else that they store
--- reaches into nothing that stages 1 to 4 judge. Assumes nothing.
+-- Opening begins by setting a byte of the opened time that is not zero, closing ends by clearing it, and all else that they store, and all
+-- that squeezing stores, reaches into nothing that stages 1 to 4 judge. Assumes nothing.
 use Prim.Native.Nat.{ℕ, _+_, _-_, _≤_, _<_}
 use native.Mathlib.Omega.{arith}
 use mathlib.Core.Path.{_≡_, sym, ap, _∙_}
@@ -11,18 +11,19 @@ use Rattle.wire.specs.Pick.{pick}
 use Rattle.wire.specs.Bytes.{part, bytesOf, zeros}
 use Rattle.wire.proofs.ByteLaws.{part-length, bytes-length, zeros-length}
 use Rattle.record.specs.Record.{contentAt}
-use Rattle.record.specs.Chain.{headerEnd}
-use Rattle.header.specs.Fields.{checksumEnabled}
+use Rattle.record.specs.Chain.{headerEnd, joined}
+use Rattle.header.specs.Fields.{checksumEnabled, metadataReference, tileDirectoryReference}
 use Rattle.page_check.specs.Accepted.{Sound}
 use Rattle.page_check.proofs.GivenLaws.{sound-range}
 use Rattle.record.specs.Chain.{records}
 use Rattle.writable.specs.Writable.{directoryFull}
-use Rattle.stores.specs.Stores.{Write, run}
+use Rattle.stores.specs.Stores.{Write, Apart, run}
 use Rattle.stores.specs.Writes.{oneWrite, wholeWrite, sealWrite}
 use Rattle.correct.specs.Opening.{unwanted, fullDirectory}
 use Rattle.correct.specs.Closing.{fileSpaceRecord, anyFree}
 use Rattle.correct.specs.FieldWrites.{firstSet, Lowest, setWrites, openedFieldWrites, referTo, closedFieldWrites, sealWithout, closedFrontWrites}
-use Rattle.correct.specs.Writes.{freeingWrites, directoryWrites, openBody, openWrites, listWrites, closeWrites}
+use Rattle.correct.specs.Squeezing.{movedTo, squeezedPieces}
+use Rattle.correct.specs.Writes.{freeingWrites, directoryWrites, openBody, openWrites, listWrites, closeWrites, squeezeBody, squeezeWrites}
 use Rattle.effects.proofs.LieLaws.{lie-whole}
 use Rattle.effects.proofs.FreeingEffects.{freeing-lies}
 use Rattle.lawful.specs.Marks.{Harmless, Begins, Ends}
@@ -165,3 +166,26 @@ module _ (d s : List ℕ) (o : Sound s) (t : ℕ) (v : List ℕ) (l : Lowest v) 
         whole = rw e (sym (append-assoc (listWrites (length d) s) (fields ++ sealing) (oneWrite (48 + j) (zeros 1))));
         harmless = harmless-append list-harmless (harmless-append fields-harmless sealing-harmless);
       }
+
+-- squeezing: records behind the header, and its two references
+
+one-apart : (at : ℕ) (v : List ℕ) {e : ℕ} → e ≤ at → Apart 0 e (oneWrite at v)
+unfolding oneWrite
+one-apart at v h = (inr h, _)
+
+pub squeezing-harmless : (d s : List ℕ) → Sound s → (ps : List ℕ) (p : ℕ) → p ≤ 56 → Harmless (headerEnd s) p (squeezeWrites d s ps)
+unfolding squeezeWrites squeezeBody
+squeezing-harmless d s o ps p h =
+    let l = long s o p (omega arith) in
+    let e = headerEnd s in
+    let J = joined (squeezedPieces s ps) in
+    let A = bytesOf 8 (movedTo s ps (metadataReference s)) in
+    let B = bytesOf 8 (movedTo s ps (tileDirectoryReference s)) in
+    let x = bytes-length 8 (movedTo s ps (metadataReference s)) in
+    let y = bytes-length 8 (movedTo s ps (tileDirectoryReference s)) in
+    let a : Harmless e p (oneWrite e J) = harmless-behind (one-apart e J {e = e} (omega arith)) (omega arith) (omega arith) in
+    let b : Harmless e p (oneWrite 64 A) = harmless-field 64 A (omega arith) (omega arith) (inr (omega arith)) in
+    let c : Harmless e p (oneWrite 80 B) = harmless-field 80 B (omega arith) (omega arith) (inr (omega arith)) in
+    harmless-append {xs = oneWrite e J ++ oneWrite 64 A ++ oneWrite 80 B}
+    (harmless-append {xs = oneWrite e J ++ oneWrite 64 A} (harmless-append {xs = oneWrite e J} a b) c)
+    (seal-harmless (checksumEnabled s) (run (oneWrite e J ++ oneWrite 64 A ++ oneWrite 80 B) d) (omega arith) (omega arith))

@@ -1,0 +1,11 @@
+pub mod PlanLaws
+pub mod TileMoves
+pub mod PutLaws
+pub mod EntryMoves
+pub mod FormMoves
+pub mod PieceMoves
+pub mod NamedLaws
+pub mod KeptMoves
+pub mod OpenMoves
+pub mod MakeMoves
+pub mod ByteMoves
