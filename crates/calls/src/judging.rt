@@ -32,7 +32,7 @@ pub(crate) fn on_accepted_page(buf: &[u8], n: usize) -> Verdict
 }
 
 // The page's length, then whether it is open for writing: 12, then 15.
-pub(crate) fn on_open_page(buf: &[u8], n: usize) -> Verdict
+pub fn on_open_page(buf: &[u8], n: usize) -> Verdict
     ensures { λ r. ⌜ r ≡ onOpenPage (now (buf .entry)) n Accepted ⌝ }
 {
     if buf.len() < n {

@@ -7,7 +7,7 @@
 // No function can lend the page for reading and write the buffer at once. So what a call needs is read first, by value, and written
 // then: judging answers what is to be done, and writing takes it.
 mod closing;
-mod judging;
+pub mod judging;
 mod lengths;
 pub mod on;
 mod opening;

@@ -159,6 +159,12 @@ one-put o p a v e h = h ∙ one-reported o a ∙ rw e
 pub two-put : (o p q : List ℕ) (a b v w : ℕ) → a ≡ v → p ≡ set o 0 a → b ≡ w → q ≡ set p 1 b → q ≡ reported (v ∷ w ∷ []) o
 two-put o p q a b v w e h f i = i ∙ rw h (two-reported o a b ∙ rw (e, f))
 
+-- the answer of a call, which it hands on
+pub laid-told :
+    (o p : List ℕ) (x y : Laid) (n : ℕ) → x ≡ y → n ≡ laidNumber x → p ≡ reported (laidReport x ∷ []) o →
+    (n ≡ laidNumber y) × (p ≡ reported (laidReport y ∷ []) o)
+laid-told o p x y n e i j = (rw (← e) i, rw (← e) j)
+
 -- the number and length, or place, of a lay-down or a correction, handed on, and what the buffer holds
 pub laid-handed :
     (o p f g : List ℕ) (x y : Laid) (n : ℕ) → x ≡ y → f ≡ g → n ≡ laidNumber x → p ≡ reported (laidReport x ∷ []) o →

@@ -81,14 +81,12 @@ pub extern "C" fn gvrs_replay(file: &mut [u8], n: u64, log: &[u8], out: &mut [u6
 }
 
 // The same of a call that stops; out[1] takes the number of byte stores that it has made.
-fn tell_stopped(x: StoppedCall, out: &mut [u64]) -> u32
+pub(crate) fn tell_stopped(x: StoppedCall, out: &mut [u64]) -> u32
     ensures number { λ r. ⌜ r ≡ laidNumber (x .answer) ⌝ }
     ensures numbers { λ _. ⌜ now (out .exit) ≡ reported (laidReport (x .answer) ∷ x .made ∷ []) (now (out .entry)) ⌝ }
 {
     let answer = x.answer;
-    crate::report(out, 0, crate::laid_report(answer) as u64);
-    crate::report(out, 1, x.made as u64);
-    answer::laid_number(answer)
+    crate::tell_laid_and(answer, x.made, out)
 }
 
 // Opens the page, and stops after a number of byte stores.

@@ -5,6 +5,7 @@ mod deed;
 mod description;
 mod rectangle;
 mod sheet;
+mod squeezing;
 
 use answer::Cell;
 use answer::Held;
@@ -265,6 +266,16 @@ pub(crate) fn tell_laid(x: Laid, out: &mut [u64]) -> u32
     ensures length { λ _. ⌜ now (out .exit) ≡ reported (laidReport x ∷ []) (now (out .entry)) ⌝ }
 {
     report(out, 0, laid_report(x) as u64);
+    answer::laid_number(x)
+}
+
+// The same with a second number, which out[1] takes.
+pub(crate) fn tell_laid_and(x: Laid, more: usize, out: &mut [u64]) -> u32
+    ensures number { λ r. ⌜ r ≡ laidNumber x ⌝ }
+    ensures numbers { λ _. ⌜ now (out .exit) ≡ reported (laidReport x ∷ more ∷ []) (now (out .entry)) ⌝ }
+{
+    report(out, 0, laid_report(x) as u64);
+    report(out, 1, more as u64);
     answer::laid_number(x)
 }
 

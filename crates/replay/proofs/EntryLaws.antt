@@ -80,6 +80,7 @@ RightOf m t (Call.Opening u) = ⊥
 RightOf m t (Call.Storing i c) = (i < m) × (length c ≡ t)
 RightOf m t (Call.Removing i) = i < m
 RightOf m t (Call.Closing u) = ⊥
+RightOf m t (Call.Squeezing ps) = ⊥
 
 abbrev pub AllRight : ℕ → ℕ → List Call → Type 0
 AllRight m t [] = Unit {0}
@@ -139,15 +140,18 @@ entry-wants (Call.Opening t) n s o = absurd n
 entry-wants (Call.Storing i c) n s o = o
 entry-wants (Call.Removing i) n s o = o
 entry-wants (Call.Closing t) n s o = absurd n
+entry-wants (Call.Squeezing ps) n s o = absurd n
 
 pub entry-makes : (call : Call) → Entry call → CallMakes call
 entry-makes (Call.Opening t) n = absurd n
 entry-makes (Call.Storing i c) n = store-makes i c
 entry-makes (Call.Removing i) n = remove-makes i
 entry-makes (Call.Closing t) n = absurd n
+entry-makes (Call.Squeezing ps) n = absurd n
 
 pub entry-leaves : (call : Call) → Entry call → (s : List ℕ) → Leaves (kindOf call .role) s → openForWriting s ≡ true
 entry-leaves (Call.Opening t) n s l = absurd n
 entry-leaves (Call.Storing i c) n s l = l
 entry-leaves (Call.Removing i) n s l = l
 entry-leaves (Call.Closing t) n s l = absurd n
+entry-leaves (Call.Squeezing ps) n s l = absurd n

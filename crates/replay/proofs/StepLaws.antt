@@ -129,6 +129,7 @@ line-refused (Call.Opening t) b s h = absurd h
 line-refused (Call.Storing i c) b s h = tile-passes s i _ (h .0) (cells-pass s c _ (h .1) (for-room b _))
 line-refused (Call.Removing i) b s h = tile-passes s i _ h (λ r e. refused-not (sym e))
 line-refused (Call.Closing t) b s h = absurd h
+line-refused (Call.Squeezing ps) b s h = absurd h
 
 entry-refused :
     (st : State) → openForWriting (pageOf st) ≡ true → (call : Call) → Entry call → RightOf (tileCount (pageOf st)) (tileBytes (pageOf st)) call →

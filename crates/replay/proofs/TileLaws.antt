@@ -58,6 +58,7 @@ later s (Call.Removing i) tiles j Untouched = go (eqb j i)
     go true = refl
     go false = refl
 later s (Call.Closing t) tiles j Untouched = refl
+later s (Call.Squeezing ps) tiles j Untouched = refl
 later s call tiles j (Stored c) = refl
 later s call tiles j Removed = refl
 

@@ -55,6 +55,7 @@ Entry (Call.Opening t) = ⊥
 Entry (Call.Storing i c) = Unit {0}
 Entry (Call.Removing i) = Unit {0}
 Entry (Call.Closing t) = ⊥
+Entry (Call.Squeezing ps) = ⊥
 
 abbrev pub Entries : List Call → Type 0
 Entries [] = Unit {0}

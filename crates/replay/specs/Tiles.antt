@@ -34,6 +34,7 @@ lastOf (Call.Opening t) j = Untouched
 lastOf (Call.Storing i c) j = pick (eqb j i) (Stored c) Untouched
 lastOf (Call.Removing i) j = pick (eqb j i) Removed Untouched
 lastOf (Call.Closing t) j = Untouched
+lastOf (Call.Squeezing ps) j = Untouched
 
 unfoldable pub lastFor : List Call → ℕ → Last
 lastFor [] j = Untouched

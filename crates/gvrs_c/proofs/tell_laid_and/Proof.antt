@@ -1,12 +1,12 @@
--- `gvrs_c::correction::tell_stopped` meets its contract. Assumes nothing.
+-- `gvrs_c::tell_laid_and` meets its contract. Assumes nothing.
 use mathlib.Core.Path.{refl}
 use Rattle.gvrs_c.proofs.ReportLaws.{two-put}
 use borrow.Author.Needs.{needs}
-use Rattle.gvrs_c.proofs.correction.tell_stopped.Statement.{statement}
-use Rattle.gvrs_c.proofs.correction.tell_stopped.Tie as tie
+use Rattle.gvrs_c.proofs.tell_laid_and.Statement.{statement}
+use Rattle.gvrs_c.proofs.tell_laid_and.Tie as tie
 
-pub tell-stopped-spec : {M : Type 1} → statement M
-tell-stopped-spec =
+pub tell-laid-and-spec : {M : Type 1} → statement M
+tell-laid-and-spec =
     tie.close
     (tie.spec
     (λ c κs. search needs)

@@ -1,0 +1,5 @@
+pub mod KeptLaws
+pub mod CheckLaws
+pub mod TightLaws
+pub mod AnswerLaws
+pub mod PackLaws

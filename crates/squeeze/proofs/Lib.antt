@@ -1,0 +1,9 @@
+pub mod MoveLaws
+pub mod FindLaws
+pub mod FillLaws
+pub mod FieldLaws
+pub mod DirectoryLaws
+pub mod KeptLaws
+pub mod SlideLaws
+pub mod ReadyLaws
+pub mod CallLaws
