@@ -26,6 +26,7 @@ struct request {
     uint64_t wait;        /* seconds; 0 where none are given */
     int quiet;
     int partial;          /* whether a replay that stops is written */
+    int squeeze;          /* whether a corrected page is squeezed */
 };
 
 /* The file that the command is about, and the second of a comparison: room for the longest and a byte more, so that a longer one is
@@ -92,6 +93,7 @@ int run_compare(const struct request *request);
 int run_store(const struct request *request);
 int run_remove(const struct request *request);
 int run_replay(const struct request *request);
+int run_squeeze(const struct request *request);
 int run_sheet_in(const struct request *request);
 int run_sheet_out(const struct request *request);
 

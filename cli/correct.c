@@ -1,4 +1,4 @@
-/* cli/correct.c: the commands that correct a page: store, remove, replay. The file is locked; the page is corrected in a buffer, written to a
+/* cli/correct.c: the commands that correct a page: store, remove, replay, squeeze. The file is locked; the page is corrected in a buffer, written to a
    copy beside the file, and the copy takes the file's name. A symbolic link is followed: it stays, and the file that it names is
    replaced. */
 #define _DEFAULT_SOURCE
@@ -157,10 +157,29 @@ static int replace(const struct original *o) {
 /* The longest log: a length of four bytes, and as many as it can state. */
 static const uint64_t LONGEST_LOG = 4 + (uint64_t)UINT32_MAX;
 
+/* A start for each record that a page may have; none is shorter than 16 bytes. */
+static uint64_t plan[LONGEST / 16];
+
+/* Closes the open page in its buffer, *n bytes long, squeezed before where that is asked for: the number that the calls give. *n is its
+   new length, or the refusal's place. */
+static uint32_t close_page(uint64_t *n, uint64_t time, int squeeze) {
+    uint64_t out[2];
+    if (squeeze) {
+        uint32_t number = gvrs_tight_plan(page.bytes, LONGEST, *n, plan, LONGEST / 16, out, 2);
+        if (number == GVRS_ACCEPTED)
+            number = gvrs_squeeze(page.bytes, LONGEST, *n, plan, out[1], out, 1);
+        *n = out[0];
+        if (number != GVRS_ACCEPTED)
+            return number;
+    }
+    return gvrs_close_page(page.bytes, LONGEST, *n, time, n, 1);
+}
+
 /* A tile, and the file with the bytes that it is to hold; none where it is to be removed. */
 struct change {
     uint64_t tile, time, cells_n;
     const char *cells_name;
+    int squeeze;
 };
 
 /* Corrects the page in its buffer, which is as long as a file may be: the number that the calls give, and the refusal's place. */
@@ -174,7 +193,7 @@ static uint32_t correct(const struct change *c, uint64_t *place) {
                                    : gvrs_store_tile(page.bytes, LONGEST, n, c->tile, cells, c->cells_n, place, 1);
     if (number != GVRS_ACCEPTED)
         return number;
-    number = gvrs_close_page(page.bytes, LONGEST, *place, c->time, place, 1);
+    number = close_page(place, c->time, c->squeeze);
     if (number == GVRS_ACCEPTED)
         page.n = *place;
     return number;
@@ -204,13 +223,13 @@ static int refused_change(uint32_t number, uint64_t place, const struct change *
     return refused(number, place, note);
 }
 
-/* A tile that is not there is removed without a change: the file stays, its time too. */
+/* A tile that is not there is removed without a change: the file stays, its time too, unless the page is squeezed. */
 static int correct_original(const struct original *o, const struct change *c) {
     uint64_t is[13], out[2], n = page.n, place;
     uint32_t number = gvrs_page(page.bytes, page.n, is, 13);
     if (number != GVRS_ACCEPTED)
         return refused(number, is[0], NULL);
-    int changes = c->cells_name != NULL || gvrs_content(page.bytes, page.n, c->tile, 0, out, 2) != GVRS_FILL;
+    int changes = c->squeeze || c->cells_name != NULL || gvrs_content(page.bytes, page.n, c->tile, 0, out, 2) != GVRS_FILL;
     number = correct(c, &place);
     if (number != GVRS_ACCEPTED)
         return refused_change(number, place, c, is);
@@ -223,7 +242,7 @@ static int correct_original(const struct original *o, const struct change *c) {
 
 /* The clock is read once the file is locked, so that a correction is never earlier than the one that it waited for. */
 static int run_change(const struct request *request, const char *cells_name) {
-    struct change c = {0, 0, 0, cells_name};
+    struct change c = {0, 0, 0, cells_name, request->squeeze};
     struct original o = NONE;
     if (number_given("INDEX", request->words[1], UINT64_MAX, &c.tile) != DONE)
         return FAILED;
@@ -253,9 +272,9 @@ static uint64_t entries_in(const uint8_t *log, uint64_t n, uint64_t tile) {
     return count;
 }
 
-/* Closes the page in its buffer, n bytes long, and replaces the file by it. */
-static int close_and_replace(const struct original *o, uint64_t n, uint64_t time) {
-    uint32_t number = gvrs_close_page(page.bytes, LONGEST, n, time, &n, 1);
+/* Closes the page in its buffer, n bytes long, squeezed before where that is asked for, and replaces the file by it. */
+static int close_and_replace(const struct original *o, uint64_t n, uint64_t time, int squeeze) {
+    uint32_t number = close_page(&n, time, squeeze);
     if (number == GVRS_ROOM)
         return refused_growth(n, ": the list of free records has no room");
     if (number != GVRS_ACCEPTED)
@@ -273,17 +292,22 @@ static int stopped(const struct request *request, const uint64_t *out, uint64_t 
     return refused_growth(0, behind);
 }
 
-/* A log without an entry changes nothing: the file stays, its time too. */
+/* Opens the page in its buffer: DONE and its new length, or the refusal, which is said. */
+static int open_in_buffer(uint64_t time, uint64_t *n) {
+    uint32_t number = gvrs_open_page(page.bytes, LONGEST, page.n, time, n, 1);
+    if (number == GVRS_ACCEPTED)
+        return DONE;
+    return number == GVRS_ROOM ? refused_growth(*n, "") : refused(number, *n, number == GVRS_INPUT ? "the time is 0" : NULL);
+}
+
+/* A log without an entry changes nothing: the file stays, its time too, unless the page is squeezed. */
 static int replay_original(const struct request *request, const struct original *o, uint64_t time, const uint8_t *log, uint64_t log_n) {
     uint64_t is[13], out[2], n = page.n;
     uint32_t number = gvrs_page(page.bytes, page.n, is, 13);
     if (number != GVRS_ACCEPTED)
         return refused(number, is[0], NULL);
-    number = gvrs_open_page(page.bytes, LONGEST, n, time, out, 1);
-    if (number == GVRS_ROOM)
-        return refused_growth(out[0], "");
-    if (number != GVRS_ACCEPTED)
-        return refused(number, out[0], time == 0 ? "the time is 0" : NULL);
+    if (open_in_buffer(time, out) != DONE)
+        return REFUSED;
     number = gvrs_replay(page.bytes, LONGEST, out[0], log, log_n, out, 2);
     if (number == GVRS_INPUT)
         return refused(number, out[0], "LOG is no correction log of this page, or names a tile that the page has not");
@@ -293,10 +317,11 @@ static int replay_original(const struct request *request, const struct original 
         status = stopped(request, out, all);
     if (status != DONE && !request->partial)
         return status;
-    int written = out[1] == 0 ? DONE : close_and_replace(o, out[0], time);
+    int changes = out[1] > 0 || (request->squeeze && status == DONE);
+    int written = changes ? close_and_replace(o, out[0], time, request->squeeze) : DONE;
     if (written != DONE)
         return written;
-    printf("%" PRIu64 " of %" PRIu64 " entries done, file of %" PRIu64 " bytes\n", out[1], all, out[1] == 0 ? n : page.n);
+    printf("%" PRIu64 " of %" PRIu64 " entries done, file of %" PRIu64 " bytes\n", out[1], all, changes ? page.n : n);
     return status;
 }
 
@@ -311,5 +336,24 @@ int run_replay(const struct request *request) {
         status = replay_original(request, &o, request->has_time ? request->time : milliseconds(CLOCK_REALTIME), log, log_n);
     close_original(&o);
     free(log);
+    return status;
+}
+
+static int squeeze_original(const struct original *o, uint64_t time) {
+    uint64_t n, was = page.n;
+    if (open_in_buffer(time, &n) != DONE)
+        return REFUSED;
+    int status = close_and_replace(o, n, time, 1);
+    if (status == DONE)
+        printf("squeezed, file of %" PRIu64 " bytes, before %" PRIu64 "\n", page.n, was);
+    return status;
+}
+
+int run_squeeze(const struct request *request) {
+    struct original o = NONE;
+    int status = open_original(request->words[0], request->wait, &o);
+    if (status == DONE)
+        status = squeeze_original(&o, request->has_time ? request->time : milliseconds(CLOCK_REALTIME));
+    close_original(&o);
     return status;
 }

@@ -5,7 +5,7 @@
 #include "cli.h"
 
 /* The options that a command takes, each with the name and the most of the number behind it; some have none. */
-enum { COMPRESSOR = 1, TIME = 2, WAIT = 4, QUIET = 8, SECOND = 16, MOST = 32, PARTIAL = 64 };
+enum { COMPRESSOR = 1, TIME = 2, WAIT = 4, QUIET = 8, SECOND = 16, MOST = 32, PARTIAL = 64, SQUEEZE = 128 };
 
 struct option {
     int option;
@@ -25,6 +25,7 @@ static const struct option OPTIONS[] = {
     {WAIT, "--wait", "SECONDS", UINT32_MAX,
      "--wait SECONDS waits up to so long for other corrections of FILE to end; without it, the command fails at once.\n"},
     {PARTIAL, "--partial", NULL, 0, "--partial writes the entries done where LOG stops; without it, FILE stays as it is then.\n"},
+    {SQUEEZE, "--squeeze", NULL, 0, "--squeeze then moves the records together, so that no free space is left, as `gvrs squeeze` does.\n"},
     {QUIET, "-q", NULL, 0, "-q prints no answer: the exit status says it. Refusals and failures are still said.\n"},
 };
 enum { OPTION_COUNT = sizeof OPTIONS / sizeof OPTIONS[0] };
@@ -65,17 +66,21 @@ static const struct command COMMANDS[] = {
      "and its tile and number inside it, `0 2 score 5 fill(5), tile 1, number 0`; by row, then column, then\n"
      "element. Then always how many differ.\n"
      "Exit status: 0 none differs, 5 some do, 1 refused, 2 failed.\n"},
-    {"store", "FILE INDEX CELLS", 3, TIME | WAIT, run_store,
+    {"store", "FILE INDEX CELLS", 3, TIME | WAIT | SQUEEZE, run_store,
      "Stores a tile: CELLS is a file with its bytes, all elements in order, little-endian, by rows. The page\n"
      "is written to a copy beside FILE, which then takes its name; where anything fails FILE stays as it is.\n"},
-    {"remove", "FILE INDEX", 2, TIME | WAIT, run_remove,
+    {"remove", "FILE INDEX", 2, TIME | WAIT | SQUEEZE, run_remove,
      "Removes a tile, so that its cells are fills. The page is written to a copy beside FILE, which then\n"
      "takes its name; where anything fails FILE stays as it is.\n"},
-    {"replay", "FILE LOG", 2, TIME | WAIT | PARTIAL, run_replay,
+    {"replay", "FILE LOG", 2, TIME | WAIT | PARTIAL | SQUEEZE, run_replay,
      "Replays a correction log: LOG is a file with stores and removals of tiles, which are done in their order.\n"
      "It stops at the first tile that the page cannot grow for, and says how many entries are done and how\n"
      "many are left. The page is written to a copy beside FILE, which then takes its name; where anything\n"
      "fails FILE stays as it is.\n"},
+    {"squeeze", "FILE", 1, TIME | WAIT, run_squeeze,
+     "Moves the records of a page together, so that no free space is left, and says how long the file then\n"
+     "is. What is stored stays. The page is written to a copy beside FILE, which then takes its name; where\n"
+     "anything fails FILE stays as it is.\n"},
     {"sheet-in", "FRONT SHEET FILE", 3, TIME, run_sheet_in,
      "Moves a score sheet into a page, a new file FILE. FRONT is a front, or a page of which the front is\n"
      "taken: with the sheet's rows and columns, and one element only, a Short with the fill -1.\n"},
@@ -142,6 +147,7 @@ static void set_option(struct request *request, int option, uint64_t number) {
     case WAIT: request->wait = number; break;
     case QUIET: request->quiet = 1; break;
     case PARTIAL: request->partial = 1; break;
+    case SQUEEZE: request->squeeze = 1; break;
     }
 }
 

@@ -1,17 +1,18 @@
 /* Gridfour Virtual Raster Store files, version 1.4: the check of a file, whole or in two halves, what a page is, reads of its cells,
    compressed ones too, whether its scores are certain, in which cells two pages differ, M32 codes, its elements by their names, the
-   laying down of a new one, score sheets moved in and out, the correcting of one where it lies, and the listing of a file.
+   laying down of a new one, score sheets moved in and out, the correcting and squeezing of one where it lies, and the listing of a file.
 
    Link with libgvrs_c.a, which `rt staticlib gvrs_c` writes to target/staticlib/. A file is the bytes of the whole file, n of
    them, but for gvrs_check_start. `out` takes the numbers that a function names, in their order; a shorter one takes those that
    fit, and the answer is the same. A lay-down also writes the buffer that it is given for the file, and so does a move of a score sheet,
-   out of a page that for the sheet; a correction the one that the page lies in, a listing the buffer for its text, an unpacking that for
-   the cells, gvrs_cells those for kinds and bits, gvrs_compare its list, M32 those for bytes and numbers; gvrs_cells, gvrs_deed,
-   gvrs_compare and gvrs_sheet_out the memory lent to them. Nothing else is written.
+   out of a page that for the sheet; a correction the one that the page lies in, gvrs_tight_plan the plan that it makes, a listing the
+   buffer for its text, an unpacking that for the cells, gvrs_cells those for kinds and bits, gvrs_compare its list, M32 those for bytes and
+   numbers; gvrs_cells, gvrs_deed, gvrs_compare and gvrs_sheet_out the memory lent to them, gvrs_squeeze its plan, which holds the same
+   numbers afterwards. Nothing else is written.
 
    The caller sees to it that each pointer is that of as many elements as are named, and that none is null, also where it names
    none; that what is written (`out`, the buffers and the memory) overlaps nothing else that is passed; that numbers of 32 bits are
-   aligned to 4 bytes and `out` to 8; and that the calling thread has 320 KiB of stack left. Any number of threads may call at once, the same
+   aligned to 4 bytes, `out` and plans to 8; and that the calling thread has 320 KiB of stack left. Any number of threads may call at once, the same
    function too: a call uses nothing but what it is passed and its own stack. What one call writes is passed to no other meanwhile. */
 #ifndef GVRS_H
 #define GVRS_H
@@ -36,9 +37,10 @@ enum {
     GVRS_DIRECTORY = 9,    /* directory at fault */
     GVRS_OUTSIDE = 10,     /* row, column, element, tile or rectangle asked for, or tile to correct, not in the grid */
     GVRS_COMPRESSED = 11,  /* content asked for is compressed; of a cell: and not of the compressor index named, or of a Float */
-    GVRS_INPUT = 12,       /* input wrong: of a lay-down, a score sheet, a correction, a correction log or a deed, or more first bytes than the stated
-                              length; of a comparison, two pages that differ in grid, tile sides or element types */
-    GVRS_ROOM = 13,        /* lay-down output, a score sheet's buffer, a page's for a correction, or one for the cells of a rectangle, too short */
+    GVRS_INPUT = 12,       /* input wrong: of a lay-down, a score sheet, a correction, a correction log, a plan or a deed, or more first bytes than the
+                              stated length; of a comparison, two pages that differ in grid, tile sides or element types */
+    GVRS_ROOM = 13,        /* lay-down output, a score sheet's buffer, a page's for a correction, one for the cells of a rectangle, or one for a
+                              plan, too short */
     GVRS_MALFORMED = 14,   /* compressed content malformed, or a Short in it out of range */
     GVRS_NOT_OPEN = 15,    /* no page that is open for writing */
     GVRS_INCOMPLETE = 16,  /* a byte that a stage needs is not given */
@@ -235,13 +237,13 @@ uint32_t gvrs_sheet_in(const uint8_t *front, uint64_t front_n, uint64_t time, co
 uint32_t gvrs_sheet_out(const uint8_t *file, uint64_t n, uint32_t compressor, uint32_t *memory, uint64_t memory_n,
                         uint8_t *sheet, uint64_t sheet_n, uint64_t *out, uint64_t out_n);
 
-/* A page is corrected where it lies: opened, its tiles stored or removed one by one, closed. file is a buffer of file_n bytes, of which
-   the first n are the page; each call is given the length that the last one answered.
+/* A page is corrected where it lies: opened, its tiles stored or removed one by one, squeezed where that is wanted, closed. file is a
+   buffer of file_n bytes, of which the first n are the page; each call is given the length that the last one answered.
 
-   0 done, and out[0] is the page's new length, at least n; else the refusal's number, and out[0] is its place, 0 but for a refusal of
-   the check. Done, the buffer holds the page, and the bytes behind it are as they were. Refused, the whole buffer is as it was.
-   Refused, in this order: 12 where n is above file_n; an opening as by gvrs_check, the other three by 15 where the page is not open for
-   writing; then as each of them says. A page is open for writing where its opened time is set and it is else as gvrs_check wants it,
+   0 done, and out[0] is the page's new length, of a squeezing at most n, of any other call at least n; else the refusal's number, and
+   out[0] is its place, 0 but for a refusal of the check. Done, the buffer holds the page, and the bytes behind it are as they were.
+   Refused, the whole buffer is as it was. Refused, in this order: 12 where n is above file_n; an opening as by gvrs_check, the others by
+   15 where the page is not open for writing; then as each of them says. A page is open for writing where its opened time is set and it is else as gvrs_check wants it,
    but without a file-space directory, with a tile directory that lists every tile of the grid, and with no two free records next to
    each other. gvrs_check answers 5 of it.
 
@@ -250,7 +252,7 @@ uint32_t gvrs_sheet_out(const uint8_t *file, uint64_t n, uint32_t compressor, ui
    behind its length, but for its checksum.
 
    Over any calls that begin with an opening the tiles are those of a map from index to bytes. Metadata, and tiles that no call names,
-   stay as they are, compressed ones too. A page that is closed is accepted by gvrs_check. */
+   keep their bytes, compressed ones too, and where none squeezes their places. A page that is closed is accepted by gvrs_check. */
 
 /* Opens a page: time is its opened time, 12 where that is 0. The file-space directory is freed. A tile directory that does not list every
    tile of the grid is replaced by one that does, at the page's end: 13 or 4. */
@@ -282,7 +284,27 @@ uint32_t gvrs_close_page(uint8_t *file, uint64_t file_n, uint64_t n, uint64_t ti
    depend on the tiles before and on the last entry for each index alone. */
 uint32_t gvrs_replay(uint8_t *file, uint64_t file_n, uint64_t n, const uint8_t *log, uint64_t log_n, uint64_t *out, uint64_t out_n);
 
-/* The four calls, each stopped after a number of byte stores: what stands in the buffer where the power is cut. Each answers as the call
+/* Squeezes an open page: its records move down, so that less or nothing between them is free. A plan has a new start for each record
+   behind the header that is not free, plan_n of them, in file order. It is right where each start is a multiple of 8 and not above the
+   record's old one, none is before the end of the record before it, or of the header, and the gap between the two is 0 or at least 16
+   bytes. The page then ends with its last record, every gap is one free record that holds zeros behind its length, but for its checksum,
+   and references to what has moved follow: in the header, and in the tile directory and the metadata directory. Tile and metadata records
+   keep their bytes and their order. 12 where the plan is not right, or has fewer or more starts than there are records.
+
+   plan is working space for the call, and holds the same numbers when it returns, whatever it answers. */
+uint32_t gvrs_squeeze(uint8_t *file, uint64_t file_n, uint64_t n, uint64_t *plan, uint64_t plan_n, uint64_t *out, uint64_t out_n);
+
+/* What gvrs_squeeze would answer: 0, and out[0] is the length that the page would have, or the refusal's number and its place. */
+uint32_t gvrs_check_plan(const uint8_t *file, uint64_t file_n, uint64_t n, const uint64_t *plan, uint64_t plan_n,
+                         uint64_t *out, uint64_t out_n);
+
+/* Makes the plan that slides every record against the one before it, which is right for every open page and leaves no free record: 0, and
+   out[0] is the length that the page would have by it; else the refusal's number, and out[0] is its place: 12 where n is above file_n, 15,
+   13 where plan_n is less than the number of starts. out[1] is that number, with 13 too, and 0 with 12 and 15. Done, plan begins with the
+   starts, and what stands behind them stays; refused, it is as it was. No page has more than 1,048,576. */
+uint32_t gvrs_tight_plan(const uint8_t *file, uint64_t file_n, uint64_t n, uint64_t *plan, uint64_t plan_n, uint64_t *out, uint64_t out_n);
+
+/* The five calls, each stopped after a number of byte stores: what stands in the buffer where the power is cut. Each answers as the call
    does: 0, and out[0] is the length that the whole call reaches, or the refusal's number and its place. out[1] is the number of byte stores
    that it has made, at most `stores`, and 0 where it is refused. The buffer holds what the call's first stores make of it; one more changes
    one byte at most. Given enough of them it is the call.
@@ -295,6 +317,8 @@ uint32_t gvrs_store_tile_stopped(uint8_t *file, uint64_t file_n, uint64_t n, uin
                                  uint64_t stores, uint64_t *out, uint64_t out_n);
 uint32_t gvrs_remove_tile_stopped(uint8_t *file, uint64_t file_n, uint64_t n, uint64_t tile, uint64_t stores, uint64_t *out, uint64_t out_n);
 uint32_t gvrs_close_page_stopped(uint8_t *file, uint64_t file_n, uint64_t n, uint64_t time, uint64_t stores, uint64_t *out, uint64_t out_n);
+uint32_t gvrs_squeeze_stopped(uint8_t *file, uint64_t file_n, uint64_t n, uint64_t *plan, uint64_t plan_n, uint64_t stores,
+                              uint64_t *out, uint64_t out_n);
 
 /* The listing of a file, as text: its length. `text` takes it where it fits, and what stands behind it stays; else `text` is as it
    was. A file over 65,536 bytes lists as `too long`. */

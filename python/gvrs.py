@@ -85,6 +85,8 @@ _FUNCTIONS = {
     "gvrs_lay_down": _FILE + [_U64, _LIST32, _U64, _BYTES, _U64, _BYTES, _U64],
     "gvrs_open_page": _FILE + [_U64, _U64],
     "gvrs_replay": _FILE + [_U64, _BYTES, _U64],
+    "gvrs_tight_plan": _FILE + [_U64, _LIST64, _U64],
+    "gvrs_squeeze": _FILE + [_U64, _LIST64, _U64],
     "gvrs_close_page": _FILE + [_U64, _U64],
     "gvrs_sheet_in": _FILE + [_U64, _BYTES, _U64, _BYTES, _U64],
     "gvrs_sheet_out": _FILE + [_U32, _LIST32, _U64, _BYTES, _U64],
@@ -463,13 +465,8 @@ class Page:
             return "the page has not one element only, a Short with the fill -1"
         return "a cell is neither -1 nor from 0 to 1000, or the metadata records named score_rule do not say the first rule"
 
-    def replay(self, log, time):
-        """The bytes of a new file: the page with a correction log replayed on it, opened, corrected and closed. `log` is bytes, each number
-        with its highest byte first: a length of all that follows in four bytes, a version byte 1, then entries: a byte 1, a tile's index in
-        four and the tile's bytes, as pack makes them, to store it, or a byte 2 and an index to remove it. `time` is the time modified, in
-        milliseconds since 1970. Raises Refused: the check's, 12 where the time is 0, or the log is not so or names a tile that the page has
-        not; Stopped, with 13, at the first entry for which the file would be too long."""
-        log, time = _bytes(log, "log"), _number64(time, "time")
+    def _open(self, time):
+        """The page opened in a buffer: the buffer, what asks for a call on it, and the page's length."""
         file = ctypes.create_string_buffer(LONGEST)
         self.check()
         ctypes.memmove(file, self._file, len(self._file))
@@ -480,10 +477,31 @@ class Page:
         number, [length, _] = ask("gvrs_open_page", len(self._file), time)
         if number != _DONE:
             raise Refused(number, length, "the time is 0" if number == _INPUT else None)
+        return file, ask, length
+
+    def squeeze(self, time):
+        """The bytes of a new file: the page with its records moved together, so that no free space is left, opened, squeezed and closed.
+        What is stored stays. `time` is the time modified, in milliseconds since 1970. Raises Refused: the check's, 12 where the time is 0."""
+        time = _number64(time, "time")
+        file, ask, length = self._open(time)
+        number, [length, _] = ask("gvrs_close_page", _squeezed(ask, length), time)
+        if number != _DONE:
+            raise Refused(number, length)
+        return ctypes.string_at(file, length)
+
+    def replay(self, log, time, squeeze=False):
+        """The bytes of a new file: the page with a correction log replayed on it, opened, corrected and closed. `log` is bytes, each number
+        with its highest byte first: a length of all that follows in four bytes, a version byte 1, then entries: a byte 1, a tile's index in
+        four and the tile's bytes, as pack makes them, to store it, or a byte 2 and an index to remove it. `time` is the time modified, in
+        milliseconds since 1970. Where `squeeze` is true the page is squeezed too before it is closed. Raises Refused: the check's, 12 where
+        the time is 0, or the log is not so or names a tile that the page has not; Stopped, with 13, at the first entry for which the file
+        would be too long."""
+        log, time = _bytes(log, "log"), _number64(time, "time")
+        file, ask, length = self._open(time)
         number, [length, entries] = ask("gvrs_replay", length, log, len(log))
         if number == _INPUT:
             raise Refused(number, length, "the log is no correction log of this page, or names a tile that the page has not")
-        closed, [whole, _] = ask("gvrs_close_page", length, time)
+        closed, [whole, _] = ask("gvrs_close_page", _squeezed(ask, length) if squeeze else length, time)
         corrected = ctypes.string_at(file, whole) if closed == _DONE else None
         if number != _DONE:
             raise Stopped(number, 0, f"stopped behind {entries} entries", entries, corrected)
@@ -493,6 +511,14 @@ class Page:
 
     def __repr__(self):
         return f"<gvrs.Page of {len(self._file)} bytes>"
+
+
+def _squeezed(ask, length):
+    """The open page squeezed tight: its new length."""
+    _, [_, starts] = ask("gvrs_tight_plan", length, (_U64 * 1)(), 0)  # 13, and how many there are
+    plan = (_U64 * starts)()
+    ask("gvrs_tight_plan", length, plan, starts)
+    return ask("gvrs_squeeze", length, plan, starts)[1][0]
 
 
 def _unlike(first, second):

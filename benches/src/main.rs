@@ -1,11 +1,12 @@
 //! Times the library's check, checksum, reads, lay-down and unpacking against the second
 //! implementation's, in one run, the cells and the scores of rectangles, a deed, two pages compared, a tile
-//! stored in an open page, score sheets moved in and out, correction logs replayed, and the check of hostile
-//! files. Fails where the check, unpacking, the cells or the scores of a rectangle, a deed, a comparison,
-//! the storing of a tile, the move of a sheet or the replaying of a log take longer than their bounds. With
-//! the word `hostile` it measures the hostile files alone, with `corrections` the storing of tiles alone,
-//! with `deeds` deeds alone, with `cells` the cells and scores alone, with `compare` comparisons alone, with
-//! `sheets` score sheets alone, with `replays` the replaying of logs alone.
+//! stored in an open page, an open page squeezed, score sheets moved in and out, correction logs replayed,
+//! and the check of hostile files. Fails where the check, unpacking, the cells or the scores of a rectangle,
+//! a deed, a comparison, the storing of a tile, the squeezing of a page, the move of a sheet or the replaying
+//! of a log take longer than their bounds. With the word `hostile` it measures the hostile files alone, with
+//! `corrections` the storing of tiles alone, with `squeezes` the squeezing of pages alone, with `deeds` deeds
+//! alone, with `cells` the cells and scores alone, with `compare` comparisons alone, with `sheets` score
+//! sheets alone, with `replays` the replaying of logs alone.
 
 mod cells;
 mod checksum;
@@ -20,6 +21,7 @@ mod reads;
 mod replays;
 mod shapes;
 mod sheets;
+mod squeezes;
 mod units;
 mod unpack;
 
@@ -39,6 +41,9 @@ fn main() -> ExitCode {
     }
     if env::args().any(|argument| argument == "corrections") {
         return exit_code(corrections::measure());
+    }
+    if env::args().any(|argument| argument == "squeezes") {
+        return exit_code(squeezes::measure());
     }
     if env::args().any(|argument| argument == "replays") {
         return exit_code(replays::measure());
@@ -66,9 +71,11 @@ fn main() -> ExitCode {
     let deeds = deeds::measure();
     let compared = compare::measure(&pages);
     let corrections = corrections::measure();
+    let squeezes = squeezes::measure();
     let sheets = sheets::measure(&pages);
     let replays = replays::measure();
-    exit_code(checks && unpacking && cells && deeds && compared && corrections && sheets && replays)
+    let corrected = corrections && squeezes && replays;
+    exit_code(checks && unpacking && cells && deeds && compared && sheets && corrected)
 }
 
 /// The check of some files, and of hostile ones.

@@ -586,6 +586,38 @@ class Replays(Tests):
         self.assertEqual((again.number, again.entries, again.file), (13, 15, stopped.file))
 
 
+class Squeezes(Tests):
+    """Pages squeezed tight, by themselves and behind a log."""
+
+    LOG = Replays.of((2, None), (0, b"\x11" * 8), (3, b"\x22" * 8), (0, None))
+
+    def test_squeezed(self):
+        worn = Page.of_bytes(page("page").replay(self.LOG, 9))
+        squeezed = Page.of_bytes(worn.squeeze(10))
+        squeezed.check()
+        self.assertEqual((len(worn.file), len(squeezed.file)), (488, 424))
+        self.assertEqual(gvrs.compare(worn, squeezed).number, 0)
+        self.assertEqual(squeezed.shape.time, 10)
+        self.assertEqual(squeezed.squeeze(10), squeezed.file)
+
+    def test_behind_a_log(self):
+        self.assertEqual(page("page").replay(self.LOG, 9, squeeze=True), Page.of_bytes(page("page").replay(self.LOG, 9)).squeeze(9))
+        again = page("page")
+        for _ in range(20):
+            again = Page.of_bytes(again.replay(self.LOG, 9, squeeze=True))
+            self.assertEqual(len(again.file), 424)
+
+    def test_packed(self):
+        packed = page("packed", compressor=3)
+        squeezed = Page.of_bytes(packed.squeeze(9), compressor=3)
+        self.assertEqual(repr(squeezed.cells("score", 0, 0, 2, 15)), repr(packed.cells("score", 0, 0, 2, 15)))
+
+    def test_refused(self):
+        self.assertRefused(12, 0, lambda: page("page").squeeze(0), "the time is 0")
+        self.assertRefused(5, 0, lambda: page("refused-5").squeeze(9))
+        self.assertSays(ValueError, "time is -1", page("page").squeeze, -1)
+
+
 class Packing(Tests):
     FRONT = gvrs.front(3, 3, 2, 2, [("z", "Short", 7)])
     TWO = gvrs.front(3, 3, 2, 2, [("glyph", "Integer", 0), ("score", "Short", -1)])

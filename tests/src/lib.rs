@@ -9,6 +9,7 @@ pub mod build;
 pub mod keys;
 pub mod library;
 pub mod page;
+pub mod plans;
 pub mod prng;
 pub mod random_page;
 pub mod second;

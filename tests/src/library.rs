@@ -251,6 +251,43 @@ extern "C" {
         out: *mut u64,
         out_n: u64,
     ) -> u32;
+    fn gvrs_check_plan(
+        file: *const u8,
+        file_n: u64,
+        n: u64,
+        plan: *const u64,
+        plan_n: u64,
+        out: *mut u64,
+        out_n: u64,
+    ) -> u32;
+    fn gvrs_tight_plan(
+        file: *const u8,
+        file_n: u64,
+        n: u64,
+        plan: *mut u64,
+        plan_n: u64,
+        out: *mut u64,
+        out_n: u64,
+    ) -> u32;
+    fn gvrs_squeeze(
+        file: *mut u8,
+        file_n: u64,
+        n: u64,
+        plan: *mut u64,
+        plan_n: u64,
+        out: *mut u64,
+        out_n: u64,
+    ) -> u32;
+    fn gvrs_squeeze_stopped(
+        file: *mut u8,
+        file_n: u64,
+        n: u64,
+        plan: *mut u64,
+        plan_n: u64,
+        stores: u64,
+        out: *mut u64,
+        out_n: u64,
+    ) -> u32;
 }
 
 /// The routes of `gvrs_cell` and `gvrs_cell_with`. Every other number is the directory too.
@@ -581,8 +618,46 @@ pub fn correct_into(file: &mut [u8], n: u64, call: &Call, out: &mut [u64]) -> u3
             }
             Call::Remove { tile } => gvrs_remove_tile(bytes, file_n, n, *tile, out, out_n),
             Call::Close { time } => gvrs_close_page(bytes, file_n, n, *time, out, out_n),
+            Call::Squeeze { plan } => lent_plan(plan, |plan, plan_n| {
+                gvrs_squeeze(bytes, file_n, n, plan, plan_n, out, out_n)
+            }),
         }
     }
+}
+
+/// A copy of the plan, in an allocation of exactly its length, which a call is lent and gives back
+/// with the same numbers.
+fn lent_plan(plan: &[u64], call: impl FnOnce(*mut u64, u64) -> u32) -> u32 {
+    let mut lent: Box<[u64]> = plan.into();
+    let number = call(lent.as_mut_ptr(), lent.len() as u64);
+    assert!(*lent == *plan, "answer {number}: the plan has changed");
+    number
+}
+
+/// The number of what a squeezing by this plan would give. The length or the place goes into `out`,
+/// of any length.
+pub fn check_plan_into(file: &[u8], n: u64, plan: &[u64], out: &mut [u64]) -> u32 {
+    let (bytes, file_n) = (file.as_ptr(), file.len() as u64);
+    let (plan, plan_n) = (plan.as_ptr(), plan.len() as u64);
+    // All slices are alive for the whole call and do not overlap.
+    unsafe { gvrs_check_plan(bytes, file_n, n, plan, plan_n, out.as_mut_ptr(), out.len() as u64) }
+}
+
+/// The number of the plan that slides every record against the one before it. It goes into the
+/// caller's plan; the length or the place, and the number of starts, into `out`, of any length.
+pub fn tight_plan_into(file: &[u8], n: u64, plan: &mut [u64], out: &mut [u64]) -> u32 {
+    let (bytes, file_n) = (file.as_ptr(), file.len() as u64);
+    let (plan, plan_n) = (plan.as_mut_ptr(), plan.len() as u64);
+    // All slices are alive for the whole call and do not overlap.
+    unsafe { gvrs_tight_plan(bytes, file_n, n, plan, plan_n, out.as_mut_ptr(), out.len() as u64) }
+}
+
+/// A squeezing by the caller's plan, in whatever memory it lies.
+pub fn squeeze_into(file: &mut [u8], n: u64, plan: &mut [u64], out: &mut [u64]) -> u32 {
+    let (bytes, file_n) = (file.as_mut_ptr(), file.len() as u64);
+    let (plan, plan_n) = (plan.as_mut_ptr(), plan.len() as u64);
+    // All slices are alive for the whole call and do not overlap.
+    unsafe { gvrs_squeeze(bytes, file_n, n, plan, plan_n, out.as_mut_ptr(), out.len() as u64) }
 }
 
 /// The number of a replay, on such a buffer. The length or the place, and the entries done, go into
@@ -620,6 +695,9 @@ pub fn correct_stopped_into(
             Call::Close { time } => {
                 gvrs_close_page_stopped(bytes, file_n, n, *time, stores, out, out_n)
             }
+            Call::Squeeze { plan } => lent_plan(plan, |plan, plan_n| {
+                gvrs_squeeze_stopped(bytes, file_n, n, plan, plan_n, stores, out, out_n)
+            }),
         }
     }
 }

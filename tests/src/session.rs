@@ -3,6 +3,7 @@
 
 use std::collections::BTreeMap;
 
+use crate::plans::{accepted_plan, changed_plan};
 use crate::prng::Prng;
 use crate::second::cells::{Spot, FILL, STORED, UNPACKED};
 use crate::second::chain::{Record, METADATA, METADATA_DIRECTORY, TILE};
@@ -12,6 +13,7 @@ use crate::second::fields::long_at;
 use crate::second::geometry::{tile_count, tiles_across, uncompressed_size};
 use crate::second::header::Header;
 use crate::second::open_page::is_open;
+use crate::second::squeeze::kept_of;
 use crate::second::unpack::{unpack, Shape};
 use crate::worn_page::time;
 
@@ -123,12 +125,29 @@ impl Session {
 
     fn call(&self, random: &mut Prng) -> Call {
         let (open, close) = if self.open { (1, 2) } else { (8, 1) };
-        let (store, remove) = if self.open { (9, 5) } else { (1, 1) };
-        match random.below(open + close + store + remove) {
+        let (store, remove, squeeze) = if self.open { (9, 5, 2) } else { (1, 1, 1) };
+        match random.below(open + close + store + remove + squeeze) {
             at if at < open => Call::Open { time: time_or_zero(random) },
             at if at < open + close => Call::Close { time: time_or_zero(random) },
             at if at < open + close + remove => Call::Remove { tile: self.any_tile(random) },
+            at if at < open + close + remove + squeeze => {
+                Call::Squeeze { plan: self.any_plan(random) }
+            }
             _ => Call::Store { tile: self.any_tile(random), cells: self.any_cells(random) },
+        }
+    }
+
+    /// Mostly one that is accepted. Of a page that is not open any numbers.
+    fn any_plan(&self, random: &mut Prng) -> Vec<u64> {
+        let Some((end, kept)) = kept_of(self.page()) else {
+            let count = random.below(4);
+            return (0..count).map(|_| random.long()).collect();
+        };
+        let plan = accepted_plan(end, &kept, random);
+        if random.one_in(6) {
+            changed_plan(&plan, random)
+        } else {
+            plan
         }
     }
 
@@ -167,6 +186,9 @@ impl Session {
         let Ok(page) = corrected else {
             return;
         };
+        if let Call::Squeeze { plan } = &asking.call {
+            self.move_places(plan, page);
+        }
         self.buffer[..page.len()].copy_from_slice(page);
         self.length = page.len();
         match &asking.call {
@@ -180,7 +202,24 @@ impl Session {
                 self.tiles.remove(tile);
                 self.untouched.remove(tile);
             }
+            Call::Squeeze { .. } => (),
         }
+    }
+
+    /// Records keep their bytes at their new starts. The metadata directory has new positions, which
+    /// stage 9 judges, and so has the header's reference to it.
+    fn move_places(&mut self, plan: &[u64], page: &[u8]) {
+        let (_, kept) = kept_of(self.page()).expect("an open page");
+        let to: BTreeMap<usize, usize> =
+            kept.iter().zip(plan).map(|((old, _), new)| (*old, *new as usize)).collect();
+        for (start, bytes) in self.metadata.iter_mut().chain(self.untouched.values_mut()) {
+            *start = to[start];
+            if bytes[4] == METADATA_DIRECTORY {
+                let end = *start + bytes.len();
+                bytes.copy_from_slice(&page[*start..end]);
+            }
+        }
+        self.front[64..72].copy_from_slice(&page[64..72]);
     }
 
     /// The bytes of one tile by their elements.
@@ -322,7 +361,9 @@ mod tests {
                 session.take_over(&asking, &corrected);
                 let call = format!("seed {seed}, call {number}: {:?}", asking.call);
                 assert_eq!(session.broken(), None, "{call}");
-                assert!(session.length >= length, "{call}: a shorter page");
+                let squeezed = matches!(asking.call, Call::Squeeze { .. });
+                assert!(squeezed || session.length >= length, "{call}: a shorter page");
+                assert!(!squeezed || session.length <= length, "{call}: a longer page");
                 match corrected {
                     Ok(_) => done += 1,
                     Err((number, _)) => refused[number as usize] += 1,

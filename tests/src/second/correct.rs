@@ -1,4 +1,5 @@
-//! Correcting a page where it lies (Req 03): an editor over a list of records.
+//! Correcting a page where it lies (Req 03): an editor over a list of records. Squeezing one (Req 11)
+//! is in `squeeze`.
 
 use super::chain::{FILE_SPACE_DIRECTORY, FREE, TILE, TILE_DIRECTORY};
 use super::check::{stages_1_to_9, Answer, Passed};
@@ -8,6 +9,7 @@ use super::geometry::{tile_bytes, tile_count, uncompressed_size};
 use super::header::{Header, FILE_CEILING, HEADER_START};
 use super::lay_down::{record, set_checksum, tile_directory, tile_record};
 use super::open_page::{open_page, tile_directory_is_full};
+use super::squeeze::squeeze;
 
 /// What a call is given beside the buffer and the page's length (Req 03, reading 1).
 #[derive(Clone, Debug, PartialEq)]
@@ -28,6 +30,10 @@ pub enum Call {
     Close {
         time: u64,
     },
+    /// New starts of the records that are kept (Req 11).
+    Squeeze {
+        plan: Vec<u64>,
+    },
 }
 
 /// The page that a call leaves, or the refusal.
@@ -46,6 +52,7 @@ pub fn correct(buffer: &[u8], n: u64, call: &Call) -> Corrected {
         Call::Store { tile, cells } => store(page, room, *tile, cells),
         Call::Remove { tile } => remove(page, *tile),
         Call::Close { time } => close(page, room, *time),
+        Call::Squeeze { plan } => squeeze(page, plan),
     }
 }
 
@@ -352,7 +359,7 @@ fn is_free(record: &[u8]) -> bool {
 
 /// G Table 13. Req 03: "Freed, joined or left-over reserved bytes and content are zeroed". The
 /// checksum is of the first eight bytes (document 01, stage 7).
-fn free_record(length: usize, checksums_on: bool) -> Vec<u8> {
+pub(super) fn free_record(length: usize, checksums_on: bool) -> Vec<u8> {
     let mut free = (length as u32).to_le_bytes().to_vec();
     free.resize(length, 0);
     if checksums_on {

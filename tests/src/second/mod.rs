@@ -26,6 +26,7 @@ pub mod predict;
 pub mod rectangles;
 pub mod replay;
 pub mod sheets;
+pub mod squeeze;
 pub mod start;
 pub mod unpack;
 pub mod utf8;

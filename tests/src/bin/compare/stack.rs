@@ -116,20 +116,31 @@ fn same(file: &[u8], compressor: u32, memory: &mut [u32]) -> u32 {
     library::compare_into(page, page, memory, &mut [0; 7], &mut [0; 2])
 }
 
-/// All four calls of a correction, on a page that they can be done on, as far as its room goes.
+/// All calls of a correction, on a page that they can be done on, as far as its room goes.
 fn correct_and_close(file: &[u8]) {
     let mut page = [0; 13];
     library::page_into(file, &mut page);
     let mut buffer = [file, &vec![0; file.len() + 2 * page[7] as usize]].concat();
     let cells = vec![7; page[7] as usize];
     let store = Call::Store { tile: 0, cells };
-    let calls = [Call::Open { time: 1 }, store, Call::Remove { tile: 0 }, Call::Close { time: 1 }];
     let mut n = [file.len() as u64];
-    for call in &calls {
-        let mut out = n;
-        if library::correct_into(&mut buffer, n[0], call, &mut out) == 0 {
-            n = out;
-        }
+    for call in [Call::Open { time: 1 }, store, Call::Remove { tile: 0 }] {
+        correct_on(&mut buffer, &mut n, &call);
+    }
+    let mut plan = vec![0; file.len() / 16];
+    let mut out = [0; 2];
+    if library::tight_plan_into(&buffer, n[0], &mut plan, &mut out) == 0 {
+        plan.truncate(out[1] as usize);
+        library::check_plan_into(&buffer, n[0], &plan, &mut [0]);
+        correct_on(&mut buffer, &mut n, &Call::Squeeze { plan });
+    }
+    correct_on(&mut buffer, &mut n, &Call::Close { time: 1 });
+}
+
+fn correct_on(buffer: &mut [u8], n: &mut [u64; 1], call: &Call) {
+    let mut out = *n;
+    if library::correct_into(buffer, n[0], call, &mut out) == 0 {
+        *n = out;
     }
 }
 

@@ -124,7 +124,7 @@ fn bare_difference(buffer: &[u8], n: u64, call: &Call, corrected: &Corrected) ->
         return Some(format!("library {answered}, {}, second {number}, {first}", out[0]));
     }
     if given != *call {
-        return Some("the cells have changed".to_string());
+        return Some("what is given has changed".to_string());
     }
     let wanted = left(buffer, corrected);
     let differs = |at: &usize| lent[*at] != wanted[*at];

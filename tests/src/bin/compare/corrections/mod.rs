@@ -1,4 +1,4 @@
-//! Pages corrected where they lie (Req 03).
+//! Pages corrected where they lie (Req 03, Req 11).
 
 mod addresses;
 pub mod ask;
@@ -12,6 +12,7 @@ mod refused;
 mod rooms;
 pub mod sample;
 mod sequences;
+mod squeezes;
 mod stopped;
 pub mod tally;
 mod times;
@@ -33,5 +34,6 @@ pub fn section(run: &mut Run, random: &mut Prng) {
     if !run.small {
         long_files::section(run, random);
     }
+    squeezes::section(run, random);
     stopped::section(run, random);
 }

@@ -75,8 +75,27 @@ const CLOSED: [&str; 3] = [
     "closing with several free records",
 ];
 
+const SQUEEZED: [&str; 3] = [
+    "squeezing tight: no free record is left",
+    "squeezing that moves nothing",
+    "squeezing to any starts",
+];
+const GAPS: [&str; 3] = [
+    "squeezing: a gap behind the header",
+    "squeezing: a gap between records",
+    "squeezing: a gap of 16",
+];
+const DROPPED: &str = "squeezing: free space at the end is dropped";
+const ZEROED: &str = "squeezing: a free record with junk that stays is zeroed";
+const MOVED: [&str; 3] = [
+    "squeezing: a compact tile directory moves",
+    "squeezing: a standard tile directory moves",
+    "squeezing: the metadata directory moves",
+];
+const OVERLAPS: &str = "squeezing: a record moves by less than its length";
+
 pub fn want(run: &mut Run) {
-    let lists: [&[&str]; 12] = [
+    let lists: [&[&str]; 15] = [
         &CHECKSUMS,
         &FULL_STAYS,
         &REPLACED,
@@ -88,10 +107,14 @@ pub fn want(run: &mut Run) {
         &REFERENCES,
         &REMOVED,
         &CLOSED,
+        &SQUEEZED,
+        &GAPS,
+        &MOVED,
         &[WITH_METADATA, OLD_ALONE, OLD_JOINED, LIST_ALONE, NO_LIST, JUNK_JOINED, JUNK_STAYS],
     ];
     let others = [PARTLY_PACKED, JOINED_TO_FIT, EXACTLY, SIXTEEN_MORE, MORE, NOT_THE_FIRST];
-    let last = [NOT_THE_LAST, INTO_JUNK, REMOVED_PACKED, REMOVED_LAST, ABSENT];
+    let last =
+        [NOT_THE_LAST, INTO_JUNK, REMOVED_PACKED, REMOVED_LAST, ABSENT, DROPPED, ZEROED, OVERLAPS];
     for thing in lists.into_iter().flatten().chain(&others).chain(&last) {
         run.corrections.want(thing);
     }
@@ -164,7 +187,45 @@ pub fn note(run: &mut Run, before: &[u8], behind: &[u8], call: &Call) {
             let free = old.of_kind(FREE).len();
             run.corrections.reached(CLOSED[free.min(2)]);
         }
+        Call::Squeeze { plan } => squeezed(run, &old, &new, plan),
     }
+}
+
+fn squeezed(run: &mut Run, old: &Chain, new: &Chain, plan: &[u64]) {
+    let is_kept = |number: &usize| old.kind(*number) != Some(FREE);
+    let kept: Vec<usize> = (0..old.records.len()).filter(is_kept).collect();
+    let start = |number: usize| old.records[number].0;
+    let moved = |number: usize, to: u64| start(number) as u64 != to;
+    let pairs = || kept.iter().copied().zip(plan.iter().copied());
+    let form = if !new.of_kind(FREE).is_empty() && !pairs().any(|(own, to)| moved(own, to)) {
+        1
+    } else {
+        2 * usize::from(!new.of_kind(FREE).is_empty())
+    };
+    run.corrections.reached(SQUEEZED[form]);
+    let moves = |kind: u8| pairs().any(|(own, to)| old.kind(own) == Some(kind) && moved(own, to));
+    let standard = old.records[old.of_kind(TILE_DIRECTORY)[0]].1[9] == 1;
+    let gaps = new.of_kind(FREE);
+    let zeroed = |number: &usize| {
+        let (at, _) = new.records[*number];
+        let here = old.of_kind(FREE).into_iter().find(|free| old.records[*free].0 == at);
+        here.is_some_and(|free| old.has_junk(free) && old.length(free) == new.length(*number))
+    };
+    let overlap = |(own, to): (usize, u64)| {
+        let down = start(own) as u64 - to;
+        down > 0 && down < old.length(own) as u64
+    };
+    run.corrections.reached_if(&[
+        (GAPS[0], gaps.first() == Some(&0)),
+        (GAPS[1], gaps.iter().any(|number| *number > 0)),
+        (GAPS[2], gaps.iter().any(|number| new.length(*number) == 16)),
+        (DROPPED, old.records.len().checked_sub(1).and_then(|last| old.kind(last)) == Some(FREE)),
+        (ZEROED, gaps.iter().any(zeroed)),
+        (MOVED[0], moves(TILE_DIRECTORY) && !standard),
+        (MOVED[1], moves(TILE_DIRECTORY) && standard),
+        (MOVED[2], moves(METADATA_DIRECTORY)),
+        (OVERLAPS, pairs().any(overlap)),
+    ]);
 }
 
 fn opened(run: &mut Run, before: &[u8], old: &Chain, new: &Chain) {

@@ -162,7 +162,7 @@ fn faulty_call(good: Call, session: &Session, set: &[Fault], random: &mut Prng) 
             Call::Open { time } | Call::Close { time } => *time = 0,
             Call::Store { cells, .. } if random.one_in(2) => cells.push(0),
             Call::Store { cells, .. } => drop(cells.pop()),
-            Call::Remove { .. } => (),
+            Call::Remove { .. } | Call::Squeeze { .. } => (),
         }
     }
     call

@@ -83,8 +83,9 @@ fn step(run: &mut Run, session: &mut Session, asking: &Asking) -> Option<u32> {
         run.fault(&format!("{SORT}: behind {:?}: {rule}", asking.call), session.page());
         return None;
     }
-    if session.length < before.len() {
-        run.fault(&format!("{SORT}: behind {:?}: a shorter page", asking.call), session.page());
+    let squeezed = matches!(asking.call, Call::Squeeze { .. });
+    if if squeezed { session.length > before.len() } else { session.length < before.len() } {
+        run.fault(&format!("{SORT}: behind {:?}: its length", asking.call), session.page());
         return None;
     }
     if corrected.is_ok() {

@@ -24,11 +24,12 @@ const BETWEEN: usize = 40;
 
 const MARK: u64 = 0x5a5a_5a5a_a5a5_a5a5;
 
-const EVERY_STOP: [&str; 4] = [
+const EVERY_STOP: [&str; 5] = [
     "opening stopped after each of its stores",
     "storing stopped after each of its stores",
     "removing stopped after each of its stores",
     "closing stopped after each of its stores",
+    "squeezing stopped after each of its stores",
 ];
 const LONG: &str = "a call of very many stores stopped";
 const REFUSED: &str = "a refused call makes no store";
@@ -175,6 +176,7 @@ fn first_wrong(
         Call::Store { .. } => 1,
         Call::Remove { .. } => 2,
         Call::Close { .. } => 3,
+        Call::Squeeze { .. } => 4,
     };
     run.corrections.reached_if(&[(EVERY_STOP[function], every && all > 0), (LONG, !every)]);
     None
@@ -228,7 +230,7 @@ fn checked(
     }
     let header = 16 + u32::from_le_bytes(buffer[16..20].try_into().expect("four bytes")) as usize;
     let any = random.between(header, buffer.len());
-    let between = random.between(old, new);
+    let between = random.between(old.min(new), old.max(new));
     [old, new, between, any, header, buffer.len()].into_iter().find_map(|at| is(at, (5, 0)))
 }
 

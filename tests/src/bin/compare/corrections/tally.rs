@@ -9,11 +9,14 @@ use crate::reads::tally::count;
 const NUMBERS: usize = 16;
 
 /// The functions, each with the answers that it has to give and no other.
-const FUNCTIONS: [(&str, &[u32]); 4] = [
+const FUNCTIONS: [(&str, &[u32]); 7] = [
     ("gvrs_open_page", &[0, 1, 2, 3, 4, 5, 6, 7, 8, 9, 12, 13]),
     ("gvrs_store_tile", &[0, 4, 10, 12, 13, 15]),
     ("gvrs_remove_tile", &[0, 10, 12, 15]),
     ("gvrs_close_page", &[0, 4, 12, 13, 15]),
+    ("gvrs_squeeze", &[0, 12, 15]),
+    ("gvrs_check_plan", &[0, 12, 15]),
+    ("gvrs_tight_plan", &[0, 12, 13, 15]),
 ];
 
 pub struct Tally {
@@ -34,6 +37,7 @@ fn function(call: &Call) -> usize {
         Call::Store { .. } => 1,
         Call::Remove { .. } => 2,
         Call::Close { .. } => 3,
+        Call::Squeeze { .. } => 4,
     }
 }
 
@@ -61,6 +65,12 @@ impl Tally {
     /// An answer that both give.
     pub fn answered(&mut self, call: &Call, (number, _): Answer) {
         self.answers[function(call)][number as usize] += 1;
+    }
+
+    /// The same of a function that is no call.
+    pub fn told(&mut self, name: &str, number: u32) {
+        let function = FUNCTIONS.iter().position(|(own, _)| *own == name);
+        self.answers[function.expect("a function")][number as usize] += 1;
     }
 
     /// A thing that has to come about at least once in a whole run.
