@@ -5,6 +5,7 @@ use mathlib.Core.Logic.{_⊎_, inl, inr, ⊎-elim}
 use mathlib.Core.List.{List, [], _∷_, List·Memᴰ, List·Memᴰ·head, List·Memᴰ·tail, List·Memᴰ·not-nil, List·Memᴰ·cases-cons}
 use mathlib.Core.Bool.{Bool, true, false}
 use native.Mathlib.Omega.{arith}
+use lib.ListN.{length}
 use lib.Dec.{eqb}
 use borrow.Author.Tests.{eq-eqb, ne-eqb, eqb-true}
 use Rattle.wire.specs.Pick.{pick}
@@ -13,7 +14,7 @@ use Rattle.wire.proofs.ListLaws.{select-member}
 use Rattle.record.specs.Record.{lengthAt, contentAt, typeAt}
 use Rattle.record.specs.Chain.{Stand}
 use Rattle.record.proofs.ChainLaws.{ok-means}
-use Rattle.correct.specs.Plan.{isKept, planFrom, startRight}
+use Rattle.correct.specs.Plan.{isKept, planFrom, startRight, endFrom, endOf}
 use Rattle.correct.specs.Renamed.{namedBy}
 use Rattle.squeezed.proofs.PlanLaws.{Start, start-means, false-true}
 
@@ -95,21 +96,24 @@ named-range s e (x ∷ xs) (p ∷ ps) h n c =
     go y true r = (omega (arith, y .start .eights), omega (arith, y .start .not-up, n x (List·Memᴰ·head refl)))
     go y false r = r
 
--- a kept record is named
-pub named-found : (s : List ℕ) (e : ℕ) (xs ps : List ℕ) → planFrom s e xs ps ≡ true → (x : ℕ) → List·Memᴰ x xs → 8 ≤ namedBy xs ps (contentAt x)
+-- a kept record is named, behind e
+named-behind : (s : List ℕ) (e : ℕ) (xs ps : List ℕ) → planFrom s e xs ps ≡ true → (x : ℕ) → List·Memᴰ x xs → e + 8 ≤ namedBy xs ps (contentAt x)
 unfolding namedBy planFrom
-named-found s e [] ps h x m = absurd (List·Memᴰ·not-nil m)
-named-found s e (v ∷ xs) [] h x m = false-true h
-named-found s e (v ∷ xs) (p ∷ ps) h x m =
+named-behind s e [] ps h x m = absurd (List·Memᴰ·not-nil m)
+named-behind s e (v ∷ xs) [] h x m = false-true h
+named-behind s e (v ∷ xs) (p ∷ ps) h x m =
     let y = step s e v p xs ps h in
-    go (eqb (contentAt v) (contentAt x)) refl (List·Memᴰ·cases-cons m) (λ n. named-found s (p + lengthAt s v) xs ps (y .rest) x n)
+    go (y .start .behind) (eqb (contentAt v) (contentAt x)) refl (List·Memᴰ·cases-cons m) (λ n. named-behind s (p + lengthAt s v) xs ps (y .rest) x n)
   where
     go :
-        (b : Bool) → eqb (contentAt v) (contentAt x) ≡ b → (x ≡ v) ⊎ List·Memᴰ x xs → (List·Memᴰ x xs → 8 ≤ namedBy xs ps (contentAt x)) →
-        8 ≤ pick b (contentAt p) (namedBy xs ps (contentAt x))
-    go true i k f = omega arith
-    go false i (inl k) f = false-true (sym i ∙ eq-eqb (contentAt v) (contentAt x) (ap contentAt (sym k)))
-    go false i (inr k) f = f k
+        e ≤ p → (b : Bool) → eqb (contentAt v) (contentAt x) ≡ b → (x ≡ v) ⊎ List·Memᴰ x xs →
+        (List·Memᴰ x xs → p + lengthAt s v + 8 ≤ namedBy xs ps (contentAt x)) → e + 8 ≤ pick b (contentAt p) (namedBy xs ps (contentAt x))
+    go l true i k f = omega arith
+    go l false i (inl k) f = false-true (sym i ∙ eq-eqb (contentAt v) (contentAt x) (ap contentAt (sym k)))
+    go l false i (inr k) f = omega (arith, f k)
+
+pub named-found : (s : List ℕ) (e : ℕ) (xs ps : List ℕ) → planFrom s e xs ps ≡ true → (x : ℕ) → List·Memᴰ x xs → 8 ≤ namedBy xs ps (contentAt x)
+named-found s e xs ps h x m = omega (arith, named-behind s e xs ps h x m)
 
 pub named-first : (x p : ℕ) (xs ps : List ℕ) → namedBy (x ∷ xs) (p ∷ ps) (contentAt x) ≡ contentAt p
 unfolding namedBy
@@ -118,3 +122,40 @@ named-first x p xs ps = rw (eq-eqb (contentAt x) (contentAt x) refl)
 pub named-rest : (x p : ℕ) (xs ps : List ℕ) (y : ℕ) → x < y → namedBy (x ∷ xs) (p ∷ ps) (contentAt y) ≡ namedBy xs ps (contentAt y)
 unfolding namedBy
 named-rest x p xs ps y h = rw (ne-eqb (contentAt x) (contentAt y) (λ z. omega arith))
+
+-- what stands behind is named behind
+pub named-up :
+    (s : List ℕ) (e : ℕ) (xs ps : List ℕ) → Asc xs → planFrom s e xs ps ≡ true → ((x : ℕ) → List·Memᴰ x xs → 1 ≤ lengthAt s x) → (x y : ℕ) →
+    List·Memᴰ x xs → List·Memᴰ y xs → x < y → namedBy xs ps (contentAt x) < namedBy xs ps (contentAt y)
+unfolding planFrom
+named-up s e [] ps a h l x y m n u = absurd (List·Memᴰ·not-nil m)
+named-up s e (v ∷ xs) [] a h l x y m n u = false-true h
+named-up s e (v ∷ xs) (p ∷ ps) a h l x y m n u =
+    go (List·Memᴰ·cases-cons m) (List·Memᴰ·cases-cons n)
+    (λ i j. named-up s (p + lengthAt s v) xs ps (a .1) (step s e v p xs ps h .rest) (λ z k. l z (List·Memᴰ·tail k)) x y i j u)
+  where
+    w : Step s e v p xs ps
+    w = step s e v p xs ps h
+
+    rest : (z : ℕ) → List·Memᴰ z xs → namedBy (v ∷ xs) (p ∷ ps) (contentAt z) ≡ namedBy xs ps (contentAt z)
+    rest z k = named-rest v p xs ps z (a .0 z k)
+
+    go :
+        (x ≡ v) ⊎ List·Memᴰ x xs → (y ≡ v) ⊎ List·Memᴰ y xs → (List·Memᴰ x xs → List·Memᴰ y xs → namedBy xs ps (contentAt x) < namedBy xs ps (contentAt y)) →
+        namedBy (v ∷ xs) (p ∷ ps) (contentAt x) < namedBy (v ∷ xs) (p ∷ ps) (contentAt y)
+    go (inl i) (inl j) f = absurd (omega arith)
+    go (inl i) (inr j) f =
+        let q : namedBy (v ∷ xs) (p ∷ ps) (contentAt x) ≡ contentAt p = ap (λ (z : ℕ). namedBy (v ∷ xs) (p ∷ ps) (contentAt z)) i ∙ named-first v p xs ps in
+        omega (arith, q, rest y j, named-behind s (p + lengthAt s v) xs ps (w .rest) y j, l v (List·Memᴰ·head refl))
+    go (inr i) (inl j) f = absurd (omega (arith, a .0 x i))
+    go (inr i) (inr j) f = omega (arith, rest x i, rest y j, f i j)
+
+-- the end of the last one
+pub last-end : (s : List ℕ) (e : ℕ) (xs ps : List ℕ) → planFrom s e xs ps ≡ true → (k : ℕ) → length xs ≡ suc k → endFrom s e xs ps ≡ endOf s xs ps k
+unfolding planFrom endFrom
+last-end s e [] ps h k l = absurd (omega arith)
+last-end s e (x ∷ xs) [] h k l = false-true h
+last-end s e (x ∷ []) (p ∷ ps) h zero l = refl
+last-end s e (x ∷ []) (p ∷ ps) h (suc k) l = absurd (omega arith)
+last-end s e (x ∷ (y ∷ ys)) (p ∷ ps) h zero l = absurd (omega arith)
+last-end s e (x ∷ (y ∷ ys)) (p ∷ ps) h (suc k) l = last-end s (p + lengthAt s x) (y ∷ ys) ps (step s e x p (y ∷ ys) ps h .rest) k (omega arith)

@@ -6,8 +6,8 @@ use mathlib.Core.List.{List, [], _∷_, _++_, map, List·Memᴰ, List·Memᴰ·h
 use mathlib.Core.Bool.{Bool, true, false, not, _||_}
 use native.Mathlib.Omega.{arith}
 use lib.ListN.{length, length-append}
-use lib.Dec.{eqb}
-use borrow.Author.Tests.{eqb-true, eqb-false, eq-eqb, ne-eqb}
+use lib.Dec.{eqb, leb}
+use borrow.Author.Tests.{eqb-true, eqb-false, eq-eqb, ne-eqb, le-leb, lt-leb, leb-true, leb-false}
 use Rattle.wire.specs.Pick.{pick}
 use Rattle.wire.specs.Bytes.{Bytes, numberAt, bytesOf, put}
 use Rattle.wire.specs.Lists.{select, every, some, below}
@@ -20,7 +20,7 @@ use Rattle.record.specs.Record.{lengthAt, typeAt, contentAt, recordOk}
 use Rattle.record.specs.Chain.{Stand, headerEnd, records, recordsOf, joined, WellFormed}
 use Rattle.record.proofs.ChainLaws.{ok-means, starts-ok}
 use Rattle.record.proofs.FindLaws.{of-type}
-use Rattle.header.specs.Fields.{checksumEnabled, elementCount, timeOpened, fileSpaceReference, metadataReference, tileDirectoryReference}
+use Rattle.header.specs.Fields.{checksumEnabled, elementCount, timeModified, timeOpened, fileSpaceReference, metadataReference, tileDirectoryReference}
 use Rattle.check_header.specs.Stages.{closed}
 use Rattle.check_header.specs.Judged.{SameJudged}
 use Rattle.check_records.specs.declared.Rule.{Rule}
@@ -61,14 +61,14 @@ use Rattle.page_laws.specs.Tiles.{tilesOf, standingOf, bytesIn, bytesStanding, 
 use Rattle.bodies.specs.TileRecord.{tileIndex}
 use Rattle.page_laws.specs.TileMap.{heldIn}
 use Rattle.page_laws.proofs.ListedLaws.{judged-count}
-use Rattle.correct.specs.Plan.{isKept, keptStarts, planFrom, planRight, endFrom, plannedEnd, tightFrom, tightPlan}
+use Rattle.correct.specs.Plan.{isKept, keptStarts, planFrom, planRight, endFrom, plannedEnd, endOf, tightFrom, tightPlan}
 use Rattle.correct.specs.Renamed.{namedBy, tilesRenamed, metadataRenamed, renamedIn}
 use Rattle.correct.specs.Squeezing.{movedTo, squeezedFrom, squeezedPieces, squeezedFields, squeezedPage}
-use Rattle.squeezed.specs.Squeezed.{SqueezedKeeps, SqueezedOpen, planGaps, zeroedGap, SqueezedFree, TightFree}
-use Rattle.squeezed.proofs.PlanLaws.{header-eights, tight-accepted}
+use Rattle.squeezed.specs.Squeezed.{SqueezedKeeps, SqueezedOpen, keptStanding, keptStandingOf, movedRecords, SqueezedStands, firstBefore, standsBefore, SqueezedOrder, planGaps, zeroedGap, SqueezedFree, TightFree}
+use Rattle.squeezed.proofs.PlanLaws.{header-eights, kept-long, tight-accepted}
 use Rattle.squeezed.proofs.TileMoves.{member-map, map-member, tiles-moved}
-use Rattle.squeezed.proofs.NamedLaws.{step, Asc, stand-asc, select-kept, named-zero, named-range, named-found, named-first, named-rest}
-use Rattle.squeezed.proofs.PieceMoves.{KeptAt, Agree, all-of, none-adjoin, ends-at, stand-at, free-at, gap-piece, gap-rules}
+use Rattle.squeezed.proofs.NamedLaws.{step, Asc, stand-asc, select-kept, named-zero, named-range, named-found, named-first, named-rest, named-up, last-end}
+use Rattle.squeezed.proofs.PieceMoves.{KeptAt, Agree, all-of, none-adjoin, ends-at, stand-at, free-at, starts-at, gap-piece, gap-rules}
 use Rattle.squeezed.proofs.KeptMoves.{f, parts, f-long, named, G, held, G-bytes, g, ends, g-front, g-long, g-header, g-flag, kept-at, as-tiles, as-metadata, as-it-was}
 use Rattle.squeezed.proofs.FormMoves.{FormMoves, form-moved, full-same, reference-same}
 use Rattle.squeezed.proofs.EntryMoves.{DirectoryMoves, entries-moved, fits-moved}
@@ -140,6 +140,41 @@ same-bytes :
     map bytesIn (map (pair to piece) l) ≡ map bytesIn (map (pair (λ x. x) old) l)
 same-bytes to piece old [] h = refl
 same-bytes to piece old (x ∷ l) h = rw (h x (List·Memᴰ·head refl), same-bytes to piece old l (λ y m. h y (List·Memᴰ·tail m)))
+
+-- the records of a tile, where they stand now and where they stood
+of-tile-pairs :
+    (j : ℕ) (to : ℕ → ℕ) (piece old : ℕ → List ℕ) (l : List ℕ) → ((x : ℕ) → List·Memᴰ x l → piece x ≡ old x) →
+    ofTile j (map (pair to piece) l) ≡ map (pair to old) (select (λ x. eqb (tileIndex (old x) 0) j) l)
+unfolding ofTile select
+of-tile-pairs j to piece old [] h = refl
+of-tile-pairs j to piece old (x ∷ l) h =
+    rw (h x (List·Memᴰ·head refl)) (go (eqb (tileIndex (old x) 0) j) (of-tile-pairs j to piece old l (λ y m. h y (List·Memᴰ·tail m))))
+  where
+    go :
+        (c : Bool) → ofTile j (map (pair to piece) l) ≡ map (pair to old) (select (λ y. eqb (tileIndex (old y) 0) j) l) →
+        pick c ((to x, old x) ∷ ofTile j (map (pair to piece) l)) (ofTile j (map (pair to piece) l))
+        ≡ map (pair to old) (pick c (x ∷ select (λ y. eqb (tileIndex (old y) 0) j) l) (select (λ y. eqb (tileIndex (old y) 0) j) l))
+    go true e = ap (λ (k : List (ℕ × List ℕ)). (to x, old x) ∷ k) e
+    go false e = e
+
+same-order : (a b c d : ℕ) → (a < b → c < d) → (b < a → d < c) → (a ≡ b → c ≡ d) → leb (suc c) d ≡ leb (suc a) b
+same-order a b c d up down level = go (leb (suc a) b) refl
+  where
+    go : (v : Bool) → leb (suc a) b ≡ v → leb (suc c) d ≡ v
+    go true i = le-leb (suc c) d (up (leb-true (suc a) b i))
+    go false i = lt-leb (suc c) d (at-most (leb (suc b) a) refl (leb-false (suc a) b i))
+      where
+        at-most : (v : Bool) → leb (suc b) a ≡ v → b < suc a → d < suc c
+        at-most true k h = omega (arith, down (leb-true (suc b) a k))
+        at-most false k h = let q : a ≡ b = omega (arith, leb-false (suc b) a k) in omega (arith, level q)
+
+before-same :
+    (to : ℕ → ℕ) (old : ℕ → List ℕ) (l m : List ℕ) → ((x y : ℕ) → List·Memᴰ x l → List·Memᴰ y m → (x < y → to x < to y) × (y < x → to y < to x)) →
+    firstBefore (map (pair to old) l) (map (pair to old) m) ≡ firstBefore (map (pair (λ x. x) old) l) (map (pair (λ x. x) old) m)
+before-same to old [] m h = refl
+before-same to old (x ∷ l) [] h = refl
+before-same to old (x ∷ l) (y ∷ m) h =
+    let k = h x y (List·Memᴰ·head refl) (List·Memᴰ·head refl) in same-order x y (to x) (to y) (k .0) (k .1) (ap to)
 
 -- new starts
 agree-of :
@@ -564,9 +599,41 @@ module _ (s : List ℕ) (b : Bytes s) (o : Open s) (ps : List ℕ) (right : plan
         map-of = tiles-kept;
       }
 
+  up : (x y : ℕ) → List·Memᴰ x xs → List·Memᴰ y xs → x < y → to x < to y
+  unfolding movedTo
+  up x y m n l = omega (arith, named-up s e xs ps asc plan (kept-long s) x y m n l, named-found s e xs ps plan x m)
+
+  abbrev tilesAt : ℕ → List ℕ
+  tilesAt j = select (λ x. eqb (tileIndex (pieceAt s x) 0) j) (recordsOf s 2)
+
+  tile-now : (j : ℕ) → recordOfTile t j ≡ map (pair to (pieceAt s)) (tilesAt j)
+  unfolding recordOfTile standingOf
+  tile-now j =
+      ap₂ (λ (n : ℕ) (l : List (List ℕ)). ofTile j (standing 2 n l)) (front-end wf (joined qs)) (pieces-are fr wf qs formed)
+      ∙ ap (ofTile j) (stand 2 (λ z. omega arith))
+      ∙ of-tile-pairs j to piece (pieceAt s) (recordsOf s 2) (as-was 2 (λ z. omega arith) (λ z. omega arith) (λ z. omega arith))
+
+  tile-was : (j : ℕ) → recordOfTile s j ≡ map (pair (λ x. x) (pieceAt s)) (tilesAt j)
+  unfolding recordOfTile standingOf
+  tile-was j = ap (ofTile j) (old 2) ∙ of-tile-pairs j (λ x. x) (pieceAt s) (pieceAt s) (recordsOf s 2) (λ x m. refl)
+
+  of-tiles : (j x : ℕ) → List·Memᴰ x (tilesAt j) → List·Memᴰ x xs
+  of-tiles j x m = of-kept 2 (λ z. omega arith) x (select-member _ (recordsOf s 2) m .0)
+
+  order-kept : (i j : ℕ) → standsBefore t i j ≡ standsBefore s i j
+  unfolding standsBefore
+  order-kept i j =
+      ap₂ firstBefore (tile-now i) (tile-now j)
+      ∙ before-same to (pieceAt s) (tilesAt i) (tilesAt j) (λ x y m n. (up x y (of-tiles i x m) (of-tiles j y n), up y x (of-tiles j y n) (of-tiles i x m)))
+      ∙ ap₂ firstBefore (sym (tile-was i)) (sym (tile-was j))
+
   page-is : squeezedPage s ps ≡ t
   unfolding squeezedPage
   page-is = refl
+
+  last-is : (k : ℕ) → length xs ≡ suc k → plannedEnd s ps ≡ endOf s xs ps k
+  unfolding plannedEnd
+  last-is k l = last-end s e xs ps plan k l
 
   pub keeps : SqueezedKeeps s ps
   keeps =
@@ -574,10 +641,12 @@ module _ (s : List ℕ) (b : Bytes s) (o : Open s) (ps : List ℕ) (right : plan
       record {
         open-page = rw page-is (open-moved (omega (arith, shorter, r .file)));
         long = ap length page-is ∙ length-is;
+        last = λ k l. ap length page-is ∙ length-is ∙ last-is k l;
         shorter = omega (arith, shorter, ap length page-is);
         follows = rw page-is follows;
         judged = rw page-is judged;
         time = ap timeOpened page-is ∙ field-low 48 (omega arith);
+        modified = ap timeModified page-is ∙ field-low 40 (omega arith);
         tile-bytes = ap (bytesStanding 2) page-is ∙ tiles-alike;
       }
 
@@ -592,8 +661,25 @@ module _ (s : List ℕ) (b : Bytes s) (o : Open s) (ps : List ℕ) (right : plan
       ∙ ap (λ (n : ℕ). standing 0 n qs) (g-long s b o ps)
       ∙ free-at s fr nm wf flag uf e xs ps all-kept plan
 
+  pub starts-stand : keptStandingOf (squeezedPage s ps) ≡ movedRecords (movedTo s ps) s (keptStarts s) ps
+  unfolding keptStandingOf squeezedPieces
+  starts-stand =
+      ap (λ (l : List ℕ). keptStanding (headerEnd l) (pieces l)) page-is
+      ∙ ap₂ keptStanding (front-end wf (joined qs)) (pieces-are fr wf qs formed)
+      ∙ ap (λ (n : ℕ). keptStanding n qs) (g-long s b o ps)
+      ∙ starts-at s fr nm wf flag uf e xs ps all-kept plan
+
+  pub order-same : (i j : ℕ) → standsBefore (squeezedPage s ps) i j ≡ standsBefore s i j
+  order-same i j = ap (λ (l : List ℕ). standsBefore l i j) page-is ∙ order-kept i j
+
 pub squeezed-open : SqueezedOpen
 squeezed-open s b o ps right = keeps s b o ps right
+
+pub squeezed-stands : SqueezedStands
+squeezed-stands s b o ps right = starts-stand s b o ps right
+
+pub squeezed-order : SqueezedOrder
+squeezed-order s b o ps right i j = order-same s b o ps right i j
 
 pub squeezed-free : SqueezedFree
 squeezed-free s b o ps right = gaps-stand s b o ps right

@@ -26,7 +26,7 @@ use Rattle.alone.proofs.FreeLaws.{free-bytes, free-body, free-checksum}
 use Rattle.correct.specs.Plan.{planFrom, startRight, endFrom, Gap}
 use Rattle.correct.specs.Renamed.{renamedIn}
 use Rattle.correct.specs.Squeezing.{squeezedFrom}
-use Rattle.squeezed.specs.Squeezed.{gapsFrom, zeroedGap}
+use Rattle.squeezed.specs.Squeezed.{keptStanding, movedRecords, gapsFrom, zeroedGap}
 use Rattle.squeezed.proofs.PlanLaws.{Start, start-means, false-true}
 
 -- a kept record, renamed: what is known of it behind the front g
@@ -227,3 +227,28 @@ module _ (s g : List ℕ) (named : ℕ → ℕ) (w : Front g) (flag : ℕ) (u : 
       let j : e + (p - e) ≡ p = omega arith in
       ap (standing 0 e) q ∙ free-first (p - e) e (piece x ∷ rs) (omega arith)
       ∙ ap (λ (l : List (ℕ × List ℕ)). (e, freeRecord flag (p - e)) ∷ l) (ap (λ (n : ℕ). standing 0 n (piece x ∷ rs)) j ∙ c) ∙ sym (gap-one e x p xs ps (omega arith)))
+
+  -- and kept records where the plan has their starts
+  kept-first : (x p : ℕ) → KeptAt s g named x → (rs : List (List ℕ)) → keptStanding p (piece x ∷ rs) ≡ (p, piece x) ∷ keptStanding (p + lengthAt s x) rs
+  unfolding keptStanding
+  kept-first x p o rs = rw (o .type, ne-eqb (typeAt s x) 0 (o .kept), o .long)
+
+  free-behind : (n at : ℕ) (rs : List (List ℕ)) → 16 ≤ n → keptStanding at (freeRecord flag n ∷ rs) ≡ keptStanding (at + n) rs
+  unfolding keptStanding
+  free-behind n at rs h = rw (free-type flag n h, free-length flag n h)
+
+  pub starts-at : (e : ℕ) (xs ps : List ℕ) → AllKept xs → planFrom s e xs ps ≡ true → keptStanding e (from e xs ps) ≡ movedRecords named s xs ps
+  unfolding squeezedFrom planFrom keptStanding movedRecords
+  starts-at e [] ps a h = refl
+  starts-at e (x ∷ xs) [] a h = false-true h
+  starts-at e (x ∷ xs) (p ∷ ps) a h =
+      let y = step e x p xs ps h in
+      let o = a x (List·Memᴰ·head refl) in
+      let rs = from (p + lengthAt s x) xs ps in
+      let r = starts-at (p + lengthAt s x) xs ps (λ v m. a v (List·Memᴰ·tail m)) (y .rest) in
+      let c : keptStanding p (piece x ∷ rs) ≡ (p, piece x) ∷ movedRecords named s xs ps =
+      kept-first x p o rs ∙ ap (λ (l : List (ℕ × List ℕ)). (p, piece x) ∷ l) r in
+      cases e x p xs ps (y .start) (λ z q. ap (keptStanding e) q ∙ ap (λ (n : ℕ). keptStanding n (piece x ∷ rs)) (sym z) ∙ c)
+      (λ z q.
+      let j : e + (p - e) ≡ p = omega arith in
+      ap (keptStanding e) q ∙ free-behind (p - e) e (piece x ∷ rs) (omega arith) ∙ ap (λ (n : ℕ). keptStanding n (piece x ∷ rs)) j ∙ c)

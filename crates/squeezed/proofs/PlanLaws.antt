@@ -11,13 +11,14 @@ use borrow.Author.Tests.{eqb-true, eq-eqb, le-leb, leb-true}
 use Rattle.wire.specs.Pick.{pick}
 use Rattle.wire.specs.Lists.{select}
 use Rattle.wire.proofs.TestLaws.{means, yes}
+use Rattle.wire.proofs.ListLaws.{select-member}
 use Rattle.record.specs.Record.{lengthAt}
 use Rattle.record.specs.Chain.{Stand, headerEnd, records}
-use Rattle.record.proofs.ChainLaws.{ok-means}
+use Rattle.record.proofs.ChainLaws.{ok-means, starts-ok}
 use Rattle.check_header.specs.HeaderRecord.{lengthRight, frameRight, headerRight}
 use Rattle.writable.specs.Writable.{Open}
 use Rattle.correct.specs.Plan.{isKept, keptStarts, gapRight, startRight, planFrom, planRight, tightFrom, tightPlan, Gap, endOf, GoodPlan}
-use Rattle.squeezed.specs.Squeezed.{TightAccepted, PlanExactly}
+use Rattle.squeezed.specs.Squeezed.{TightAccepted, OldAccepted, PlanExactly}
 
 -- one start
 
@@ -150,8 +151,15 @@ good-plan s e [] (p ∷ ps) g = let n : suc (length ps) ≡ 0 = g .number in abs
 good-plan s e (x ∷ xs) [] g = let n : 0 ≡ suc (length xs) = g .number in absurd (omega arith)
 good-plan s e (x ∷ xs) (p ∷ ps) g = rw (start-right e x p (good-first s e x p xs ps g)) (good-plan s (p + lengthAt s x) xs ps (good-rest s e x p xs ps g))
 
+pub kept-long : (s : List ℕ) (x : ℕ) → List·Memᴰ x (keptStarts s) → 1 ≤ lengthAt s x
+unfolding keptStarts records
+kept-long s x m =
+    let h = select-member (isKept s) (records s) m in
+    omega (arith, ok-means s x (starts-ok s x (headerEnd s) (h .0)) .long)
+
 pub plan-exactly : PlanExactly
-plan-exactly s e xs ps l = (plan-good s e xs ps l, good-plan s e xs ps)
+unfolding planRight
+plan-exactly s ps = (plan-good s (headerEnd s) (keptStarts s) ps (kept-long s), good-plan s (headerEnd s) (keptStarts s) ps)
 
 -- the tight plan: of records one behind the other from `at` on, what is kept slides against e
 
@@ -174,9 +182,43 @@ tight-from s at (x ∷ xs) end e w h i j =
     go true k f g = rw (start-right e x e (record { eights = i; not-up = omega (arith, w .0); behind = omega arith; gap = inl refl })) (f tt)
     go false k f g = g
 
+-- the old starts: behind a kept record or the header stands a kept one, or a gap of whole records
+
+same-gap : (e a b : ℕ) → a ≡ b → Gap e a → Gap e b
+same-gap e a b q (inl z) = inl (sym q ∙ z)
+same-gap e a b q (inr z) = inr (omega arith)
+
+old-from :
+    (s : List ℕ) (at : ℕ) (xs : List ℕ) (end e : ℕ) → Stand s at xs end → e ≤ at → Gap e at → at % 8 ≡ 0 →
+    planFrom s e (select (isKept s) xs) (select (isKept s) xs) ≡ true
+unfolding planFrom select
+old-from s at [] end e w h g i = refl
+old-from s at (x ∷ xs) end e w h g i =
+    let o = ok-means s x (w .1 .0) in
+    go (isKept s x)
+    (old-from s (x + lengthAt s x) xs end (x + lengthAt s x) (w .1 .1) (omega arith) (inl refl) (omega (arith, o .eights, w .0)))
+    (old-from s (x + lengthAt s x) xs end e (w .1 .1) (omega (arith, w .0)) (inr (omega (arith, o .long, w .0))) (omega (arith, o .eights, w .0)))
+  where
+    go :
+        (b : Bool) → planFrom s (x + lengthAt s x) (select (isKept s) xs) (select (isKept s) xs) ≡ true →
+        planFrom s e (select (isKept s) xs) (select (isKept s) xs) ≡ true →
+        planFrom s e (pick b (x ∷ select (isKept s) xs) (select (isKept s) xs)) (pick b (x ∷ select (isKept s) xs) (select (isKept s) xs)) ≡ true
+    go true f k =
+        rw
+        (start-right e x x
+        (record { eights = omega (arith, w .0); not-up = omega arith; behind = omega (arith, w .0); gap = same-gap e at x (sym (w .0)) g }))
+        f
+    go false f k = k
+
 pub header-eights : (s : List ℕ) (n : ℕ) → headerRight s n ≡ true → headerEnd s % 8 ≡ 0
 unfolding headerRight frameRight lengthRight headerEnd
 header-eights s n h = omega (arith, means _ (means _ (means _ h .0) .0) .0)
+
+pub old-accepted : OldAccepted
+unfolding planRight keptStarts
+old-accepted s o =
+    let a = o .sound in
+    old-from s (headerEnd s) (records s) (length s) (headerEnd s) (a .chain) (omega arith) (inl refl) (header-eights s (length s) (a .headed .header))
 
 pub tight-accepted : TightAccepted
 unfolding planRight tightPlan keptStarts
