@@ -27,10 +27,11 @@ use Rattle.page_laws.specs.Tiles.{tilesOf, bytesOfTile, recordOfTile, Follows, 
 use Rattle.page_laws.proofs.FrontLaws.{unset-trans, same-unset}
 use Rattle.page_laws.proofs.PageLaws.{sound-judged}
 use Rattle.effects.proofs.BufferEffects.{page-long}
+use Rattle.squeezed.specs.Squeezed.{standsBefore}
 use Rattle.lawful.specs.Lawful.{Leaves}
 use Rattle.lawful.proofs.CaseLaws.{lawful}
 use Rattle.lawful.proofs.StepLaws.{refused-leaves, lineIn, Stepped, stepped, after-bytes}
-use Rattle.corrected.specs.Sequence.{ifDone, mapAfterAll, namedAfterAll, topAfterAll, NoneMoves, AcceptedOrOpen, Holds, Sequence, Stays, SequenceStays, StateThen}
+use Rattle.corrected.specs.Sequence.{ifDone, mapAfterAll, namedAfterAll, topAfterAll, NoneMoves, OthersStay, AcceptedOrOpen, Holds, Sequence, Stays, SequenceStays, StateThen}
 
 drop-more : (b d : List ℕ) (n m : ℕ) → n ≤ m → drop n d ≡ drop n b → drop m d ≡ drop m b
 drop-more b d n m h e =
@@ -79,6 +80,23 @@ places-then {s} {t} {u} {named} call h k =
       records = unnamed (kindOf call .names) named (recordOfTile s) (recordOfTile t) (recordOfTile u) (k .records) (h .records);
     }
 
+-- neither by the call nor before
+unnamed-both : (names named : ℕ → Bool) (j : ℕ) → pick (names j) true (named j) ≡ false → (names j ≡ false) × (named j ≡ false)
+unnamed-both names named j = go (names j) refl
+  where
+    go : (b : Bool) → names j ≡ b → pick b true (named j) ≡ false → (names j ≡ false) × (named j ≡ false)
+    go true z n = not-both refl n
+    go false z n = (z, n)
+
+order-then :
+    (f g h : ℕ → ℕ → Bool) (names named : ℕ → Bool) → ((i j : ℕ) → named i ≡ false → named j ≡ false → g i j ≡ f i j) →
+    ((i j : ℕ) → names i ≡ false → names j ≡ false → h i j ≡ g i j) → (i j : ℕ) → pick (names i) true (named i) ≡ false → pick (names j) true (named j) ≡ false →
+    h i j ≡ f i j
+order-then f g h names named p q i j y z =
+    let a = unnamed-both names named i y in
+    let b = unnamed-both names named j z in
+    q i j (a .0) (b .0) ∙ p i j (a .1) (b .1)
+
 -- what a call leaves is a page to go on from
 leaves-page : (r : Role) (s : List ℕ) → Leaves r s → AcceptedOrOpen s
 leaves-page Role.Opens s l = inr l
@@ -108,6 +126,7 @@ module _ (s b : List ℕ) (first : Sound s) where
         record {
           page = rw (w .page) (leaves-page (kindOf call .role) page (d .left));
           follows = rw (w .page) (follows-then call (h .follows) (same-header (h .follows)) (d .follows));
+          order = rw (w .page) (order-then (standsBefore s) (standsBefore (pageOf st)) (standsBefore page) (kindOf call .names) named (h .order) (d .order));
           inside = rw (long, buffer) (omega arith);
           room = rw buffer (z ∙ h .room);
           reached = omega arith;
@@ -208,6 +227,7 @@ module _ (b : List ℕ) (n : ℕ) (v : Bytes b) (h : AcceptedOrOpen (pageIn b n)
                     records = λ j n. refl;
                     map-of = λ j. refl;
                   };
+              order = λ i j y z. refl;
               inside = page-inside b n sound;
               room = refl;
               reached = omega arith;
@@ -238,6 +258,9 @@ sequence b n v h calls g = ended b n v h calls g .holds
 
 pub sequence-stays : SequenceStays
 sequence-stays b n v h calls g z = all-stays (pageIn b n) b (sound b n v h) calls g z (record { buffer = b; long = n }) (started b n v h) (stays-started b n v h)
+
+pub others-stay : OthersStay
+others-stay = record { opening = λ t. refl; storing = λ i c. refl; removing = λ i. refl; closing = λ t. refl }
 
 pub state-then : StateThen
 state-then b n v h calls g call c m e = left-by b n v h calls g call c m e

@@ -16,6 +16,7 @@ use Rattle.writable.specs.Writable.{openForWriting}
 use Rattle.correct.specs.Front.{pageIn}
 use Rattle.correct.specs.Calls.{Call, Given, AllGiven, kindOf, moves, mapThen, namedThen, State, pageOf, answerOf, after, afterAll}
 use Rattle.page_laws.specs.Tiles.{tilesOf, Follows, InPlace}
+use Rattle.squeezed.specs.Squeezed.{standsBefore}
 use Rattle.lawful.specs.Lawful.{Leaves}
 
 -- what is new where a call is not refused; a refused one leaves what was
@@ -43,6 +44,13 @@ abbrev pub NoneMoves : List Call → Type 0
 NoneMoves [] = Unit {0}
 NoneMoves (call ∷ calls) = (moves call ≡ false) × NoneMoves calls
 
+-- squeezing alone may move one (Req 11, reading 11): "every promise of Req 03" on places is one of the other calls
+pub record OthersStay : Type 0 where
+  pub opening : (t : ℕ) → moves (Call.Opening t) ≡ false
+  pub storing : (i : ℕ) (c : List ℕ) → moves (Call.Storing i c) ≡ false
+  pub removing : (i : ℕ) → moves (Call.Removing i) ≡ false
+  pub closing : (t : ℕ) → moves (Call.Closing t) ≡ false
+
 -- where the calls start, and what they leave: a page that is accepted, or open for writing by whomever (Req 03,
 -- reading 18)
 abbrev pub AcceptedOrOpen : List ℕ → Type 0
@@ -55,6 +63,8 @@ pub record Holds (s b : List ℕ) (st : State) (named : ℕ → Bool) (tiles : �
   -- the header's bytes that no call sets are as they were, so are the bytes of metadata records and of tile records that no call names; the
   -- tiles are those of the map
   pub follows : Follows s (pageOf st) named tiles
+  -- tile records that no call names keep their order
+  pub order : (i j : ℕ) → named i ≡ false → named j ≡ false → standsBefore (pageOf st) i j ≡ standsBefore s i j
   -- the page lies in the buffer, whose bytes behind all that the page ever was are as they were
   pub inside : st .long ≤ length (st .buffer)
   pub room : length (st .buffer) ≡ length b

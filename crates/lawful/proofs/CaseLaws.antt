@@ -1,7 +1,7 @@
 -- What holds of every call, a case for each. Assumes nothing.
 use Prim.Native.Nat.{ℕ, _+_, _≤_, _<_, max}
 use native.Mathlib.Omega.{arith}
-use mathlib.Core.Path.{_≡_, refl, sym, ap, _∙_}
+use mathlib.Core.Path.{_≡_, refl, sym, ap, ap₂, _∙_}
 use mathlib.Core.List.{List, map}
 use mathlib.Core.Bool.{Bool, true, false}
 use lib.ListN.{length}
@@ -39,6 +39,7 @@ use Rattle.correct.specs.Answers.{tileThen, cellsThen, timeThen, planThen, room
 use Rattle.correct.specs.Calls.{Call, lineOf}
 use Rattle.correct.specs.FieldWrites.{Lowest}
 use Rattle.correct.proofs.FieldLaws.{first-most, lowest-set}
+use Rattle.page_laws.specs.Tiles.{InPlace}
 use Rattle.page_laws.proofs.TileMapLaws.{below-map}
 use Rattle.effects.proofs.PassedLaws.{room-passed, time-passed, tile-passed, cells-passed}
 use Rattle.effects.proofs.BufferEffects.{page-long}
@@ -49,7 +50,8 @@ use Rattle.kept_open.proofs.OverLaws.{stored-open}
 use Rattle.kept_open.proofs.RemovedLaws.{removed-open}
 use Rattle.opened_pages.proofs.OpenedLaws.{opened-opens}
 use Rattle.closed_pages.proofs.ClosedLaws.{closed-accepted}
-use Rattle.squeezed.proofs.OpenMoves.{squeezed-open}
+use Rattle.squeezed.specs.Squeezed.{firstBefore, standsBefore}
+use Rattle.squeezed.proofs.OpenMoves.{squeezed-open, squeezed-order}
 use Rattle.squeezed.proofs.MakeMoves.{squeeze-makes}
 use Rattle.squeezed.proofs.ByteMoves.{squeezed-bytes}
 use Rattle.lawful.specs.Marks.{timeBytes, KeepsMark}
@@ -139,6 +141,12 @@ stays-marked {s} o a f =
       time = sym (number-same f 8 48 (omega arith) (omega arith));
     }
 
+-- what keeps its place keeps its order
+in-order :
+    {s t : List ℕ} {names : ℕ → Bool} → InPlace s t names → (i j : ℕ) → names i ≡ false → names j ≡ false → standsBefore t i j ≡ standsBefore s i j
+unfolding standsBefore
+in-order k i j y z = ap₂ firstBefore (k .records i y) (k .records j z)
+
 -- a call that moves records promises nothing of their places
 moves-not : {A : Type 0} → true ≡ false → A
 moves-not e = let z : _≡_ {A = ℕ} 0 1 = cc in absurd (omega arith)
@@ -167,6 +175,7 @@ module _ (b : List ℕ) (n : ℕ) (w : Bytes b) (inside : n ≤ length b) where
         bytes = opened-bytes p t page-bytes;
         left = open-exactly (openedPage p t) .1 (o .open-page);
         follows = o .follows;
+        order = λ i j. in-order (o .places) i j;
         places = λ z. o .places;
         grows = λ z. opened-grows p;
         marks = record { lowest = rw (o .time) l; begins = rw (o .time) (opening-begins b p (accepted-sound p a) t l) };
@@ -186,6 +195,7 @@ module _ (b : List ℕ) (n : ℕ) (w : Bytes b) (inside : n ≤ length b) where
         bytes = stored-bytes p i c page-bytes g;
         left = open-exactly (storedPage p i c) .1 (o .open-page);
         follows = o .follows;
+        order = λ i j. in-order (o .places) i j;
         places = λ z. o .places;
         grows = λ z. stored-grows p i;
         marks = stays-marked (open-sound p a) (stored-made b n i inside a (x .0) c (y .0) (y .1) .apart) (o .front);
@@ -202,6 +212,7 @@ module _ (b : List ℕ) (n : ℕ) (w : Bytes b) (inside : n ≤ length b) where
         bytes = removed-bytes p i page-bytes;
         left = open-exactly (removedPage p i) .1 (o .open-page);
         follows = o .follows;
+        order = λ i j. in-order (o .places) i j;
         places = λ z. o .places;
         grows = λ z. omega arith;
         marks = stays-marked (open-sound p a) (removed-made b n i inside a (x .0) .apart) (o .front);
@@ -223,6 +234,7 @@ module _ (b : List ℕ) (n : ℕ) (w : Bytes b) (inside : n ≤ length b) where
         bytes = closed-bytes p t page-bytes;
         left = obeys-accepted (closedPage p t) (records (closedPage p t)) (o .obeys);
         follows = o .follows;
+        order = λ i j. in-order (o .places) i j;
         places = λ z. o .places;
         grows = λ z. closed-grows p;
         marks = closing-ends b p (open-page .sound) t (timeBytes p) l (time-long p) y;
@@ -240,6 +252,7 @@ module _ (b : List ℕ) (n : ℕ) (w : Bytes b) (inside : n ≤ length b) where
         bytes = squeezed-bytes p page-bytes ps;
         left = open-exactly (squeezedPage p ps) .1 (k .open-page);
         follows = k .follows;
+        order = λ i j y z. squeezed-order p page-bytes open-page ps r i j;
         places = λ z. moves-not z;
         grows = λ z. moves-not z;
         marks = record { harmless = squeezing-harmless b p (open-page .sound) ps _ (omega (arith, first-most (timeBytes p), time-long p)); time = k .time };

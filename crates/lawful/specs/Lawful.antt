@@ -17,6 +17,7 @@ use Rattle.correct.specs.Front.{pageIn}
 use Rattle.correct.specs.Calls.{Call, Given, Role, kindOf, moves, mapThen, lineOf, State, pageOf, answerOf, after}
 use Rattle.page_laws.specs.Tiles.{tilesOf, Follows, InPlace}
 use Rattle.effects.specs.Effects.{Wants, Makes}
+use Rattle.squeezed.specs.Squeezed.{standsBefore}
 use Rattle.lawful.specs.Marks.{Marks}
 
 -- "the file is then accepted": a closing leaves an accepted file, any other call a page open for writing
@@ -34,6 +35,10 @@ pub record Done (call : Call) (b : List ℕ) (s : List ℕ) : Type 0 where
   pub left : Leaves (kindOf call .role) (lineOf call b s .page)
   -- what the page keeps, and its tiles are those of the map
   pub follows : Follows s (lineOf call b s .page) (kindOf call .names) (mapThen s call (tilesOf s))
+  -- the records of tiles that it does not name keep their order
+  pub order :
+      (i j : ℕ) → kindOf call .names i ≡ false → kindOf call .names j ≡ false →
+      standsBefore (lineOf call b s .page) i j ≡ standsBefore s i j
   -- where no record is moved, places are kept too, and the page gets no shorter
   pub places : moves call ≡ false → InPlace s (lineOf call b s .page) (kindOf call .names)
   pub grows : moves call ≡ false → length s ≤ lineOf call b s .long
