@@ -95,9 +95,9 @@ fn judged(run: &mut Run, thing: &str, page: &[u8], plan: &[u64], wanted: Answer)
     }
 }
 
-// The sample of the request's page: document 01's page, tile 0 stored, tile 2 removed.
+// The sample: document 01's page, opened, tile 0 stored, tile 2 removed.
 
-fn sample_page() -> Vec<u8> {
+pub fn sample_page() -> Vec<u8> {
     let mut page = with_room(&sample::page(), 32);
     let store = Call::Store { tile: 0, cells: vec![1, 2, 3, 4, 5, 6, 7, 8] };
     let mut n = page.len() - 32;

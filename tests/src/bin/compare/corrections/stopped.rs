@@ -3,14 +3,17 @@
 
 use gvrs_tests::build::{bytes_of, make_checksum_good};
 use gvrs_tests::library::{self, correct_stopped_into};
+use gvrs_tests::plans::accepted_plan;
 use gvrs_tests::prng::Prng;
 use gvrs_tests::second::check::check;
 use gvrs_tests::second::correct::{correct, Call, Corrected};
+use gvrs_tests::second::squeeze::kept_of;
 use gvrs_tests::session::{Asking, Session};
 use gvrs_tests::worn_page::{open_worn_page, time, worn_page};
 
 use super::ask::{as_numbers, with_room};
 use super::sample;
+use super::squeezes;
 use super::times::times;
 use crate::run::Run;
 
@@ -33,8 +36,11 @@ const EVERY_STOP: [&str; 5] = [
 ];
 const LONG: &str = "a call of very many stores stopped";
 const REFUSED: &str = "a refused call makes no store";
-const SAMPLE: [&str; 2] =
-    ["sample: opened with 0x0100, each of 20 stores", "sample: closed with 7, each of 20 stores"];
+const SAMPLE: [&str; 3] = [
+    "sample: opened with 0x0100, each of 20 stores",
+    "sample: closed with 7, each of 20 stores",
+    "sample: squeezed tight, each of 108 stores",
+];
 const TIMES: &str = "stopped with one byte of the time at each place, and with all";
 
 pub fn section(run: &mut Run, random: &mut Prng) {
@@ -47,6 +53,9 @@ pub fn section(run: &mut Run, random: &mut Prng) {
     samples(run);
     for time in times(random) {
         opened_and_closed(run, time);
+    }
+    for _ in 0..run.times(400) {
+        squeezed(run, &bytes_of(&open_worn_page(random)), random);
     }
     for number in 0..run.times(60) {
         let page = if number % 4 == 0 { open_worn_page(random) } else { worn_page(random) };
@@ -73,6 +82,18 @@ fn sequence(run: &mut Run, page: &[u8], random: &mut Prng) {
         }
         session.take_over(&asking, &corrected);
     }
+}
+
+/// An open page with few bytes of records, squeezed by a plan at random.
+fn squeezed(run: &mut Run, page: &[u8], random: &mut Prng) {
+    let (end, kept) = kept_of(page).expect("an open page");
+    if page.len() - end + 20 > 2 * EACH_END as usize {
+        return;
+    }
+    let call = Call::Squeeze { plan: accepted_plan(end, &kept, random) };
+    let buffer = with_room(page, random.below(40));
+    let corrected = correct(&buffer, page.len() as u64, &call);
+    stopped_everywhere(run, &buffer, page.len() as u64, &call, &corrected, random);
 }
 
 fn opened_and_closed(run: &mut Run, time: u64) {
@@ -234,7 +255,8 @@ fn checked(
     [old, new, between, any, header, buffer.len()].into_iter().find_map(|at| is(at, (5, 0)))
 }
 
-/// Req 05's sample, store by store: opened with 0x0100, then closed with 7.
+/// Req 05's sample, store by store: opened with 0x0100, then closed with 7; and Req 11's, squeezed
+/// tight.
 fn samples(run: &mut Run) {
     let mut page = with_room(&sample::page(), 8);
     let mut opened = page.clone();
@@ -243,7 +265,7 @@ fn samples(run: &mut Run) {
     make_checksum_good(&mut opened[16..336], true);
     let places: Vec<usize> =
         [49, 48].into_iter().chain(50..56).chain(56..64).chain(332..336).collect();
-    each_store(run, SAMPLE[0], &page, &Call::Open { time: 0x0100 }, &places, &opened);
+    each_store(run, SAMPLE[0], (&page, 424), &Call::Open { time: 0x0100 }, &places, &opened);
     page = opened.clone();
     let mut closed = opened;
     closed[40..48].copy_from_slice(&7u64.to_le_bytes());
@@ -251,22 +273,30 @@ fn samples(run: &mut Run) {
     make_checksum_good(&mut closed[16..336], true);
     let places: Vec<usize> =
         (40..48).chain([48]).chain(50..56).chain(332..336).chain([49]).collect();
-    each_store(run, SAMPLE[1], &page, &Call::Close { time: 7 }, &places, &closed);
+    each_store(run, SAMPLE[1], (&page, 424), &Call::Close { time: 7 }, &places, &closed);
+    let worn = squeezes::sample_page();
+    let squeeze = Call::Squeeze { plan: vec![336, 392] };
+    let mut tight = worn.clone();
+    let new = correct(&worn, 456, &squeeze).expect("the sample squeezed");
+    tight[..new.len()].copy_from_slice(&new);
+    let places: Vec<usize> = (336..424).chain(64..72).chain(80..88).chain(332..336).collect();
+    each_store(run, SAMPLE[2], (&worn, 456), &squeeze, &places, &tight);
 }
 
 fn each_store(
     run: &mut Run,
     thing: &str,
-    page: &[u8],
+    (page, n): (&[u8], u64),
     call: &Call,
     places: &[usize],
     wanted: &[u8],
 ) {
     let mut expected = page.to_vec();
-    let mut good = places.len() == 20 && stopped(page, 424, call, 0).buffer == page;
+    let all = stopped(page, n, call, u64::MAX).stores;
+    let mut good = places.len() as u64 == all && stopped(page, n, call, 0).buffer == page;
     for (number, at) in places.iter().enumerate() {
         expected[*at] = wanted[*at];
-        good &= stopped(page, 424, call, number as u64 + 1).buffer == expected;
+        good &= stopped(page, n, call, number as u64 + 1).buffer == expected;
     }
     if good && expected == wanted {
         run.corrections.reached(thing);
