@@ -1,5 +1,4 @@
 pub mod KeptLaws
 pub mod CheckLaws
 pub mod TightLaws
-pub mod AnswerLaws
 pub mod PackLaws

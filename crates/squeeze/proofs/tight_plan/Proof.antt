@@ -1,6 +1,6 @@
 -- `squeeze::tight_plan` meets its contract. Assumes nothing.
 use Rattle.correct.proofs.ListLaws.{part-page}
-use Rattle.plans.proofs.AnswerLaws.{slides-refused, slides-passed}
+use Rattle.squeeze.proofs.CallLaws.{slides-refused, slides-passed}
 use borrow.Author.Needs.{needs}
 use Rattle.squeeze.proofs.tight_plan.Statement.{statement}
 use Rattle.squeeze.proofs.tight_plan.Tie as tie
