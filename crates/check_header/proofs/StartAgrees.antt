@@ -4,14 +4,14 @@ use Prim.Native.Nat.{ℕ, min, max, _≤_, _<_}
 use mathlib.Core.Path.{_≡_, refl, sym, ap, _∙_}
 use mathlib.Core.List.{List, [], _∷_}
 use mathlib.Core.Bool.{Bool, true, false}
-use mathlib.Core.Logic.{by-cases}
+use mathlib.Core.Logic.{inl, inr, ⊎-elim, by-cases}
 use native.Mathlib.Decide.{decLe}
 use native.Mathlib.Omega.{arith}
 use lib.ListN.{length, take}
 use lib.Seq.{take-take, take-all}
 use Rattle.wire.specs.Pick.{pick}
 use Rattle.wire.specs.Tests.{_≤?_, is, passes}
-use Rattle.wire.proofs.TestLaws.{yes, means, fails}
+use Rattle.wire.proofs.TestLaws.{yes, no, means, fails}
 use Rattle.answer.specs.declared.Refusal.{Refusal}
 use Rattle.answer.specs.declared.Refusal.the-variants.{Identification, Version, Header, Ceiling, Opened, Input, Incomplete}
 use Rattle.answer.specs.declared.Verdict.{Verdict}
@@ -23,9 +23,9 @@ use Rattle.check_header.specs.HeaderRecord.{lengthRight, headerRight}
 use Rattle.check_header.specs.Ceilings.{withinCeilings}
 use Rattle.check_header.specs.Stages.{closed, firstTwo, nextTwo, stages, checkHeader}
 use Rattle.check_header.specs.Depends.{reach}
-use Rattle.check_header.specs.Start.{noMore, given, headerGiven, checkStart, needed, Twelve, Sixteen, WholeFile, BeginsSo}
+use Rattle.check_header.specs.Start.{noMore, given, headerGiven, checkStart, needed, Twelve, LacksBlock, LacksLength, LacksHeader, Lacks, Sixteen, WholeFile, BeginsSo}
 use Rattle.check_header.proofs.Depends.{depends}
-use Rattle.check_header.proofs.StartLaws.{more, needs-16, needs-24, needs-header}
+use Rattle.check_header.proofs.StartLaws.{more, header-lacks, needs-16, needs-24, needs-header}
 
 -- what is given, as numbers
 
@@ -54,14 +54,14 @@ module _ (s : List ℕ) (n : ℕ) where
   unfolding headerGiven
   is-header e f = means ((headerEnd s ≤? length s) ∷ []) (rw f at e) .0
 
-  not-header : headerGiven s n ≡ false → (length s < headerEnd s) × (headerEnd s ≤ n)
+  not-header : headerGiven s n ≡ false → (lengthRight s n ≡ true) × ((length s < headerEnd s) × (headerEnd s ≤ n))
   unfolding headerGiven passes
   not-header e = go (lengthRight s n) refl
     where
-      go : (b : Bool) → lengthRight s n ≡ b → (length s < headerEnd s) × (headerEnd s ≤ n)
+      go : (b : Bool) → lengthRight s n ≡ b → (lengthRight s n ≡ true) × ((length s < headerEnd s) × (headerEnd s ≤ n))
       go true f =
           by-cases (decLe (headerEnd s) (length s)) (λ h. absurd (fails ((headerEnd s ≤? length s) ∷ []) (rw f at e) (h, tt)))
-          (λ h. (omega arith, lawful-inside f))
+          (λ h. (f, (omega arith, lawful-inside f)))
       go false f = let z : true ≡ false = rw f at e in absurd (fails [] z tt)
 
 -- of a whole file
@@ -111,32 +111,87 @@ twelve-exactly s n = (λ e. go (noMore s n) refl (ap verdictNumber e), λ h. sym
 
 -- where 16 is given
 
-pub sixteen-needs : Sixteen
-unfolding checkStart firstTwo gate
-sixteen-needs s n e = go (noMore s n) refl (given 16 s n) refl (identified s n) refl (versionRight s) refl (given 24 s n) refl (headerGiven s n) refl (ap verdictNumber e)
+module _ (s : List ℕ) (n : ℕ) where
+  few : length s ≤ n → noMore s n ≡ true
+  unfolding noMore
+  few h = sym (yes ((length s ≤? n) ∷ []) (h, tt))
+
+  gives : (k : ℕ) → min k n ≤ length s → given k s n ≡ true
+  unfolding given
+  gives k h = sym (yes ((min k n ≤? length s) ∷ []) (h, tt))
+
+  gives-not : (k : ℕ) → length s < min k n → given k s n ≡ false
+  unfolding given
+  gives-not k h = sym (no ((min k n ≤? length s) ∷ []) (λ l. omega arith))
+
+  lacking-one : checkStart s n ≡ Refused Incomplete → Lacks s n (needed s n)
+  unfolding checkStart firstTwo gate
+  lacking-one e = go (noMore s n) refl (given 16 s n) refl (identified s n) refl (versionRight s) refl (given 24 s n) refl (headerGiven s n) refl (ap verdictNumber e)
+    where
+      go :
+          (a : Bool) → noMore s n ≡ a → (b : Bool) → given 16 s n ≡ b → (c : Bool) → identified s n ≡ c → (d : Bool) → versionRight s ≡ d →
+          (f : Bool) → given 24 s n ≡ f → (g : Bool) → headerGiven s n ≡ g → verdictNumber (checkStart s n) ≡ 16 → Lacks s n (needed s n)
+      go false ea b eb c ec d ed f ef g eg z = let y : _≡_ {A = ℕ} 12 16 = rw ea at z in absurd (omega arith)
+      go true ea false eb c ec d ed f ef g eg z =
+          let h = not-given s n 16 eb in
+          let k = needs-16 s n _ refl (omega arith) in
+          inl (record { needs = omega arith; lacks = omega arith })
+      go true ea true eb false ec d ed f ef g eg z = let y : _≡_ {A = ℕ} 1 16 = rw (ea, eb, ec) at z in absurd (omega arith)
+      go true ea true eb true ec false ed f ef g eg z = let y : _≡_ {A = ℕ} 2 16 = rw (ea, eb, ec, ed) at z in absurd (omega arith)
+      go true ea true eb true ec true ed false ef g eg z =
+          let h = not-given s n 24 ef in
+          let l = is-given s n 16 eb in
+          let k = needs-24 s n _ (omega arith) refl (omega arith) in
+          inr (inl (record { block = l; marked = ec; version = ed; needs = omega arith; lacks = omega arith }))
+      go true ea true eb true ec true ed true ef false eg z =
+          let h = not-header s n eg in
+          let l = is-given s n 24 ef in
+          let k = needs-header s n _ (omega arith) (headerEnd s) refl refl (omega arith) in
+          inr (inr (record { fields = l; marked = ec; version = ed; lawful = h .0; needs = omega arith; lacks = omega arith }))
+      go true ea true eb true ec true ed true ef true eg z = absurd (behind-two s n 16 (omega arith) (rw (ea, eb, ec, ed, ef, eg) at z))
+
+  module _ (k : ℕ) where
+    lacks-block : LacksBlock s n k → (checkStart s n ≡ Refused Incomplete) × (k ≡ needed s n)
+    unfolding checkStart gate
+    lacks-block l =
+        let e = l .needs in
+        let h = l .lacks in
+        (rw (few (omega arith), gives-not 16 (omega arith)), needs-16 s n k (omega arith) (omega arith))
+
+    lacks-length : LacksLength s n k → (checkStart s n ≡ Refused Incomplete) × (k ≡ needed s n)
+    unfolding checkStart firstTwo gate
+    lacks-length l =
+        let e = l .needs in
+        let h = l .lacks in
+        let b = l .block in (
+          rw (few (omega arith), gives 16 b, l .marked, l .version, gives-not 24 (omega arith)),
+          needs-24 s n k (omega arith) (omega arith) (omega arith),
+        )
+
+    lacks-header : LacksHeader s n k → (checkStart s n ≡ Refused Incomplete) × (k ≡ needed s n)
+    unfolding checkStart firstTwo gate
+    lacks-header l =
+        let e = l .needs in
+        let h = l .lacks in
+        let b = l .fields in
+        let i = lawful-inside s n (l .lawful) in
+        let w = header-lacks s n (lengthRight s n) refl (l .lawful) (headerEnd s) refl (omega arith) in (
+          rw (few (omega arith), gives 16 (omega arith), l .marked, l .version, gives 24 b, ← w),
+          needs-header s n k (omega arith) (headerEnd s) refl (omega arith) (omega arith),
+        )
+
+pub sixteen-exactly : Sixteen
+sixteen-exactly s n =
+    record {
+      lacking = lacking-one s n;
+      given-where = λ k l. ⊎-elim (lacks-block s n k) (⊎-elim (lacks-length s n k) (lacks-header s n k)) l;
+      in-file = λ e. inside (lacking-one s n e);
+    }
   where
-    go :
-        (a : Bool) → noMore s n ≡ a → (b : Bool) → given 16 s n ≡ b → (c : Bool) → identified s n ≡ c → (d : Bool) → versionRight s ≡ d →
-        (f : Bool) → given 24 s n ≡ f → (g : Bool) → headerGiven s n ≡ g → verdictNumber (checkStart s n) ≡ 16 →
-        (length s < needed s n) × (needed s n ≤ n)
-    go false ea b eb c ec d ed f ef g eg z = let y : _≡_ {A = ℕ} 12 16 = rw ea at z in absurd (omega arith)
-    go true ea false eb c ec d ed f ef g eg z =
-        let h = not-given s n 16 eb in
-        let k = needs-16 s n _ refl (omega arith) in
-        (omega arith, omega arith)
-    go true ea true eb false ec d ed f ef g eg z = let y : _≡_ {A = ℕ} 1 16 = rw (ea, eb, ec) at z in absurd (omega arith)
-    go true ea true eb true ec false ed f ef g eg z = let y : _≡_ {A = ℕ} 2 16 = rw (ea, eb, ec, ed) at z in absurd (omega arith)
-    go true ea true eb true ec true ed false ef g eg z =
-        let h = not-given s n 24 ef in
-        let l = is-given s n 16 eb in
-        let k = needs-24 s n _ (omega arith) refl (omega arith) in
-        (omega arith, omega arith)
-    go true ea true eb true ec true ed true ef false eg z =
-        let h = not-header s n eg in
-        let l = is-given s n 24 ef in
-        let k = needs-header s n _ (omega arith) (headerEnd s) refl refl (omega arith) in
-        (omega arith, omega arith)
-    go true ea true eb true ec true ed true ef true eg z = absurd (behind-two s n 16 (omega arith) (rw (ea, eb, ec, ed, ef, eg) at z))
+    inside : Lacks s n (needed s n) → (length s < needed s n) × (needed s n ≤ n)
+    inside l =
+        ⊎-elim (λ b. (b .lacks, omega (arith, b .needs)))
+        (⊎-elim (λ b. (b .lacks, omega (arith, b .needs))) (λ b. (b .lacks, omega (arith, b .needs, lawful-inside s n (b .lawful))))) l
 
 -- where neither is given, the answer is that of stages 1 to 5, and what they ask for is there
 

@@ -4,6 +4,7 @@ use Prim.Native.Nat.{ℕ, min, _≤_, _<_}
 use mathlib.Core.Path.{_≡_}
 use mathlib.Core.List.{List, [], _∷_}
 use mathlib.Core.Bool.{Bool, true}
+use mathlib.Core.Logic.{_⊎_}
 use lib.ListN.{length, take}
 use lib.Dec.{leb}
 use Rattle.wire.specs.Pick.{pick}
@@ -13,6 +14,7 @@ use Rattle.answer.specs.declared.Verdict.{Verdict}
 use Rattle.answer.specs.declared.Verdict.the-variants.{Accepted, Refused}
 use Rattle.answer.specs.Refusals.{gate}
 use Rattle.record.specs.Chain.{headerEnd}
+use Rattle.check_header.specs.Identification.{identified, versionRight}
 use Rattle.check_header.specs.HeaderRecord.{lengthRight, headerRight}
 use Rattle.check_header.specs.Stages.{closed, firstTwo, nextTwo, checkHeader}
 
@@ -46,9 +48,40 @@ needed s n = min n (pick (leb 16 (length s)) (pick (leb 24 (length s)) (headerEn
 abbrev pub Twelve : Type 0
 Twelve = (s : List ℕ) (n : ℕ) → (checkStart s n ≡ Refused Input → n < length s) × (n < length s → checkStart s n ≡ Refused Input)
 
--- where 16 is given, the stage that gives it needs more bytes than there are, and the file has them
+-- 16 'is given at the first stage that needs a byte not given': which stage that is, and that it needs k bytes. Stages 1 and 2 need 16, or
+-- all of a shorter file
+pub record LacksBlock (s : List ℕ) (n k : ℕ) : Type 0 where
+  pub needs : k ≡ min 16 n
+  pub lacks : length s < k
+
+-- stage 3, where they pass, needs 24
+pub record LacksLength (s : List ℕ) (n k : ℕ) : Type 0 where
+  pub block : min 16 n ≤ length s
+  pub marked : identified s n ≡ true
+  pub version : versionRight s ≡ true
+  pub needs : k ≡ min 24 n
+  pub lacks : length s < k
+
+-- and then the whole header, if its length is lawful
+pub record LacksHeader (s : List ℕ) (n k : ℕ) : Type 0 where
+  pub fields : min 24 n ≤ length s
+  pub marked : identified s n ≡ true
+  pub version : versionRight s ≡ true
+  pub lawful : lengthRight s n ≡ true
+  pub needs : k ≡ headerEnd s
+  pub lacks : length s < k
+
+abbrev pub Lacks : List ℕ → ℕ → ℕ → Type 0
+Lacks s n k = LacksBlock s n k ⊎ (LacksLength s n k ⊎ LacksHeader s n k)
+
+-- 16 is given exactly where a stage lacks a byte, and that stage needs `needed` bytes; they are more than are given, and the file has them
+pub record Incompletes (s : List ℕ) (n : ℕ) : Type 0 where
+  pub lacking : checkStart s n ≡ Refused Incomplete → Lacks s n (needed s n)
+  pub given-where : (k : ℕ) → Lacks s n k → (checkStart s n ≡ Refused Incomplete) × (k ≡ needed s n)
+  pub in-file : checkStart s n ≡ Refused Incomplete → (length s < needed s n) × (needed s n ≤ n)
+
 abbrev pub Sixteen : Type 0
-Sixteen = (s : List ℕ) (n : ℕ) → checkStart s n ≡ Refused Incomplete → (length s < needed s n) × (needed s n ≤ n)
+Sixteen = (s : List ℕ) (n : ℕ) → Incompletes s n
 
 -- of a whole file the first half is stages 1 to 5
 abbrev pub WholeFile : Type 0

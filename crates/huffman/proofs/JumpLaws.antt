@@ -1,20 +1,19 @@
 -- A jump leads where its bits lead one by one. Assumes nothing.
 use Prim.Native.Nat.{ℕ, zero, suc, _+_, _-_, _*_, _/_, _%_, _≤_, _<_}
-use mathlib.Core.Path.{_≡_, refl, sym, ap, subst, _∙_}
-use mathlib.Core.List.{List}
+use mathlib.Core.Path.{_≡_, refl, sym, ap, _∙_}
+use mathlib.Core.List.{List, [], _∷_}
 use mathlib.Core.Logic.{by-cases}
 use native.Mathlib.Omega.{arith}
 use native.Mathlib.Decide.{decLe}
-use lib.ListN.{length, getD, set, length-set}
-use lib.Seq.{getD-set-same, getD-set-other}
+use lib.ListN.{length, getD, set, length-set, length-append, List·getD-append}
+use lib.Seq.{getD-set-same, getD-set-other, getD-at, ext-getD}
 use lib.Dec.{leb}
 use borrow.Author.Tests.{le-leb, lt-leb}
 use Rattle.huffman.specs.Bits.{bitsIn, bitAt, bitsAt, octetAt}
 use Rattle.huffman.specs.Tree.{Tree}
 use Rattle.huffman.specs.Nodes.{Nodes, childOf}
-use Rattle.huffman.specs.Jumps.{mostNodes, mostJumps, stands, walked, symbolIn, jumpOf, Jumps, Coded}
+use Rattle.huffman.specs.Jumps.{mostJumps, stands, walked, symbolIn, jumpOf, jumpsOf, Jumps, Coded}
 use Rattle.huffman.specs.Symbols.{symbolAt}
-use Rattle.huffman.specs.declared.Next.{Next}
 use Rattle.huffman.proofs.BitLaws.{bit-before, bit-near, octet-in, octet-there, octet-small}
 use Rattle.huffman.proofs.SymbolLaws.{Walks, inside, child-near, walk-symbol, walk-on}
 
@@ -81,6 +80,27 @@ module _ (ns : List ℕ) (j : ℕ) where
   unfolding jumpOf
   jump-root r e h = rw (lt-leb mostJumps j (omega arith), lt-leb 256 j h) e
 
+-- a list of jumps
+
+module _ (ns : List ℕ) where
+  jumps-length : (n : ℕ) → length (jumpsOf ns n) ≡ n
+  unfolding jumpsOf
+  jumps-length zero = refl
+  jumps-length (suc n) = length-append (jumpsOf ns n) (jumpOf ns n ∷ []) ∙ omega (arith, jumps-length n)
+
+  jumps-each : (n j : ℕ) → j < n → getD (jumpsOf ns n) j 0 ≡ jumpOf ns j
+  unfolding jumpsOf
+  jumps-each zero j h = absurd (omega arith)
+  jumps-each (suc n) j h =
+      by-cases (decLe n j)
+      (λ m.
+      let l : length (jumpsOf ns n) ≡ n = jumps-length n in
+      let z : j ≡ n = omega arith in
+      rw z (getD-at (jumpsOf ns n) (jumpOf ns n) [] 0 n l))
+      (λ m.
+      let l : length (jumpsOf ns n) ≡ n = jumps-length n in
+      List·getD-append (jumpsOf ns n) (jumpOf ns n ∷ []) 0 j (omega arith) ∙ jumps-each n j (omega arith))
+
 -- jumps that are made one after the other
 
 unfoldable pub Making : List ℕ → List ℕ → ℕ → Type 0
@@ -102,9 +122,17 @@ module _ (ns js : List ℕ) where
         (λ m. getD-set-other js n j v 0 (λ q. absurd (omega arith)) ∙ h j (omega arith)),
   )
 
-  pub make-end : (n : ℕ) → Making ns js n → length js ≤ n → length ns ≤ 512 → Jumps ns js
-  unfolding Jumps Making
-  make-end n h l k = (k, λ j m. h j (omega arith))
+  pub make-end : (n k : ℕ) → Making ns js n → length js ≡ k → length js ≤ n → js ≡ jumpsOf ns k
+  unfolding Making
+  make-end n k h e l =
+      ext-getD 0 js (jumpsOf ns k) (e ∙ sym (jumps-length ns k)) (λ j m. h j (omega arith) ∙ sym (jumps-each ns k j (omega arith)))
+
+-- and those of few nodes
+pub jumps-made : (ns js : List ℕ) (n : ℕ) → length ns ≤ 512 → js ≡ jumpsOf ns n → Jumps ns js
+unfolding Jumps
+jumps-made ns js n h e =
+    let l : length js ≡ n = ap length e ∙ jumps-length ns n in
+    (h, λ j m. ap (λ (ks : List ℕ). getD ks j 0) e ∙ jumps-each ns n j (omega arith))
 
 -- what a jump of k bits from node i tells of the symbols behind it: w is a branch, k bits on, or a leaf
 pub record Led (ns c : List ℕ) (m from p q w : ℕ) : Type 0 where
@@ -217,32 +245,6 @@ module _ (ns js c : List ℕ) (m from i pos : ℕ) (g : octetAt c pos ≡ 256 �
 -- an octet that is there
 pub octet-near : (c : List ℕ) (pos o : ℕ) → o ≡ octetAt c pos → (o ≡ 256 → ⊥) → pos + 7 < bitsIn
 octet-near c pos o e g = bit-near c (pos + 7) (octet-there c pos (λ q. g (e ∙ q)))
-
--- where a walk ends
-
-module _ (ns js c : List ℕ) (m from i pos : ℕ) where
-  pub told-eight :
-      (o : ℕ) → o ≡ octetAt c pos → (o ≡ 256 → ⊥) → (Jumps ns js → Walks ns c m from i pos) → i ≡ 0 → o < length js → Jumps ns js →
-      Led ns c m from pos (pos + 8) (getD js o 0)
-  told-eight o e g w z l h = rw e (jump-eight ns js c m from i pos (λ q. g (e ∙ q)) (w h) h z (rw e at l))
-
-  pub told-four :
-      (o : ℕ) → o ≡ octetAt c pos → (o ≡ 256 → ⊥) → (Jumps ns js → Walks ns c m from i pos) → i < 512 → 256 + 16 * i + o % 16 < length js → Jumps ns js →
-      Led ns c m from pos (pos + 4) (getD js (256 + 16 * i + o % 16) 0)
-  told-four o e g w k l h = rw e (jump-four ns js c m from i pos (λ q. g (e ∙ q)) (w h) h k (rw e at l))
-
-  -- the rest, by whatever way
-  pub jump-rest :
-      (r : Next) → ((t : Tree) → Nodes ns i t → Jumps ns js → r ≡ symbolAt t c pos) → (Jumps ns js → Walks ns c m from i pos) → (t : Tree) → Nodes ns m t → Jumps ns js →
-      r ≡ symbolAt t c from
-  jump-rest r e w t x h = e (w h t x .at) (w h t x .here) h ∙ w h t x .same
-
-module _ (ns js c : List ℕ) (m from pos jump q : ℕ) (l : Jumps ns js → Led ns c m from pos q jump) where
-  pub jump-symbol : (r : Next) → r ≡ symbolIn jump pos → 512 ≤ jump → (t : Tree) → Nodes ns m t → Jumps ns js → r ≡ symbolAt t c from
-  jump-symbol r e k t x h = e ∙ l h .leaf k t x
-
-  pub jump-on : jump < 512 → Jumps ns js → Walks ns c m from jump q
-  jump-on k h = l h .branch k
 
 pub coded : (ns js : List ℕ) (t : Tree) → Nodes ns 0 t → Jumps ns js → Coded ns js t
 unfolding Coded

@@ -5,4 +5,5 @@ pub mod StoredLaws
 pub mod NodeLaws
 pub mod SymbolLaws
 pub mod JumpLaws
+pub mod NextLaws
 pub mod Samples

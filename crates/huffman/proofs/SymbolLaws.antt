@@ -16,7 +16,7 @@ use Rattle.huffman.specs.Bits.{bitAt}
 use Rattle.huffman.specs.Tree.{Tree, leaf, branch}
 use Rattle.huffman.specs.Nodes.{size, Nodes, childOf, symbolsIn}
 use Rattle.huffman.specs.Symbols.{symbolAt, symbolsOf, among, fresh, distinct}
-use Rattle.huffman.specs.declared.Next.the-variants.{Byte, End}
+use Rattle.huffman.specs.declared.Next.the-variants.{Byte}
 
 -- the walk stands at node i, which is the subtree `at`, and what that gives from pos on is what the tree gives from `from` on
 pub record Subtree (t : Tree) (ns c : List ℕ) (from i pos : ℕ) : Type 0 where
@@ -41,11 +41,6 @@ unfolding Nodes symbolAt
 symbol-at ns c i pos (leaf y) h k = ap (λ (m : ℕ). Byte m pos) (h .1 .0)
 symbol-at ns c i pos (branch l r) h k = let e : getD ns i 0 ≡ 256 + (i + 1 + size l) = h .1 .0 in absurd (omega arith)
 
-ended-at : (ns c : List ℕ) (i pos : ℕ) (u : Tree) → Nodes ns i u → 256 ≤ getD ns i 0 → bitAt c pos ≡ 2 → End ≡ symbolAt u c pos
-unfolding Nodes symbolAt
-ended-at ns c i pos (leaf y) h k z = let e : getD ns i 0 ≡ y = h .1 .0 in let f : y < 256 = h .1 .1 in absurd (omega arith)
-ended-at ns c i pos (branch l r) h k z = rw (eq-eqb (bitAt c pos) 2 z)
-
 step-at :
     (t : Tree) (ns c : List ℕ) (from i pos : ℕ) (u : Tree) → Nodes ns i u → symbolAt u c pos ≡ symbolAt t c from → 256 ≤ getD ns i 0 →
     (bitAt c pos ≡ 2 → ⊥) → Subtree t ns c from (childOf i (getD ns i 0) (bitAt c pos)) (pos + 1)
@@ -66,14 +61,8 @@ step-at t ns c from i pos (branch l r) h e k z = by-cases (decLe (bitAt c pos) 0
         (record { at = r; here = h .1 .1 .1; same = sym (rw (ne-eqb (bitAt c pos) 2 z, ne-eqb (bitAt c pos) 0 b)) ∙ e })
 
 module _ (ns c : List ℕ) (k from i pos : ℕ) (w : Walks ns c k from i pos) where
-  pub walk-out : length ns ≤ i → (t : Tree) → Nodes ns k t → End ≡ symbolAt t c from
-  walk-out h t x = absurd (omega (arith, inside ns i (w t x .at) (w t x .here)))
-
   pub walk-symbol : getD ns i 0 < 256 → (t : Tree) → Nodes ns k t → Byte (getD ns i 0) pos ≡ symbolAt t c from
   walk-symbol h t x = symbol-at ns c i pos (w t x .at) (w t x .here) h ∙ w t x .same
-
-  pub walk-end : (b : ℕ) → 256 ≤ getD ns i 0 → b ≡ bitAt c pos → b ≡ 2 → (t : Tree) → Nodes ns k t → End ≡ symbolAt t c from
-  walk-end b h e f t x = ended-at ns c i pos (w t x .at) (w t x .here) h (sym e ∙ f) ∙ w t x .same
 
   pub walk-on : (b j : ℕ) → 256 ≤ getD ns i 0 → b ≡ bitAt c pos → (b ≡ 2 → ⊥) → j ≡ childOf i (getD ns i 0) b → Walks ns c k from j (pos + 1)
   walk-on b j h e n f t x =

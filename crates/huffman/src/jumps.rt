@@ -3,7 +3,7 @@ ghost use mathlib.Core.Path.{_≡_};
 ghost use Prim.Native.Nat.{_≤_, _<_};
 ghost use lib.ListN.{length, getD};
 ghost use Rattle.huffman.specs.Nodes.{childOf};
-ghost use Rattle.huffman.specs.Jumps.{mostNodes, mostJumps, walked, jumpOf, Jumps};
+ghost use Rattle.huffman.specs.Jumps.{mostNodes, walked, jumpOf, jumpsOf};
 
 // The child of a branch: the bit 0 goes left, to the next node.
 pub(crate) fn child(i: usize, node: u32, bit: u32) -> usize
@@ -64,7 +64,7 @@ fn jump_of(nodes: &[u32], j: usize) -> u32
 
 // Makes as many jumps as there is room for. The root has 256, and each node 16 behind them.
 pub fn make_jumps(nodes: &[u32], jumps: &mut [u32])
-    ensures { λ _. ⌜ (length (now (nodes .entry)) ≤ mostNodes → Jumps (now (nodes .entry)) (now (jumps .exit))) ⌝ }
+    ensures { λ _. ⌜ now (jumps .exit) ≡ jumpsOf (now (nodes .entry)) (length (now (jumps .entry))) ⌝ }
 {
     let mut j = 0;
     while j < jumps.len() {

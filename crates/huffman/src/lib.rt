@@ -9,11 +9,12 @@ use jumps::child;
 ghost use mathlib.Core.Path.{_≡_};
 ghost use Prim.Native.Nat.{_+_, _*_, _≤_, _<_};
 ghost use lib.ListN.{length, take};
-ghost use Rattle.huffman.specs.Tree.{Tree, treeAt};
-ghost use Rattle.huffman.specs.Nodes.{Nodes, Laid, Below, outcome, rootOutcome, rootLaid, symbolsIn};
+ghost use Rattle.wire.specs.Bytes.{zeros};
+ghost use Rattle.huffman.specs.Tree.{treeAt};
+ghost use Rattle.huffman.specs.Nodes.{Laid, Below, outcome, rootOutcome, rootNodes, bitByBit, symbolsIn};
 ghost use Rattle.huffman.specs.Bits.{bitsIn};
-ghost use Rattle.huffman.specs.Jumps.{mostNodes, symbolIn, Jumps, Coded};
-ghost use Rattle.huffman.specs.Symbols.{symbolAt, distinct};
+ghost use Rattle.huffman.specs.Jumps.{mostNodes, symbolIn, byFours, nextSymbol};
+ghost use Rattle.huffman.specs.Symbols.{distinct};
 
 // A tree that was read: the bit behind it, the node behind it, and how many of the symbols that it may have are left.
 pub enum Read {
@@ -31,7 +32,7 @@ pub enum Next {
 fn read_tree(c: &[u8], pos: usize, left: u32, nodes: &mut [u32], at: usize) -> Read
     requires { ⌜ (at + 2 * left ≤ 512) × (511 ≤ length (now nodes)) ⌝ }
     ensures is { λ r. ⌜ r ≡ outcome at left (treeAt (now (c .entry)) left pos) ⌝ }
-    ensures holds { λ _. ⌜ Laid (now (nodes .exit)) at (treeAt (now (c .entry)) left pos) ⌝ }
+    ensures holds { λ _. ⌜ Laid (now (nodes .entry)) (now (nodes .exit)) at (treeAt (now (c .entry)) left pos) ⌝ }
     ensures below { λ _. ⌜ Below (now (nodes .entry)) (now (nodes .exit)) at ⌝ }
 {
     if left == 0 {
@@ -66,11 +67,22 @@ fn read_tree(c: &[u8], pos: usize, left: u32, nodes: &mut [u32], at: usize) -> R
     }
 }
 
+// Makes all nodes 0.
+fn clear(nodes: &mut [u32])
+    ensures { λ _. ⌜ now (nodes .exit) ≡ zeros (length (now (nodes .entry))) ⌝ }
+{
+    let mut i = 0;
+    while i < nodes.len() {
+        nodes[i] = 0;
+        i += 1;
+    }
+}
+
 // Reads the tree at bit pos, of at most `left` leaves. A tree of 256 leaves takes 511 nodes; where there are fewer, or more
-// leaves are allowed, none is read.
+// leaves are allowed, none is read and the nodes stay. Where no tree stands, they are made 0.
 pub fn tree_of(c: &[u8], pos: usize, left: u32, nodes: &mut [u32]) -> Read
     ensures is { λ r. ⌜ r ≡ rootOutcome (length (now (nodes .entry))) left (treeAt (now (c .entry)) left pos) ⌝ }
-    ensures holds { λ _. ⌜ rootLaid (length (now (nodes .entry))) left (now (nodes .exit)) (treeAt (now (c .entry)) left pos) ⌝ }
+    ensures holds { λ _. ⌜ now (nodes .exit) ≡ rootNodes (now (nodes .entry)) left (treeAt (now (c .entry)) left pos) ⌝ }
 {
     if nodes.len() < 511 {
         return Read::Bad;
@@ -78,7 +90,21 @@ pub fn tree_of(c: &[u8], pos: usize, left: u32, nodes: &mut [u32]) -> Read
     if 256 < left {
         return Read::Bad;
     }
-    read_tree(c, pos, left, nodes, 0)
+    match read_tree(c, pos, left, nodes, 0) {
+        Read::Tree {
+            pos: p,
+            next: n,
+            left: l,
+        } => Read::Tree {
+            pos: p,
+            next: n,
+            left: l,
+        },
+        Read::Bad => {
+            clear(nodes);
+            Read::Bad
+        }
+    }
 }
 
 // Whether no symbol stands twice among the first n nodes.
@@ -104,9 +130,9 @@ pub fn symbols_distinct(nodes: &[u32], n: usize) -> bool
     true
 }
 
-// The symbol whose code stands at bit `from`, bit by bit from a node on. Where that is no tree's, any answer is right.
+// The symbol whose code stands at bit `from`, bit by bit from a node on.
 fn by_bits(c: &[u8], nodes: &[u32], start: usize, from: usize) -> Next
-    ensures { λ r. ⌜ ((t : Tree) → Nodes (now (nodes .entry)) start t → r ≡ symbolAt t (now (c .entry)) from) ⌝ }
+    ensures { λ r. ⌜ r ≡ bitByBit (now (c .entry)) (now (nodes .entry)) start from ⌝ }
 {
     let mut pos = from;
     let mut i = start;
@@ -141,7 +167,7 @@ fn symbol_of(jump: u32, pos: usize) -> Next
 // The same as by bits, four at a step while there is a jump.
 fn by_fours(c: &[u8], nodes: &[u32], jumps: &[u32], start: usize, from: usize) -> Next
     requires { ⌜ start < mostNodes ⌝ }
-    ensures { λ r. ⌜ ((t : Tree) → Nodes (now (nodes .entry)) start t → Jumps (now (nodes .entry)) (now (jumps .entry)) → r ≡ symbolAt t (now (c .entry)) from) ⌝ }
+    ensures { λ r. ⌜ r ≡ byFours (now (c .entry)) (now (nodes .entry)) (now (jumps .entry)) start from ⌝ }
 {
     let mut pos = from;
     let mut i = start;
@@ -163,10 +189,9 @@ fn by_fours(c: &[u8], nodes: &[u32], jumps: &[u32], start: usize, from: usize) -
     }
 }
 
-// The symbol whose code stands at bit `from`, by the nodes of a tree and as many of its jumps as there are. Where the nodes are those of
-// no tree, or the jumps are not theirs, any answer is right.
+// The symbol whose code stands at bit `from`, by the nodes of a tree and as many of its jumps as there are.
 pub fn next_symbol(c: &[u8], nodes: &[u32], jumps: &[u32], from: usize) -> Next
-    ensures { λ r. ⌜ ((t : Tree) → Coded (now (nodes .entry)) (now (jumps .entry)) t → r ≡ symbolAt t (now (c .entry)) from) ⌝ }
+    ensures { λ r. ⌜ r ≡ nextSymbol (now (c .entry)) (now (nodes .entry)) (now (jumps .entry)) from ⌝ }
 {
     let first = octet_at(c, from);
     if first == 256 {

@@ -15,10 +15,10 @@ use Rattle.wire.proofs.TestLaws.{yes, no, means, either-way, not-both}
 use Rattle.m32.specs.M32.{codes}
 use Rattle.huffman.specs.Tree.{Tree, Parsed, got, bad, leaves, treeAt}
 use Rattle.huffman.specs.Symbols.{symbolsOf, among, distinct}
-use Rattle.huffman.specs.Nodes.{size, Nodes, outcome, Laid, rootOutcome, rootLaid, symbolsIn}
+use Rattle.huffman.specs.Nodes.{size, Nodes, outcome, rootOutcome, rootNodes, symbolsIn}
 use Rattle.huffman.specs.declared.Read.{Read}
 use Rattle.huffman.specs.declared.Read.the-variants as read
-use Rattle.huffman.proofs.NodeLaws.{Told, told, told-bad}
+use Rattle.huffman.proofs.NodeLaws.{Told, told, told-bad, root-is-laid}
 use Rattle.huffman.proofs.StoredLaws.{read-stored}
 use Rattle.huffman.proofs.SymbolLaws.{nodes-symbols}
 use Rattle.unpack.specs.Unpack.{predictorOf, symbolCount, headRight, treeIn, leavesRead, symbolsRead, treeRight, countRight}
@@ -49,10 +49,6 @@ module _ (c : List ℕ) (rows columns : ℕ) where
 root-outcome : (n left : ℕ) (x : Parsed) → 511 ≤ n → left ≤ 256 → rootOutcome n left x ≡ outcome 0 left x
 unfolding rootOutcome
 root-outcome n left x h k = ap (λ (b : Bool). pick b (outcome 0 left x) read.Bad) (sym (yes ((511 ≤? n) ∷ (left ≤? 256) ∷ []) (h, (k, tt))))
-
-root-laid : (n left : ℕ) (ns : List ℕ) (x : Parsed) → 511 ≤ n → left ≤ 256 → rootLaid n left ns x → Laid ns 0 x
-unfolding rootLaid
-root-laid n left ns x h k d = subst (λ (b : Bool). Laid ns 0 (pick b x bad)) (sym (yes ((511 ≤? n) ∷ (left ≤? 256) ∷ []) (h, (k, tt)))) d
 
 abbrev treeTests : List ℕ → Parsed → List Test
 treeTests c x = (leavesRead x ≡? symbolCount c) ∷ is (distinct (symbolsRead x)) ∷ []
@@ -88,10 +84,10 @@ module _ (c : List ℕ) (n count : ℕ) (r : Read) (ns : List ℕ) (h : 511 ≤ 
         tree-not c (got (t .tree) q) (same-tree ∙ t .is)
         (λ w. let u : leaves (t .tree) ≡ symbolCount c = w .0 in let v : f ≡ count - leaves (t .tree) = t .rest in z (omega arith))
 
-    module _ (z : f ≡ 0) (d : rootLaid n count ns (treeAt c count 88)) (b : Bool) (y : b ≡ distinct (symbolsIn (take m ns))) where
+    module _ (z : f ≡ 0) (a : List ℕ) (d : ns ≡ rootNodes a count (treeAt c count 88)) (long : n ≡ length a) (b : Bool)
+        (y : b ≡ distinct (symbolsIn (take m ns))) where
       laid : Nodes ns 0 (what .tree)
-      unfolding Laid
-      laid = subst (λ (x : Parsed). Laid ns 0 x) (what .is) (root-laid n count ns (treeAt c count 88) h l d)
+      laid = subst (λ (u : List ℕ). Nodes u 0 (what .tree)) (sym d) (root-is-laid a c count 88 (what .tree) q (omega arith) l (what .is))
 
       differ : b ≡ distinct (symbolsOf (what .tree))
       differ =

@@ -1,5 +1,6 @@
 pub mod ValueLaws
 pub mod NumberLaws
+pub mod StoodLaws
 pub mod HeadLaws
 pub mod RowLaws
 pub mod TileLaws

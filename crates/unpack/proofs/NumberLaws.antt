@@ -19,10 +19,11 @@ use Rattle.m32.specs.declared.Found.the-variants.{Nothing}
 use Rattle.m32.specs.declared.Found.the-variants as found
 use Rattle.m32.proofs.StepLaws.{outcome, is-number, is-bad, asks, lacks, begins, begins-not, longer}
 use Rattle.huffman.specs.Tree.{Tree}
-use Rattle.huffman.specs.Jumps.{Coded}
+use Rattle.huffman.specs.Jumps.{Coded, nextSymbol}
 use Rattle.huffman.specs.Symbols.{symbolAt}
 use Rattle.huffman.specs.declared.Next.{Next}
 use Rattle.huffman.specs.declared.Next.the-variants.{Byte, End}
+use Rattle.huffman.proofs.NextLaws.{next-is-trees}
 use Rattle.unpack.specs.Unpack.{asByte, symbols}
 
 -- how many symbols more a step may ask for, and one
@@ -51,6 +52,9 @@ module _ (c nodes jumps : List ℕ) where
   -- s is the symbol at a bit, by whatever tree the nodes are
   abbrev Gives : ℕ → Next → Type 0
   Gives at s = (t : Tree) → Coded nodes jumps t → s ≡ symbolAt t c at
+
+  pub by-tree : (at : ℕ) (s : Next) → s ≡ nextSymbol c nodes jumps at → Gives at s
+  by-tree at s e t x = e ∙ next-is-trees c nodes jumps t at x
 
   a-byte : (t : Tree) (at y q : ℕ) (s : Next) → s ≡ symbolAt t c at → s ≡ Byte y q → symbols t c at ≡ byte y q
   unfolding symbols

@@ -76,7 +76,8 @@ numbersIn c n bad = []
 unfoldable pub numbersOf : List ℕ → ℕ → ℕ → List ℕ
 numbersOf c rows columns = numbersIn c (rows * columns - 1) (treeIn c)
 
--- 'the count field is right if it is their number or the number of their M32 bytes'
+-- 'the count field is right if it is their number or the number of their M32 bytes'. The bytes of their codes are those that stood
+-- there, since what is read is the one code of its number (`Stood`)
 unfoldable pub countRight : ℕ → ℕ → List ℕ → Bool
 countRight count n xs = among count (n ∷ length (codes xs) ∷ [])
 

@@ -28,4 +28,4 @@ make-jumps-spec =
     (λ c. omega arith)
     (λ c. make-more _ _ _ _ _ (c .before .before .loop .inv .1) (c .jump-of .ensures) (c .before .before .loop .inv .0) (omega arith))
     (λ c. search needs)
-    (λ c. make-end _ _ _ (c .before .loop .inv .1) (omega arith)))
+    (λ c. make-end _ _ _ _ (c .before .loop .inv .1) (c .before .loop .inv .0) (omega arith)))

@@ -1,5 +1,5 @@
 -- `unpack::rows::rows_with` meets its contract. Assumes nothing.
-use Rattle.huffman.proofs.JumpLaws.{coded}
+use Rattle.huffman.proofs.JumpLaws.{jumps-made, coded}
 use native.Mathlib.Omega.{arith}
 use borrow.Author.Needs.{needs}
 use Rattle.unpack.proofs.rows.rows_with.Statement.{statement}
@@ -15,4 +15,4 @@ rows-with-spec =
     (λ c. search needs)
     (λ c. search needs)
     (λ c. search needs)
-    (λ c t x. c .before .before .before .before .before .before .unpack-rows .ensures t (coded _ _ t x (c .before .before .before .before .before .before .before .before .before .before .before .before .before .make-jumps .ensures (c .before .before .before .before .before .before .before .before .before .before .before .before .before .before .before .before .before .before .before .before .before .pre .0)))))
+    (λ c t x. c .before .before .before .before .before .before .unpack-rows .ensures t (coded _ _ t x (jumps-made _ _ _ (c .before .before .before .before .before .before .before .before .before .before .before .before .before .before .before .before .before .before .before .before .before .pre .0) (c .before .before .before .before .before .before .before .before .before .before .before .before .before .make-jumps .ensures)))))
