@@ -125,7 +125,8 @@ uint32_t gvrs_cell(const uint8_t *file, uint64_t n, uint64_t row, uint64_t colum
 /* The same, where compressed content of an element that is no Float is unpacked if its compressor index is the one named: 34, and
    out is as for a stored cell, but out[2] is the start of the element's content. Content of that index that is malformed, or has a
    Short out of range, is 14, at the tile record, for every cell of that element there; of any other index, or of a Float, it is 11.
-   No content has an index above 255; gvrs_cell is this with 256. */
+   No content has an index above 255; gvrs_cell is this with 256. What a cell is, exactly, and that it is nothing else: CellIs and
+   FiveKinds in crates/cells/specs/CellExactly.antt. */
 uint32_t gvrs_cell_with(const uint8_t *file, uint64_t n, uint64_t row, uint64_t column, uint64_t element, uint32_t route,
                         uint32_t compressor, uint64_t *out, uint64_t out_n);
 
@@ -142,8 +143,8 @@ uint32_t gvrs_unpack(const uint8_t *file, uint64_t n, uint64_t tile, uint64_t el
    number of cells.
 
    The cell in row r and column c of the rectangle, each counted from 0, has kinds[r * columns + c] and bits[r * columns + c]: what
-   gvrs_cell_with answers for it with that compressor index, which is 32, 33, 34, 11 or 14, and the bits of its value, 0 where it is
-   11 or 14. What stands behind the last cell's stays.
+   gvrs_cell_with answers for it with that compressor index, which is 32, 33, 34, 11 or 14 (proved: FiveKinds), and the bits of its
+   value, 0 where it is 11 or 14. What stands behind the last cell's stays.
 
    memory is numbers that the call may use, memory_n of them, in any state, left in any: 524,288 let every tile be unpacked once;
    fewer, or none, cost time on compressed tiles and change no answer. */

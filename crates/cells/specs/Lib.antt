@@ -19,5 +19,6 @@ pub mod Reads
 pub mod Compressor
 pub mod Demand2
 pub mod Demand3
+pub mod CellExactly
 pub mod inner
 pub mod Many
