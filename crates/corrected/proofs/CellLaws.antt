@@ -1,32 +1,22 @@
 -- Req 03: how the cells of a corrected page read, by the map. Assumes nothing.
-use Prim.Native.Nat.{ℕ, zero, suc, _+_, _≤_, _<_}
+use Prim.Native.Nat.{ℕ, _+_, _≤_, _<_}
 use native.Mathlib.Omega.{arith}
 use mathlib.Core.Logic.{⊎-elim, by-cases}
 use native.Mathlib.Decide.{decLe}
 use mathlib.Core.Path.{_≡_, refl, sym, _∙_, ap}
-use mathlib.Core.List.{List, [], _∷_, map}
+use mathlib.Core.List.{List, []}
 use mathlib.Core.Bool.{Bool, true, false}
 use lib.ListN.{length, getD}
-use lib.Dec.{eqb, leb}
-use Rattle.wire.specs.Pick.{pick}
 use Rattle.wire.specs.Bytes.{byteAt, numberAt, part}
-use Rattle.wire.specs.Lists.{below}
-use Rattle.wire.proofs.TestLaws.{means, fails, not-both, below-each}
-use borrow.Author.Tests.{eqb-false}
-use Rattle.wire.proofs.ByteLaws.{part-length, part-whole}
-use Rattle.wire.proofs.ListLaws.{below-at}
-use Rattle.record.specs.declared.Found.{Found}
-use Rattle.record.specs.declared.Found.the-variants.{At, Nothing}
-use Rattle.record.specs.Chain.{headerEnd, records}
-use Rattle.record.proofs.ChainLaws.{whole-extent}
-use Rattle.record.proofs.FindLaws.{of-type}
+use Rattle.wire.proofs.TestLaws.{fails}
+use Rattle.wire.proofs.ByteLaws.{part-whole}
+use Rattle.record.specs.declared.Found.the-variants.{Nothing}
+use Rattle.record.specs.Chain.{records}
 use Rattle.header.specs.Fields.{elementCount}
 use Rattle.header.specs.Element.{element, cellSize, entriesRead}
 use Rattle.header.proofs.SameLaws.{element-same}
 use Rattle.geometry.specs.Tiles.{cellTile, cellInside}
-use Rattle.geometry.specs.Sizes.{elementBytes, packingOf, elementPacking}
-use Rattle.geometry.specs.declared.Packing.the-variants.{Uncompressed, Compressed, Fault}
-use Rattle.check_records.specs.TileBody.{notFault, sectionPacking, sectionRight, tileRight}
+use Rattle.geometry.specs.Sizes.{elementBytes}
 use Rattle.bodies.specs.TileRecord.{sectionLength, elementContentAt}
 use Rattle.answer.specs.declared.Refusal.the-variants as refusal
 use Rattle.answer.specs.declared.Cell.the-variants as cell
@@ -35,92 +25,36 @@ use Rattle.check_header.proofs.Judged.{judged-sym, header-fit, rows, columns, t
 use Rattle.page_check.specs.Accepted.{Sound}
 use Rattle.page_check.proofs.GivenLaws.{sound-range, sound-tile}
 use Rattle.cells.specs.Asked.{inGrid}
-use Rattle.cells.specs.Routes.{meant, cellBy}
+use Rattle.cells.specs.Routes.{cellBy}
 use Rattle.cells.specs.TileCells.{locationOf, fillOf, isPacked, offsetIn, cellFrom, cellIn, cellOf}
 use Rattle.cells.specs.Meaning.{meaning}
 use Rattle.cells.proofs.CellLaws.{grid-means}
 use Rattle.cells.proofs.ReadLaws.{sound-cells}
 use Rattle.cells.proofs.DemandLaws.{demand-3}
 use Rattle.cells.proofs.RouteLaws.{walk-finds, meant-is}
-use Rattle.cells.proofs.ApartLaws.{content-extent, offset-within}
+use Rattle.cells.proofs.ApartLaws.{offset-within}
 use Rattle.alone.specs.Alone.{Moved, SameHeader, SameTile}
 use Rattle.alone.proofs.MovedLaws.{offset-of, offset-number, offset-byte}
-use Rattle.alone.proofs.HeaderLaws.{judged-header, count-within}
+use Rattle.alone.proofs.HeaderLaws.{judged-header}
 use Rattle.alone.proofs.TileLaws.{tile-alone}
 use Rattle.page_laws.proofs.FrontLaws.{judged-trans}
 use Rattle.page_laws.proofs.PageLaws.{sound-judged}
-use Rattle.page_laws.proofs.TileMapLaws.{below-count, contents-some}
 use Rattle.page_laws.proofs.TileRecordLaws.{BothAt, tile-stays}
 use Rattle.correct.specs.Front.{pageIn}
 use Rattle.correct.specs.Storing.{tileAt}
-use Rattle.page_laws.specs.Tiles.{contentsIn, contentsOf, tilesOf, recordOfTile}
+use Rattle.page_laws.specs.Tiles.{contentsIn, tilesOf, recordOfTile}
 use Rattle.correct.specs.Calls.{pageOf, afterAll}
-use Rattle.corrected.specs.Cells.{contentIn, ReadsAs, Cells, CellsStay}
+use Rattle.corrected.specs.Cells.{contentInMap, ReadsAs, Cells, CellsStay}
+use Rattle.corrected.proofs.ContentLaws.{walked-is, Content, content-of, content-moved, few-in, Stands, absent, stands, content-as}
 use Rattle.corrected.proofs.SequenceLaws.{page-sound, sequence, sequence-stays}
 
--- a list made by a function, by its places
-
-map-at : {A : Type 0} (f : ℕ → A) (xs : List ℕ) (i : ℕ) (d : A) → i < length xs → getD (map f xs) i d ≡ f (getD xs i 0)
-map-at f [] i d h = absurd (omega arith)
-map-at f (x ∷ xs) zero d h = refl
-map-at f (x ∷ xs) (suc i) d h = map-at f xs i d (omega arith)
-
-numbered-at : {A : Type 0} (f : ℕ → A) (n i : ℕ) (d : A) → i < n → getD (map f (below n)) i d ≡ f i
-numbered-at f n i d h =
-    let l = below-count n in
-    let k : getD (below n) i 0 ≡ i = sym (map-at (λ (x : ℕ). x) (below n) i 0 (omega arith)) ∙ below-at (λ x. x) n i h in
-    map-at f (below n) i d (omega arith) ∙ ap f k
-
 -- a cell's meaning by the tile's record
-
-walked-is : (s : List ℕ) (i : ℕ) → tileAt s i ≡ meant s i
-unfolding tileAt
-walked-is s i = walk-finds s i
 
 meant-by : (s : List ℕ) (ci row column e : ℕ) → inGrid s row column e ≡ true → meaning s ci row column e ≡ cellOf s ci row column e (tileAt s (cellTile s row column))
 unfolding meaning cellBy tileAt
 meant-by s ci row column e g = rw (g, walk-finds s (cellTile s row column))
 
--- an element's content in a tile record of a sound page
-
-section-some : (s : List ℕ) (x e : ℕ) → sectionRight s x e ≡ true → 1 ≤ sectionLength s x e
-unfolding sectionRight sectionPacking elementPacking packingOf
-section-some s x e r = go (eqb (sectionLength s x e) 0) refl r
-  where
-    go :
-        (a : Bool) → eqb (sectionLength s x e) 0 ≡ a →
-        notFault (pick a Fault (pick (eqb (sectionLength s x e) (elementBytes s e)) Uncompressed (pick (leb (sectionLength s x e) (elementBytes s e)) Compressed Fault))) ≡ true →
-        1 ≤ sectionLength s x e
-    go true f p = not-both p refl
-    go false f p = let z = eqb-false (sectionLength s x e) 0 f in omega arith
-
-pub record Content (s : List ℕ) (x e : ℕ) : Type 0 where
-  pub some-bytes : 1 ≤ sectionLength s x e
-  pub inside : elementContentAt s x e + sectionLength s x e ≤ length s
-  pub is : getD (contentsIn s x) e [] ≡ part s (elementContentAt s x e) (sectionLength s x e)
-  pub long : length (getD (contentsIn s x) e []) ≡ sectionLength s x e
-
-content-of : (s : List ℕ) → Sound s → (i x e : ℕ) → tileAt s i ≡ At x → e < elementCount s → Content s x e
-unfolding tileAt contentsIn tileRight
-content-of s o i x e f h =
-    let m = meant-is s i x (sym (walk-finds s i) ∙ f) in
-    let t = sound-tile s o (m .among) in
-    let c = content-extent s x e t h in
-    let w = whole-extent s (headerEnd s) (records s) (o .chain) (of-type s 2 (m .among) .0) in
-    let k : elementContentAt s x e + sectionLength s x e ≤ length s = omega (arith, c .next, c .inside, w .inside) in
-    let g = numbered-at (λ e. part s (elementContentAt s x e) (sectionLength s x e)) (elementCount s) e [] h in
-    record { some-bytes = section-some s x e (below-each (elementCount s) (sectionRight s x) (means _ t .1 .1 .0) e h); inside = k; is = g; long = ap length g ∙ part-length s _ _ k }
-
--- its bytes in the file and in the map are the same
-content-moved : {s : List ℕ} {x e : ℕ} → Content s x e → (c : List ℕ) → c ≡ getD (contentsIn s x) e [] → Moved s (elementContentAt s x e) c 0 (sectionLength s x e)
-content-moved {s} {x} {e} k c f =
-    let l : length c ≡ sectionLength s x e = ap length f ∙ k .long in
-    record { in-first = k .inside; in-second = omega arith; bytes = sym (k .is) ∙ sym f ∙ sym (part-whole c) ∙ ap (part c 0) l }
-
 -- two pages whose headers say the same
-
-few-in : (s : List ℕ) → Sound s → elementCount s ≤ 16
-few-in s o = count-within s (length s) (o .headed .ceilings)
 
 grid-same : (s t : List ℕ) → SameJudged s t → Sound s → (row column e : ℕ) → inGrid s row column e ≡ inGrid t row column e
 unfolding inGrid
@@ -183,34 +117,12 @@ module _ (s t : List ℕ) (o : Sound s) (q : Sound t) (j : SameJudged s t) (row 
       offset-within s row column e (omega (arith, r .sides .tile-rows .0)) (omega (arith, r .sides .tile-columns .0))
 
   -- a tile that is not stored
-  absent : tilesOf t (cellTile s row column) ≡ [] → tileAt t (cellTile s row column) ≡ Nothing
-  unfolding tilesOf
-  absent h = go (tileAt t (cellTile s row column)) refl h
-    where
-      go : (f : Found) → tileAt t (cellTile s row column) ≡ f → contentsOf t f ≡ [] → tileAt t (cellTile s row column) ≡ Nothing
-      go Nothing i z = i
-      go (At x) i z = absurd (contents-some t x (omega (arith, asked-too)) z)
-
   filled : (ci : ℕ) → tileAt t (cellTile s row column) ≡ Nothing → meaning t ci row column e ≡ fillOf s (locationOf s row column) e
   unfolding fillOf
   filled ci h = meant-too ci ∙ ap (cellOf t ci row column e) h ∙ rw (← element-too, ← location-too) refl
 
-  -- one that is: its record, and the element's content there
-  record Stands (c : List ℕ) : Type 0 where
-    start : ℕ
-    found : tileAt t (cellTile s row column) ≡ At start
-    content : Content t start e
-    is : c ≡ getD (contentsIn t start) e []
-
-  stands : (c : List ℕ) → c ≡ getD (tilesOf t (cellTile s row column)) e [] → (tilesOf t (cellTile s row column) ≡ [] → ⊥) → Stands c
-  unfolding tilesOf
-  stands c f h = go (tileAt t (cellTile s row column)) refl f h
-    where
-      go : (w : Found) → tileAt t (cellTile s row column) ≡ w → c ≡ getD (contentsOf t w) e [] → (contentsOf t w ≡ [] → ⊥) → Stands c
-      go Nothing i z y = absurd (y refl)
-      go (At x) i z y = record { start = x; found = i; content = content-of t q _ x e i asked-too; is = z }
-
-  module _ (c : List ℕ) (w : Stands c) where
+  -- one that is, by its record and the element's content there
+  module _ (c : List ℕ) (w : Stands t (cellTile s row column) e c) where
     abbrev x : ℕ
     x = w .start
 
@@ -304,16 +216,16 @@ module _ (s t : List ℕ) (o : Sound s) (q : Sound t) (j : SameJudged s t) (ci r
   out g = rw (grid-same s t j o row column e) at g
 
   reads-as : (tiles : ℕ → List (List ℕ)) → ((i : ℕ) → tilesOf t i ≡ tiles i) → ReadsAs s t tiles ci row column e
-  unfolding contentIn
+  unfolding contentInMap
   reads-as tiles f =
       let m = f (cellTile s row column) in
       record {
         outside = λ g. outside-is t ci row column e (out g);
-        fill = λ g h. filled s t o q j row column e g ci (absent s t o q j row column e g (m ∙ h));
+        fill = λ g h. filled s t o q j row column e g ci (absent t (cellTile s row column) e (asked-too s t o q j row column e g) (m ∙ h));
         held =
             λ g h.
             let c = getD (tiles (cellTile s row column)) e [] in
-            let w = stands s t o q j row column e g c (ap (λ (r : List (List ℕ)). getD r e []) (sym m)) (λ z. h (sym m ∙ z)) in
+            let w = stands t q (cellTile s row column) e (asked-too s t o q j row column e g) c (ap (λ (r : List (List ℕ)). getD r e []) (sym m)) (λ z. h (sym m ∙ z)) in
             record { start = w .start; found = w .found; reads = cell-by s t o q j row column e g c w ci };
       }
 
@@ -335,6 +247,7 @@ cells b n v h calls g =
     record {
       routes = λ a ci. demand-3 t a ci;
       ways = λ ci. sound-cells t q ci;
+      contents = λ tile e. content-as s t o q (sound-judged o (f .header)) tile e _ (f .map-of);
       cells = λ ci row column e. reads-as s t o q (sound-judged o (f .header)) ci row column e _ (f .map-of);
     }
 

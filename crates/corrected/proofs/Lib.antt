@@ -1,4 +1,5 @@
 pub mod SequenceLaws
+pub mod PlacingLaws
 pub mod RefusalLaws
+pub mod ContentLaws
 pub mod CellLaws
-pub mod SampleLaws

@@ -2,10 +2,10 @@
 -- at 336, tile directory at 368, 424 bytes.
 use Prim.Native.Nat.{ℕ}
 use mathlib.Core.Path.{_≡_}
-use mathlib.Core.List.{List, [], _∷_, map}
+use mathlib.Core.List.{List, [], _∷_, _++_, map}
 use mathlib.Core.Bool.{Bool, true, false}
 use lib.ListN.{length, drop}
-use Rattle.wire.specs.Bytes.{u32At, part, put}
+use Rattle.wire.specs.Bytes.{u32At, part, put, zeros}
 use Rattle.header.specs.Fields.{fileSpaceReference, tileDirectoryReference}
 use Rattle.answer.specs.declared.Verdict.the-variants.{Accepted}
 use Rattle.page_check.specs.Stages.{check}
@@ -31,6 +31,10 @@ opened = openedPage file 9
 abbrev pub removed : List ℕ
 removed = removedPage opened 2
 
+-- other cells of tile 2
+abbrev pub others : List ℕ
+others = 21 ∷ 1 ∷ 22 ∷ 1 ∷ 23 ∷ 1 ∷ 24 ∷ 1 ∷ []
+
 -- a free record of so many bytes takes a record of 32
 abbrev pub takes32 : ℕ → Bool
 takes32 n = takes 32 (freeRecord 1 n)
@@ -44,8 +48,10 @@ pub record Sampled : Type 0 where
   pub stored-long : length (storedPage opened 0 cells) ≡ 456
   pub stored-reference : u32At (storedPage opened 0 cells) 400 ≡ 54
   pub stored-open : openForWriting (storedPage opened 0 cells) ≡ true
-  -- tile 2 removed leaves a free record of 32 bytes at 336, its reference zero
-  pub removed-head : part removed 336 8 ≡ 32 ∷ 0 ∷ 0 ∷ 0 ∷ 0 ∷ 0 ∷ 0 ∷ 0 ∷ []
+  -- tile 2 stored over: its cell bytes at 352 and the record's checksum at 364, no other byte
+  pub over : storedPage opened 2 others ≡ put (put opened 352 others) 364 (50 ∷ 30 ∷ 96 ∷ 87 ∷ [])
+  -- tile 2 removed leaves a free record of 32 bytes at 336, zeros between its length and its checksum, and its reference zero
+  pub removed-head : part removed 336 32 ≡ (32 ∷ []) ++ zeros 27 ++ (19 ∷ 215 ∷ 40 ∷ 129 ∷ [])
   pub removed-reference : u32At removed 408 ≡ 0
   pub removed-open : openForWriting removed ≡ true
   -- tile 3 stored takes it

@@ -1,4 +1,4 @@
--- The samples computed. Assumes nothing.
+-- The samples on document 01's page, computed. Assumes nothing.
 use mathlib.Core.Path.{refl}
 use Rattle.answer.specs.Refusals.{gate, unlessRefused}
 use Rattle.bodies.specs.ListDirectories.{entryCount, fileSpaceAt, freeCount, freeEntryAt, metadataAt, metadataCount, metadataEntryAt, metadataEntryEnd, metadataEntrySize}
@@ -57,7 +57,7 @@ use Rattle.written_records.specs.Directory.{directoryForm, directoryOf, referen
 use Rattle.written_records.specs.Pieces.{checksumFor, recordHead, recordLength, recordOf, sealed, section, unclosed}
 use Rattle.written_records.specs.Tile.{plainRecord, sections, sectionsOf, tileRecord}
 use Rattle.squeezed.specs.Squeezed.{gapsFrom, planGaps}
-use Rattle.corrected.specs.Samples.{Sampled, SqueezeSampled}
+use Rattle.correction_samples.specs.Listed.{Sampled, SqueezeSampled}
 
 pub sampled : Sampled
 unfolding advance place noFileSpace directoriesOpen carries directoryWrites referenceBytes referredTo tileReferred allBelow anyFree attach below blockAt blockSize bodyFault bodyRight byteAt bytesOf cellSize cellsPut chainFault check checkDirectories checkFromRecords checkHeader checkRecords checksumAt checksumFault checksumFor checksumOf checksumRight cleared closeWrites closed closedFields closedFront closedMore closedPage closedReference closedFieldWrites closedFrontWrites compactOf contentLengthAt countBelow crcBit crcByte crcOf crcOver crcPart dataType descriptionAt directoriesRight directoryForm directoryFull directoryOf element elementBytes elementContentAt elementName elementPacking elementRight elementsRight endOf endRight entriesRead entryAt entryCount entryEnd entryStart entryTexts every fieldsEnd fileSpaceAt fileSpaceRecord fileSpaceRight find findNot firstSet firstTwo firstWrong fiveRules following formRight frameRight freeCount freeEntryBytes freeEntryAt freeEntryIs freeEntryOf freeFits freeList freeListed freeNotEmpty freeOnly freeRecord freedOf freeing freeingWrites fullDirectory gate givesTile goesOn headerEnd headerRight identified identifier inRectangle inSpan indexRight isFree isOpened isPlain isThere joinFree joinWrites keysDistinct labelAt lastByte leastLength leftOver lengthRight letter listWrites listedOnce mark metadataAt metadataCount metadataDescriptionAt metadataDirectoryRight metadataEnd metadataEntryAt metadataEntryEnd metadataEntryIs metadataEntryOf metadataEntrySize metadataFits metadataLength metadataListed metadataName metadataOnly metadataRight methodCount methodsAt nameByte nameBytes namesDiffer never newlyStored nextTwo noOther nothingElse nothingToJoin number numberAt numberOf octet oneIf oneWrite openBody openForWriting openWrites openedFields openedFront openedMore openedPage openedReference openedFieldWrites optionsRight overwritten packingOf padded part passes pieceAt pieces piecesOf placeFor placed plainRecord plainTileLength positive productLabelAt put recordHead recordId recordIdAt recordLength recordLimit recordOf recordOk records recordsEnd recordsOf recordsRight rectangleRight referTo referenceAt referenceFrom referenceOf referenceSize referencesEnd referencesOf referring refersOrZero refersTo removedPage removedPieces resealed rightOf rows run freeRunWrites sameBytes sameKey sealWithout sealWrite sealed sealedFront section sectionAt sectionEnd sectionLength sectionPacking sectionRight sections sectionsOf select setWrites sidesRight sidesWithin some spanRight stages standing starts startsGo storeCount storedAt storedOver storedPage storedPieces storedSize stringEnd stringSize stringText sumBelow summedBytes tail tailRight takes textRight tileBytes tileCount tileDirectoryAt tileDirectoryRight tileEnd tileIndex tileLength tileRecord tileRight tilesAcross tilesAlong tilesDown tilesIn tilesListed tilesOnly unclosed uncompressed unitAt unless unlessRefused unwanted utf8 versionRight wholeWrite withReference within withinCeilings without zeros
@@ -69,6 +69,7 @@ sampled =
       stored-long = refl;
       stored-reference = refl;
       stored-open = refl;
+      over = refl;
       removed-head = refl;
       removed-reference = refl;
       removed-open = refl;

@@ -1,0 +1,1 @@
+// Samples of what corrects a page. It has no functions.

@@ -1,0 +1,1 @@
+// What the check answers, exactly: definitions and proofs, no code.

@@ -1,0 +1,9 @@
+pub mod RuleLaws
+pub mod DeedLaws
+pub mod ComparisonLaws
+pub mod RectangleLaws
+pub mod SheetLaws
+pub mod LogLaws
+pub mod ReplayLaws
+pub mod SampleLaws
+pub mod SheetSampleLaws

@@ -1,0 +1,69 @@
+-- Samples on whole files, computed. Assumes nothing.
+use mathlib.Core.Path.{refl}
+use Rattle.answer.specs.Refusals.{gate, unlessRefused}
+use Rattle.answer.specs.Values.{valueOf}
+use Rattle.blocks.specs.Folds.{foldBelow, foldInside, foldRectangle}
+use Rattle.blocks.specs.Tables.{tabled}
+use Rattle.bodies.specs.ListDirectories.{entryCount, fileSpaceAt, freeCount, freeEntryAt, metadataAt, metadataCount, metadataEntryAt, metadataEntryEnd, metadataEntrySize}
+use Rattle.bodies.specs.MetadataRecord.{contentLengthAt, dataType, metadataDescriptionAt, metadataEnd, metadataLength, metadataName, recordId, recordIdAt}
+use Rattle.bodies.specs.TileDirectory.{inRectangle, inSpan, numberOf, referenceAt, referenceFrom, referenceOf, referenceSize, referencesEnd, tileDirectoryAt}
+use Rattle.bodies.specs.TileRecord.{elementContentAt, sectionAt, sectionEnd, sectionLength, tileEnd, tileIndex}
+use Rattle.cells.specs.Asked.{inGrid}
+use Rattle.cells.specs.Meaning.{meaning}
+use Rattle.cells.specs.Routes.{carries, cellBy, meant, recordsWith}
+use Rattle.cells.specs.TileCells.{cellFrom, cellIn, fillOf, locationOf, offsetIn}
+use Rattle.check_directory.specs.References.{noOther, refersOrZero, refersTo}
+use Rattle.check_directory.specs.TileRules.{formRight, givesTile, rectangleRight, spanRight, tileDirectoryRight, tilesListed, tilesOnly}
+use Rattle.check_header.specs.Ceilings.{sidesWithin, withinCeilings}
+use Rattle.check_header.specs.HeaderRecord.{elementRight, elementsRight, frameRight, headerRight, lengthRight, namesDiffer, optionsRight, positive, sidesRight, tailRight}
+use Rattle.check_header.specs.Identification.{identified, mark, versionRight}
+use Rattle.check_header.specs.Stages.{checkHeader, closed, firstTwo, nextTwo, stages}
+use Rattle.check_lists.specs.FileSpace.{fileSpaceRight, freeEntryIs, freeEntryOf, freeFits, freeListed, freeNotEmpty, freeOnly}
+use Rattle.check_lists.specs.Listed.{listedOnce, nothingElse}
+use Rattle.check_lists.specs.Metadata.{keysDistinct, metadataDirectoryRight, metadataEntryIs, metadataEntryOf, metadataFits, metadataListed, metadataOnly, sameKey}
+use Rattle.check_lists.specs.Stage.{directoriesRight}
+use Rattle.check_records.specs.Checksum.{checksumAt, checksumOf, checksumRight, summedBytes}
+use Rattle.check_records.specs.Faults.{bodyFault, bodyRight, chainFault, checksumFault, firstWrong, rightOf}
+use Rattle.check_records.specs.Frame.{endRight}
+use Rattle.check_records.specs.MetadataBody.{metadataRight}
+use Rattle.check_records.specs.TileBody.{indexRight, sectionPacking, sectionRight, tileRight}
+use Rattle.comparisons.specs.Comparisons.{alike, cellHalt, comparedIn, comparedKind, comparedPages, comparison, differ, differAt, differingCells, firstHalt, haltAt, haltIn, joinHalt, secondHalt, tilingOf, unlessHalted}
+use Rattle.crc32c.specs.Crc.{crcBit, crcByte, crcOf, crcOver, crcPart}
+use Rattle.deeds.specs.Deeds.{cellsOf, certainBy, countsAsFill, deed, deedBy, deedIn, deedSaid, fillsIn, firstRule, gradeBy, gradeFrom, graded, isFill, isScored, isStored, lesser, lowestIn, minusOne, rectangleScored, refusalIn, scoreOf, scoreWithin, secondRule}
+use Rattle.geometry.specs.Sizes.{cellOffset, elementBytes, elementPacking, leastLength, packingOf, storedSize, tileBytes, uncompressed}
+use Rattle.geometry.specs.Tiles.{cellInside, cellTile, insideOf, tileCount, tileIn, tileOf, tilesAcross, tilesAlong, tilesDown, tilesIn}
+use Rattle.header.specs.Element.{blockAt, blockSize, cellSize, descriptionAt, element, elementName, entriesRead, entryAt, entryEnd, entryStart, fillBits, fillOffset, labelAt, stringEnd, stringSize, unitAt}
+use Rattle.header.specs.Names.{fiveRules, identifier, lastByte, letter, nameByte, nameBytes, within}
+use Rattle.header.specs.Tail.{fieldsEnd, methodCount, methodsAt, productLabelAt}
+use Rattle.header.specs.Texts.{entryTexts, stringText, textRight}
+use Rattle.page_check.specs.Stages.{check, checkDirectories, checkFromRecords, checkRecords, unless}
+use Rattle.record.specs.Chain.{endOf, find, findNot, headerEnd, records, recordsEnd, recordsOf, starts, startsGo}
+use Rattle.record.specs.Record.{padded, recordLimit, recordOk}
+use Rattle.rectangles.specs.Rectangles.{cellSays, cellsGiven, givenIn, roomFor}
+use Rattle.row_lists.specs.Entries.{countIn, differingIn, entriesAt, flat, listed}
+use Rattle.score_rule.specs.Rules.{otherId, pageSays, ruleSaid, scoreRule}
+use Rattle.store.specs.Many.{rectangleInside}
+use Rattle.store.specs.Named.{idsNamed, isNamed, recordsNamed}
+use Rattle.utf8.specs.Utf8.{following, goesOn, never, octet, rows, tail, utf8}
+use Rattle.wire.specs.Bytes.{byteAt, number, numberAt, part, sameBytes}
+use Rattle.wire.specs.Items.{advance}
+use Rattle.wire.specs.Lists.{below, countBelow, every, oneIf, select, some}
+use Rattle.wire.specs.Tests.{allBelow, passes, sumBelow}
+use Rattle.exact_products.specs.Samples.{ProductsSo}
+
+pub products-so : ProductsSo
+unfolding advance alike allBelow below blockAt blockSize bodyFault bodyRight byteAt carries cellBy cellFrom cellHalt cellIn cellInside cellOffset cellSays cellSize cellTile cellsGiven cellsOf certainBy chainFault check checkDirectories checkFromRecords checkHeader checkRecords checksumAt checksumFault checksumOf checksumRight closed comparedIn comparedKind comparedPages comparison contentLengthAt countBelow countIn countsAsFill crcBit crcByte crcOf crcOver crcPart dataType deed deedBy deedIn deedSaid descriptionAt differ differAt differingCells differingIn directoriesRight element elementBytes elementContentAt elementName elementPacking elementRight elementsRight endOf endRight entriesAt entriesRead entryAt entryCount entryEnd entryStart entryTexts every fieldsEnd fileSpaceAt fileSpaceRight fillBits fillOf fillOffset fillsIn find findNot firstHalt firstRule firstTwo firstWrong fiveRules flat foldBelow foldInside foldRectangle following formRight frameRight freeCount freeEntryAt freeEntryIs freeEntryOf freeFits freeListed freeNotEmpty freeOnly gate givenIn givesTile goesOn gradeBy gradeFrom graded haltAt haltIn headerEnd headerRight identified identifier idsNamed inGrid inRectangle inSpan indexRight insideOf isFill isNamed isScored isStored joinHalt keysDistinct labelAt lastByte leastLength lengthRight lesser letter listed listedOnce locationOf lowestIn mark meaning meant metadataAt metadataCount metadataDescriptionAt metadataDirectoryRight metadataEnd metadataEntryAt metadataEntryEnd metadataEntryIs metadataEntryOf metadataEntrySize metadataFits metadataLength metadataListed metadataName metadataOnly metadataRight methodCount methodsAt minusOne nameByte nameBytes namesDiffer never nextTwo noOther nothingElse number numberAt numberOf octet offsetIn oneIf optionsRight otherId packingOf padded pageSays part passes positive productLabelAt recordId recordIdAt recordLimit recordOk records recordsEnd recordsNamed recordsOf recordsWith rectangleInside rectangleRight rectangleScored referenceAt referenceFrom referenceOf referenceSize referencesEnd refersOrZero refersTo refusalIn rightOf roomFor rows ruleSaid sameBytes sameKey scoreOf scoreRule scoreWithin secondHalt secondRule sectionAt sectionEnd sectionLength sectionPacking sectionRight select sidesRight sidesWithin some spanRight stages starts startsGo storedSize stringEnd stringSize stringText sumBelow summedBytes tabled tail tailRight textRight tileBytes tileCount tileDirectoryAt tileDirectoryRight tileEnd tileIn tileIndex tileOf tileRight tilesAcross tilesAlong tilesDown tilesIn tilesListed tilesOnly tilingOf uncompressed unitAt unless unlessHalted unlessRefused utf8 valueOf versionRight within withinCeilings
+products-so =
+    record {
+      doubtful = refl;
+      unread = refl;
+      no-short = refl;
+      outside = refl;
+      compared = refl;
+      listed = refl;
+      refused = refl;
+      unlike = refl;
+      cells = refl;
+      kinds = refl;
+      bits = refl;
+    }

@@ -1,0 +1,1 @@
+// What the products answer, exactly: definitions and proofs, no code.

@@ -1,0 +1,3 @@
+-- Samples of what a page says.
+pub mod Pages
+pub mod Told

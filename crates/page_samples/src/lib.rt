@@ -1,0 +1,1 @@
+// Samples of what a page says. It has no functions.

@@ -1,0 +1,2 @@
+-- Small pages, byte by byte, that samples are computed on.
+pub mod Pages

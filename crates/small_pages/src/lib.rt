@@ -1,0 +1,1 @@
+// Small pages, byte by byte: definitions, no code.
