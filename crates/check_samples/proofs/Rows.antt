@@ -39,4 +39,4 @@ use Rattle.check_samples.specs.Rows.{RowsHold}
 
 pub rows-hold : RowsHold
 unfolding advance allBelow blockAt blockSize bodyFault bodyRight byteAt bytesOf cellSize chainFault check checkDirectories checkFromRecords checkHeader checkRecords checksumAt checksumFault checksumOf checksumRight closed contentLengthAt countBelow crcBit crcByte crcOf crcOver crcPart dataType descriptionAt directoriesRight element elementBytes elementName elementPacking elementRight elementsRight endOf endRight entriesRead entryAt entryCount entryEnd entryStart entryTexts every fieldsEnd fileSpaceAt fileSpaceRight fillBits fillOffset find findNot firstTwo firstWrong fiveRules following formRight frameRight freeCount freeEntryAt freeEntryIs freeEntryOf freeFits freeListed freeNotEmpty freeOnly gate givesTile goesOn headerEnd headerRight identified identifier inRectangle inSpan indexRight keysDistinct labelAt lastByte leastLength lengthRight letter listedOnce mark metadataAt metadataCount metadataDescriptionAt metadataDirectoryRight metadataEnd metadataEntryAt metadataEntryEnd metadataEntryIs metadataEntryOf metadataEntrySize metadataFits metadataLength metadataListed metadataName metadataOnly metadataRight methodCount methodsAt nameByte nameBytes namesDiffer never nextTwo noOther nothingElse number numberAt numberOf octet oneIf optionsRight packingOf padded part passes positive productLabelAt put recordId recordIdAt recordLimit recordOk records recordsEnd recordsOf rectangleRight referenceAt referenceFrom referenceOf referenceSize referencesEnd refersOrZero refersTo rightOf rows sameBytes sameKey sectionAt sectionEnd sectionLength sectionPacking sectionRight select sidesRight sidesWithin some spanRight stages starts startsGo storedSize stringEnd stringSize stringText sumBelow summedBytes tail tailRight textRight tileBytes tileCount tileDirectoryAt tileDirectoryRight tileEnd tileIndex tileRight tilesAcross tilesAlong tilesDown tilesIn tilesListed tilesOnly uncompressed unitAt unless unlessRefused utf8 versionRight within withinCeilings zeros
-rows-hold = record { by-ceilings = refl; by-damaged = refl; by-identified = refl; by-headed = refl; by-closedRows = refl; by-chained = refl; by-summed = refl; by-bodied = refl; by-listed = refl }
+rows-hold = record { by-ceilings = refl; by-damaged = refl; by-blockRows = refl; by-headerRows = refl; by-openedRows = refl; by-chainRows = refl; by-sumRows = refl; by-bodyRows = refl; by-listRows = refl }

@@ -37,8 +37,8 @@ abbrev pub judged : List ℕ → ℕ → ℕ → Judged
 judged s n p = record { file = s; answer = n; place = p }
 
 -- as it is; version 1.4 is wanted, and stage 1 comes before stage 2, which comes before stage 3
-abbrev pub identified : List Judged
-identified =
+abbrev pub blockRows : List Judged
+blockRows =
     judged ruled 0 0
     ∷ judged (put ruled 12 (2 ∷ [])) 2 0
     ∷ judged (put ruled 13 (3 ∷ [])) 2 0
@@ -47,8 +47,8 @@ identified =
     ∷ []
 
 -- stage 3: options, sides, elements, names, texts, padding
-abbrev pub headed : List Judged
-headed =
+abbrev pub headerRows : List Judged
+headerRows =
     judged (put ruled 128 (2 ∷ [])) 3 0
     ∷ judged (put ruled 129 (2 ∷ [])) 0 0
     ∷ judged (put ruled 129 (3 ∷ [])) 3 0
@@ -76,15 +76,15 @@ headed =
     ∷ []
 
 -- stage 5, also where stage 6 would refuse
-abbrev pub closedRows : List Judged
-closedRows =
+abbrev pub openedRows : List Judged
+openedRows =
     judged (put ruled 48 (1 ∷ [])) 5 0
     ∷ judged (put (put ruled 48 (1 ∷ [])) 368 (20 ∷ [])) 5 0
     ∷ []
 
 -- stage 6: the chain, at the record's start
-abbrev pub chained : List Judged
-chained =
+abbrev pub chainRows : List Judged
+chainRows =
     judged (put ruled 368 (20 ∷ [])) 6 368
     ∷ judged (put ruled 368 (8 ∷ [])) 6 368
     ∷ judged (put ruled 368 (16 ∷ [])) 6 384
@@ -94,8 +94,8 @@ chained =
     ∷ []
 
 -- stage 7: checksums that are off are zero; the first record counts, and stage 7 comes before stage 8
-abbrev pub summed : List Judged
-summed =
+abbrev pub sumRows : List Judged
+sumRows =
     judged (put ruled 364 (1 ∷ [])) 7 16
     ∷ judged (put ruled 396 (1 ∷ [])) 7 368
     ∷ judged (put ruled 540 (1 ∷ [])) 7 488
@@ -104,8 +104,8 @@ summed =
     ∷ []
 
 -- stage 8: tile and metadata records
-abbrev pub bodied : List Judged
-bodied =
+abbrev pub bodyRows : List Judged
+bodyRows =
     judged (put ruled 376 (4 ∷ [])) 8 368
     ∷ judged (put ruled 379 (128 ∷ [])) 8 368
     ∷ judged (put ruled 380 (0 ∷ [])) 8 368
@@ -120,8 +120,8 @@ bodied =
     ∷ []
 
 -- stage 9: directories
-abbrev pub listed : List Judged
-listed =
+abbrev pub listRows : List Judged
+listRows =
     judged (put ruled 424 (9 ∷ [])) 9 16
     ∷ judged (put (put ruled 424 (9 ∷ [])) 476 (9 ∷ [])) 0 0
     ∷ judged (put ruled 496 (1 ∷ [])) 9 16
@@ -140,14 +140,14 @@ listed =
     ∷ judged (put (put ruled 520 (0 ∷ [])) 524 (47 ∷ [])) 9 16
     ∷ []
 
-abbrev pub answered : Judged → ℕ × ℕ
-answered r = (verdictNumber (check (r .file)), verdictPlace (check (r .file)))
+abbrev pub checkGives : Judged → ℕ × ℕ
+checkGives r = (verdictNumber (check (r .file)), verdictPlace (check (r .file)))
 
 abbrev pub expected : Judged → ℕ × ℕ
 expected r = (r .answer, r .place)
 
 abbrev pub JudgedSo : List Judged → Type 0
-JudgedSo rows = map answered rows ≡ map expected rows
+JudgedSo rows = map checkGives rows ≡ map expected rows
 
 -- stages 1 to 5, of the front by itself and the file's length: ceilings of the file and of the sides, each at its most and one above; stage 3 comes
 -- before stage 4, and that before stage 5
@@ -190,10 +190,10 @@ damaged = judged (put file 352 (99 ∷ [])) 7 336 ∷ judged (put file 24 (1 ∷
 pub record RowsHold : Type 0 where
   pub by-ceilings : map (λ r. verdictNumber (checkHeader (r .bytes) (r .long))) ceilings ≡ map (λ r. r .answer) ceilings
   pub by-damaged : JudgedSo damaged
-  pub by-identified : JudgedSo identified
-  pub by-headed : JudgedSo headed
-  pub by-closedRows : JudgedSo closedRows
-  pub by-chained : JudgedSo chained
-  pub by-summed : JudgedSo summed
-  pub by-bodied : JudgedSo bodied
-  pub by-listed : JudgedSo listed
+  pub by-blockRows : JudgedSo blockRows
+  pub by-headerRows : JudgedSo headerRows
+  pub by-openedRows : JudgedSo openedRows
+  pub by-chainRows : JudgedSo chainRows
+  pub by-sumRows : JudgedSo sumRows
+  pub by-bodyRows : JudgedSo bodyRows
+  pub by-listRows : JudgedSo listRows

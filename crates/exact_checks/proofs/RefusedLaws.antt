@@ -53,13 +53,13 @@ first-wrong p (y ∷ ys) x e = go (p y) refl e (first-wrong p ys x)
         let q : y ≡ x = at-is k in
         record { before = []; behind = ys; all = ap (λ (z : ℕ). z ∷ ys) q; right = λ z m. absurd (List·Memᴰ·not-nil m); wrong = ap p (sym q) ∙ i }
 
-first-at : (p : ℕ → Bool) (before behind : List ℕ) (x : ℕ) → ((y : ℕ) → List·Memᴰ y before → p y ≡ true) → p x ≡ false → findNot p (before ++ (x ∷ behind)) ≡ At x
+wrong-at : (p : ℕ → Bool) (before behind : List ℕ) (x : ℕ) → ((y : ℕ) → List·Memᴰ y before → p y ≡ true) → p x ≡ false → findNot p (before ++ (x ∷ behind)) ≡ At x
 unfolding find findNot
-first-at p [] behind x r w = rw w
-first-at p (y ∷ ys) behind x r w = rw (r y (List·Memᴰ·head refl)) (first-at p ys behind x (λ z m. r z (List·Memᴰ·tail m)) w)
+wrong-at p [] behind x r w = rw w
+wrong-at p (y ∷ ys) behind x r w = rw (r y (List·Memᴰ·head refl)) (wrong-at p ys behind x (λ z m. r z (List·Memᴰ·tail m)) w)
 
 wrong-first : (p : ℕ → Bool) (l : List ℕ) (x : ℕ) → FirstWrong p l x → findNot p l ≡ At x
-wrong-first p l x w = ap (findNot p) (w .all) ∙ first-at p (w .before) (w .behind) x (w .right) (w .wrong)
+wrong-first p l x w = ap (findNot p) (w .all) ∙ wrong-at p (w .before) (w .behind) x (w .right) (w .wrong)
 
 -- a test and what comes behind it
 

@@ -12,11 +12,11 @@ use Rattle.answer.specs.declared.Cell.{Cell}
 use Rattle.answer.specs.Answers.{cellKind, cellBits}
 use Rattle.cells.proofs.DemandLaws.{demand-3}
 use Rattle.comparisons.specs.Comparisons.{comparedKind, differ, tilingOf}
-use Rattle.exact_products.specs.Comparisons.{IsStored, DifferExactly, ListedWhere}
+use Rattle.exact_products.specs.Comparisons.{IsHeld, DifferExactly, ListedWhere}
 
 -- the kind that is compared
 
-held-kind : (x : Cell) → IsStored x → comparedKind x ≡ 32
+held-kind : (x : Cell) → IsHeld x → comparedKind x ≡ 32
 unfolding comparedKind
 held-kind x h = ⊎-elim (λ e. rw e refl) (λ e. rw e refl) h
 
@@ -29,11 +29,11 @@ kind-held x = go (eqb (cellKind x) 34) refl
     go false e = inr (rw e)
 
 module _ (x y : Cell) where
-  same-compared : (IsStored x × IsStored y) ⊎ (cellKind x ≡ cellKind y) → comparedKind x ≡ comparedKind y
+  same-compared : (IsHeld x × IsHeld y) ⊎ (cellKind x ≡ cellKind y) → comparedKind x ≡ comparedKind y
   unfolding comparedKind
   same-compared h = ⊎-elim (λ p. held-kind x (p .0) ∙ sym (held-kind y (p .1))) (λ e. rw e) h
 
-  compared-same : comparedKind x ≡ comparedKind y → (IsStored x × IsStored y) ⊎ (cellKind x ≡ cellKind y)
+  compared-same : comparedKind x ≡ comparedKind y → (IsHeld x × IsHeld y) ⊎ (cellKind x ≡ cellKind y)
   compared-same e =
       ⊎-elim
       (λ a.

@@ -26,7 +26,7 @@ use Rattle.deeds.specs.declared.Lowest.the-variants.{Score, None}
 use Rattle.deeds.proofs.PieceLaws.{verdicts}
 use Rattle.deeds.proofs.DeedLaws.{all-scored, deed-scored, deed-inside}
 use Rattle.exact_products.specs.Deeds.{IsGraded, DeedGiven, CountsAs, ScoresExactly}
-use Rattle.exact_products.specs.Comparisons.{IsStored}
+use Rattle.exact_products.specs.Comparisons.{IsHeld}
 
 module _ (s : List ℕ) (ci e row column rows columns : ℕ) where
   none-refused :
@@ -53,7 +53,7 @@ deed-given s ci e row column rows columns a h k l m n t w f =
 
 -- what a cell counts as
 
-stored-is : (x : Cell) → IsStored x → isStored x ≡ true
+stored-is : (x : Cell) → IsHeld x → isStored x ≡ true
 unfolding isStored
 stored-is x h = ⊎-elim (λ e. rw e refl) (λ e. rw e refl) h
 
@@ -70,12 +70,12 @@ module _ (x : Cell) where
   unfolding countsAsFill isScored scoreOf isStored isFill passes
   is-fill e = rw e (refl, (refl, refl))
 
-  is-minus : IsStored x → cellBits x ≡ 65535 → (countsAsFill x ≡ true) × ((isScored x ≡ false) × (scoreOf x ≡ None))
+  is-minus : IsHeld x → cellBits x ≡ 65535 → (countsAsFill x ≡ true) × ((isScored x ≡ false) × (scoreOf x ≡ None))
   unfolding countsAsFill isScored scoreOf
   is-minus h e = rw (stored-is x h, minus-is x e) (refl, (refl, refl))
 
   is-score :
-      IsStored x → cellBits x < 65535 → (z : ℤ) → toZ w16 (cellBits x % 65536) ≡ z →
+      IsHeld x → cellBits x < 65535 → (z : ℤ) → toZ w16 (cellBits x % 65536) ≡ z →
       (countsAsFill x ≡ false) × ((isScored x ≡ true) × (scoreOf x ≡ Score z))
   unfolding countsAsFill isScored scoreOf
   is-score h l z e = rw (stored-is x h, minus-not x l) (refl, (refl, ap Score e))

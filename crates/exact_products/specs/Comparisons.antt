@@ -12,12 +12,12 @@ use Rattle.row_lists.specs.Entries.{Entry, tiledNumbers}
 use Rattle.comparisons.specs.Comparisons.{differ, tilingOf}
 
 -- a cell that is stored, or unpacked
-abbrev pub IsStored : Cell → Type 0
-IsStored x = (cellKind x ≡ 32) ⊎ (cellKind x ≡ 34)
+abbrev pub IsHeld : Cell → Type 0
+IsHeld x = (cellKind x ≡ 32) ⊎ (cellKind x ≡ 34)
 
 -- "differing in kind or bits", "stored includes unpacked": cells that do not differ
 pub record SameCell (x y : Cell) : Type 0 where
-  pub kinds : (IsStored x × IsStored y) ⊎ (cellKind x ≡ cellKind y)
+  pub kinds : (IsHeld x × IsHeld y) ⊎ (cellKind x ≡ cellKind y)
   pub bits : cellBits x ≡ cellBits y
 
 abbrev pub DifferExactly : Type 0

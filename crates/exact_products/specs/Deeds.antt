@@ -18,7 +18,7 @@ use Rattle.deeds.specs.declared.Lowest.the-variants.{Score, None}
 use Rattle.deeds.specs.declared.Deed.{Deed}
 use Rattle.deeds.specs.declared.Deed.the-variants.{Graded}
 use Rattle.deeds.specs.Deeds.{countsAsFill, isScored, scoreOf, deed}
-use Rattle.exact_products.specs.Comparisons.{IsStored}
+use Rattle.exact_products.specs.Comparisons.{IsHeld}
 
 pub record IsGraded (x : Deed) : Type 0 where
   pub rule : Rule
@@ -39,11 +39,11 @@ pub record CountsAs (x : Cell) : Type 0 where
   -- a fill, whatever its bits are
   pub fill : cellKind x ≡ 33 → (countsAsFill x ≡ true) × ((isScored x ≡ false) × (scoreOf x ≡ None))
   -- "counts a stored -1 as a fill cell, never a score"
-  pub minus : IsStored x → cellBits x ≡ 65535 → (countsAsFill x ≡ true) × ((isScored x ≡ false) × (scoreOf x ≡ None))
+  pub minus : IsHeld x → cellBits x ≡ 65535 → (countsAsFill x ≡ true) × ((isScored x ≡ false) × (scoreOf x ≡ None))
   -- any other has its signed number
-  pub positive : IsStored x → cellBits x < 32768 → (countsAsFill x ≡ false) × ((isScored x ≡ true) × (scoreOf x ≡ Score (pos (cellBits x))))
+  pub positive : IsHeld x → cellBits x < 32768 → (countsAsFill x ≡ false) × ((isScored x ≡ true) × (scoreOf x ≡ Score (pos (cellBits x))))
   pub negative :
-      IsStored x → 32768 ≤ cellBits x → cellBits x < 65535 →
+      IsHeld x → 32768 ≤ cellBits x → cellBits x < 65535 →
       (countsAsFill x ≡ false) × ((isScored x ≡ true) × (scoreOf x ≡ Score (negsuc (65535 - cellBits x))))
 
 abbrev pub ScoresExactly : Type 0

@@ -30,8 +30,8 @@ abbrev pub refusedText : List ℕ
 refusedText = 114 ∷ 101 ∷ 102 ∷ 117 ∷ 115 ∷ 101 ∷ 100 ∷ 32 ∷ 54 ∷ 32 ∷ 97 ∷ 116 ∷ 32 ∷ 51 ∷ 54 ∷ 56 ∷ 10 ∷ []
 
 -- a cell's kind, bits and place
-abbrev pub numbersOf : Cell → List ℕ
-numbersOf x = cellKind x ∷ cellBits x ∷ cellPlace x ∷ []
+abbrev pub kindBitsPlace : Cell → List ℕ
+kindBitsPlace x = cellKind x ∷ cellBits x ∷ cellPlace x ∷ []
 
 pub record ToldSo : Type 0 where
   pub order-listed : listing order ≡ orderText
@@ -55,14 +55,14 @@ pub record ToldSo : Type 0 where
   pub second-element : specified (put ruled 312 (1 ∷ 0 ∷ 109 ∷ [])) 1 ≡ specified-as.Element 0 9 326 1 346 0
   pub no-element : specified ruled 2 ≡ specified-as.Refused refusal.OutsideGrid
   -- fills of a Short, an Integer, an integer-coded Float and a Float
-  pub short-fill : numbersOf (readMeaning ruled 256 0 1 0) ≡ 33 ∷ 7 ∷ 0 ∷ []
-  pub integer-fill : numbersOf (readMeaning ruled 256 0 1 1) ≡ 33 ∷ 9 ∷ 0 ∷ []
-  pub coded-fill : numbersOf (readMeaning coded 256 0 0 0) ≡ 33 ∷ 134678021 ∷ 0 ∷ []
-  pub float-fill : numbersOf (readMeaning coded 256 0 0 1) ≡ 33 ∷ 2143289345 ∷ 0 ∷ []
+  pub short-fill : kindBitsPlace (readMeaning ruled 256 0 1 0) ≡ 33 ∷ 7 ∷ 0 ∷ []
+  pub integer-fill : kindBitsPlace (readMeaning ruled 256 0 1 1) ≡ 33 ∷ 9 ∷ 0 ∷ []
+  pub coded-fill : kindBitsPlace (readMeaning coded 256 0 0 0) ≡ 33 ∷ 134678021 ∷ 0 ∷ []
+  pub float-fill : kindBitsPlace (readMeaning coded 256 0 0 1) ≡ 33 ∷ 2143289345 ∷ 0 ∷ []
   -- the directory does not list tile 0: both routes refuse with 9, the walk without stage 9 reads
   pub by-directory : readByDirectory (put ruled 520 (0 ∷ [])) 256 0 0 0 ≡ cell.Refused refusal.Directory
   pub by-walk : readByWalk (put ruled 520 (0 ∷ [])) 256 0 0 0 ≡ cell.Refused refusal.Directory
-  pub by-records : numbersOf (readByRecords (put ruled 520 (0 ∷ [])) 256 0 0 0) ≡ 32 ∷ 9500 ∷ 384 ∷ []
+  pub by-records : kindBitsPlace (readByRecords (put ruled 520 (0 ∷ [])) 256 0 0 0) ≡ 32 ∷ 9500 ∷ 384 ∷ []
 
 -- the numbers of the refusals and their places: that of stages 6 to 8, 11 and 14 is given, that of stage 9 is 16, any other is 0
 pub record Numbered : Type 0 where
