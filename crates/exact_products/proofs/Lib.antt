@@ -7,3 +7,4 @@ pub mod LogLaws
 pub mod ReplayLaws
 pub mod SampleLaws
 pub mod SheetSampleLaws
+pub mod LayDownLaws

@@ -9,3 +9,4 @@ pub mod Logs
 pub mod Replays
 pub mod Samples
 pub mod SheetSample
+pub mod LayDowns
