@@ -49,16 +49,21 @@ unfolding ascending
 ascends-yes n least [] a = refl
 ascends-yes n least (i ∷ rest) a =
     sym
-    (yes _
-    (a .from 0 (omega arith), (omega (arith, a .under 0 (omega arith)), (
-      ascends-yes n (i + 1) rest
-      (record {
-        each = λ j k h m. a .each (suc j) (suc k) (omega arith) (omega arith);
-        from = λ k m. let q : i < getD rest k 0 = a .each 0 (suc k) (omega arith) (omega arith) in omega arith;
-        under = λ k m. a .under (suc k) (omega arith);
-      }),
-      tt,
-    ))))
+    (yes _ (
+      a .from 0 (omega arith),
+      (
+        omega (arith, a .under 0 (omega arith)),
+        (
+          ascends-yes n (i + 1) rest
+              (record {
+                each = λ j k h m. a .each (suc j) (suc k) (omega arith) (omega arith);
+                from = λ k m. let q : i < getD rest k 0 = a .each 0 (suc k) (omega arith) (omega arith) in omega arith;
+                under = λ k m. a .under (suc k) (omega arith);
+              }),
+          tt,
+        ),
+      ),
+    ))
 
 module _ (f : List ℕ) (t : ℕ) (ix c : List ℕ) where
   input-yes : GivenRight f t ix c → inputRight f t ix c ≡ true
