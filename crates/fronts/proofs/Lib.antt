@@ -1,0 +1,12 @@
+pub mod EntryLaws
+pub mod FieldLaws
+pub mod SaysLaws
+pub mod FrontLaws
+pub mod WriteLaws
+pub mod PartLaws
+pub mod LineLaws
+pub mod CountLaws
+pub mod BodyLaws
+pub mod JudgeLaws
+pub mod GivenLaws
+pub mod Samples
