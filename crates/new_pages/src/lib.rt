@@ -1,0 +1,1 @@
+// A page from nothing: definitions and proofs, no code.
