@@ -1,11 +1,12 @@
 /* Gridfour Virtual Raster Store files, version 1.4: the check of a file, whole or in two halves, what a page is, reads of its cells,
    compressed ones too, whether its scores are certain, in which cells two pages differ, M32 codes, its elements by their names, the
-   laying down of a new one, score sheets moved in and out, the correcting and squeezing of one where it lies, and the listing of a file.
+   front of a new one from a description, the laying down of it, score sheets moved in and out, the correcting and squeezing of one where it lies, and
+   the listing of a file.
 
    Link with libgvrs_c.a, which `rt staticlib gvrs_c` writes to target/staticlib/. A file is the bytes of the whole file, n of
    them, but for gvrs_check_start. `out` takes the numbers that a function names, in their order; a shorter one takes those that
    fit, and the answer is the same. A lay-down also writes the buffer that it is given for the file, and so does a move of a score sheet,
-   out of a page that for the sheet; a correction the one that the page lies in, gvrs_tight_plan the plan that it makes, a listing the
+   out of a page that for the sheet; gvrs_front that for the front; a correction the one that the page lies in, gvrs_tight_plan the plan that it makes, a listing the
    buffer for its text, an unpacking that for the cells, gvrs_cells those for kinds and bits, gvrs_compare its list, M32 those for bytes and
    numbers; gvrs_cells, gvrs_deed, gvrs_compare and gvrs_sheet_out the memory lent to them, gvrs_squeeze its plan, which holds the same
    numbers afterwards. Nothing else is written.
@@ -37,7 +38,7 @@ enum {
     GVRS_DIRECTORY = 9,    /* directory at fault */
     GVRS_OUTSIDE = 10,     /* row, column, element, tile or rectangle asked for, or tile to correct, not in the grid */
     GVRS_COMPRESSED = 11,  /* content asked for is compressed; of a cell: and not of the compressor index named, or of a Float */
-    GVRS_INPUT = 12,       /* input wrong: of a lay-down, a score sheet, a correction, a correction log, a plan or a deed, or more first bytes than the
+    GVRS_INPUT = 12,       /* input wrong: of a front, a lay-down, a score sheet, a correction, a correction log, a plan or a deed, or more first bytes than the
                               stated length; of a comparison, two pages that differ in grid, tile sides or element types */
     GVRS_ROOM = 13,        /* lay-down output, a score sheet's buffer, a page's for a correction, one for the cells of a rectangle, or one for a
                               plan, too short */
@@ -197,6 +198,26 @@ uint64_t gvrs_m32_read(const uint8_t *bytes, uint64_t n, uint32_t *numbers, uint
 /* The uncompressed content of an element in a tile: 32 present, out[0] where it starts and out[1] its length; 33 absent, 0 and 0;
    else the refusal's number, its place and 0. */
 uint32_t gvrs_content(const uint8_t *file, uint64_t n, uint64_t tile, uint64_t element, uint64_t *out, uint64_t out_n);
+
+/* Makes a front, the identification block and the header of a page, from a description: 0, and out[0] is its length; else the refusal's
+   number, and out[0] is its place, 0.
+
+   page: grid rows, grid columns, tile rows, tile columns, checksums (1 on, 0 off), the bytes of the product label, then the bytes of each
+   compression method's name. uuid: 16 bytes. elements: 14 numbers each: type code (0 Integer, 1 integer-coded, 2 Float, 3 Short),
+   continuous (0 no, else yes), the bytes of its name, label, description and unit; then minimum, maximum and fill (the other five are not
+   read; of a Short the 16 lowest bits count) or, integer-coded, minimum, maximum, fill, scale and offset as bits of Floats, then minimum,
+   maximum and fill as Integers. texts: all strings without lengths or terminators, in the order of the file: of each element name, label,
+   description and unit; the methods' names; the product label. Times, references, levels, coordinates and reserved bytes are zero.
+
+   Refused, in this order: 12 where page_n is less than 6, uuid_n is not 16, elements_n is no multiple of 14, a string has more than 65,535
+   bytes, the lengths do not add up to texts_n, or the front would have more than 16,777,216 bytes; 3 and 4 as a check gives them of the
+   front; 13 where front_n is less than its length. A type code or a flag above 255 is written as 255, which is 3.
+
+   Made, the buffer holds the front, which gvrs_lay_down takes, and the bytes behind it are as they were. Refused, the whole buffer is as it
+   was. */
+uint32_t gvrs_front(const uint32_t *page, uint64_t page_n, const uint8_t *uuid, uint64_t uuid_n, const uint32_t *elements,
+                    uint64_t elements_n, const uint8_t *texts, uint64_t texts_n, uint8_t *front, uint64_t front_n,
+                    uint64_t *out, uint64_t out_n);
 
 /* Lays a page down: 0 done, and out[0] is the file's length; else the refusal's number, and out[0] is its place, 0.
 

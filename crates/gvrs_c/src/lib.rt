@@ -3,6 +3,7 @@ mod compare;
 mod correction;
 mod deed;
 mod description;
+mod front;
 mod rectangle;
 mod sheet;
 mod squeezing;
