@@ -3,6 +3,7 @@
 use crate::second::cells::Spot;
 use crate::second::check::Answer;
 use crate::second::correct::Call;
+use crate::second::front;
 use crate::second::rectangles::Rectangle;
 use crate::second::start::Start;
 
@@ -113,6 +114,20 @@ extern "C" {
         out: *mut u64,
         out_n: u64,
     ) -> u64;
+    fn gvrs_front(
+        page: *const u32,
+        page_n: u64,
+        uuid: *const u8,
+        uuid_n: u64,
+        elements: *const u32,
+        elements_n: u64,
+        texts: *const u8,
+        texts_n: u64,
+        front: *mut u8,
+        front_n: u64,
+        out: *mut u64,
+        out_n: u64,
+    ) -> u32;
     fn gvrs_lay_down(
         front: *const u8,
         front_n: u64,
@@ -527,6 +542,27 @@ pub fn m32_read_into(bytes: &[u8], numbers: &mut [u32], out: &mut [u64]) -> u64 
 
 /// The number. The file goes into the caller's buffer, its length or the place into `out`; both are
 /// of any length.
+pub fn front_into(given: &front::Given, front: &mut [u8], out: &mut [u64]) -> u32 {
+    let front::Given { page, uuid, elements, texts } = given;
+    // All six slices are alive for the whole call and do not overlap.
+    unsafe {
+        gvrs_front(
+            page.as_ptr(),
+            page.len() as u64,
+            uuid.as_ptr(),
+            uuid.len() as u64,
+            elements.as_ptr(),
+            elements.len() as u64,
+            texts.as_ptr(),
+            texts.len() as u64,
+            front.as_mut_ptr(),
+            front.len() as u64,
+            out.as_mut_ptr(),
+            out.len() as u64,
+        )
+    }
+}
+
 pub fn lay_down_into(
     front: &[u8],
     time: u64,

@@ -13,6 +13,7 @@ pub mod directories;
 pub mod elements;
 pub mod facts;
 pub mod fields;
+pub mod front;
 pub mod geometry;
 pub mod header;
 pub mod huffman;

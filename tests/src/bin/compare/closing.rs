@@ -81,6 +81,7 @@ impl Run {
             Function::new("gvrs_check_rest", (0..).zip(self.rests)),
             Function::new("gvrs_cell", self.reads.cell_answers()),
             Function::new("gvrs_content", self.reads.content_answers()),
+            Function::new("gvrs_front", self.fronts.answers()),
             Function::new("gvrs_lay_down", self.lay_downs.answers()),
             Function::new("gvrs_sheet_in", self.sheets.answers(Way::In)),
             Function::new("gvrs_sheet_out", self.sheets.answers(Way::Out)),

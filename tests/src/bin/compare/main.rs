@@ -14,6 +14,7 @@ mod corrections;
 mod damage;
 mod deeds;
 mod face;
+mod fronts;
 mod guarded;
 mod hostile;
 mod keys;
@@ -66,7 +67,7 @@ fn main() -> ExitCode {
 
 /// Every section. Each has a generator of its own, so that one can change without the others.
 fn whole_run(seed: u64, small: bool) -> bool {
-    let sections: [fn(&mut Run, &mut Prng); 25] = [
+    let sections: [fn(&mut Run, &mut Prng); 26] = [
         sample_sums::section,
         made::section,
         allowed::section,
@@ -92,6 +93,7 @@ fn whole_run(seed: u64, small: bool) -> bool {
         comparisons::section,
         sheets::section,
         replays::section,
+        fronts::section,
     ];
     let mut run = Run::new(small);
     for (number, section) in sections.into_iter().enumerate() {

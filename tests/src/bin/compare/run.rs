@@ -11,6 +11,7 @@ use crate::comparisons;
 use crate::corrections;
 use crate::deeds;
 use crate::face;
+use crate::fronts;
 use crate::lay_downs;
 use crate::listings;
 use crate::packed;
@@ -44,6 +45,7 @@ pub struct Run {
     pub comparisons: comparisons::tally::Tally,
     pub replays: replays::tally::Tally,
     pub sheets: sheets::tally::Tally,
+    pub fronts: fronts::tally::Tally,
     /// Names asked about.
     pub names: usize,
     /// Texts asked about.
@@ -89,6 +91,7 @@ impl Run {
             comparisons: comparisons::tally::Tally::new(),
             replays: replays::tally::Tally::new(),
             sheets: sheets::tally::Tally::new(),
+            fronts: fronts::tally::Tally::new(),
             names: 0,
             texts: 0,
             name_pairs: 0,
@@ -227,6 +230,7 @@ impl Run {
         self.comparisons.report();
         self.replays.report();
         self.sheets.report();
+        self.fronts.report();
         closing::report(&self.functions());
         if !self.small {
             self.missed();
@@ -314,6 +318,10 @@ impl Run {
         }
         for thing in self.sheets.missed() {
             println!("FAULT: score sheets: never or wrongly reached: {thing}");
+            self.faults += 1;
+        }
+        for thing in self.fronts.missed() {
+            println!("FAULT: fronts: never or wrongly reached: {thing}");
             self.faults += 1;
         }
         for number in self.look_ups_missed() {

@@ -16,6 +16,7 @@ use gvrs_tests::second::deeds::DOUBTFUL;
 use gvrs_tests::second::lay_down::Given;
 use gvrs_tests::second::rectangles::Rectangle;
 
+use crate::fronts;
 use crate::lay_downs::draft::Draft;
 use crate::packed::holder::Holder;
 use crate::packed::trees::deep_comb;
@@ -162,6 +163,7 @@ fn ask(file: &[u8], other: &[u8], given: &Given) -> u32 {
     library::element_into(file, 0, &mut [0; 4]);
     library::m32_write_into(&[u32::MAX, 1 << 31, 1 << 30], &mut [0; 18]);
     library::m32_read_into(&[127, 0x86, 0xfe, 0xfe, 0xfe, 0], &mut [0; 2], &mut [0]);
+    library::front_into(&fronts::sample::given(), &mut [0; 400], &mut [0]);
     let Given { front, time, indexes, cells } = given;
     let mut buffer = vec![0; front.len() + 2 * cells.len() + 4096];
     library::lay_down_into(front, *time, indexes, cells, &mut buffer, &mut [0]);
