@@ -11,12 +11,16 @@ enum { DONE = 0, REFUSED = 1, FAILED = 2, DOUBTFUL = 3, UNREAD = 4, DIFFERENT = 
 /* The longest file that the store takes, the most cells of a tile, and a compressor index that no content has. */
 enum { LONGEST = 16777216, TILE_CELLS = 524288, NO_COMPRESSOR = 256 };
 
+/* The most elements, and the most compression methods, that are taken for a new page: one more than a page may have, which is refused. */
+enum { MOST_GIVEN = 17 };
+
 /* Type codes of elements. */
 enum { INTEGER = 0, INTEGER_CODED = 1, FLOAT = 2, SHORT = 3 };
 
 /* What a command is given. */
 struct request {
     char *words[6];       /* FILE and the others, as they stand */
+    int count;            /* how many there are */
     uint32_t compressor;  /* NO_COMPRESSOR where none is named */
     int has_second;       /* whether the second page of a comparison has a compressor index of its own */
     uint32_t second;      /* which */
@@ -27,6 +31,12 @@ struct request {
     int quiet;
     int partial;          /* whether a replay that stops is written */
     int squeeze;          /* whether a corrected page is squeezed */
+    const char *grid, *tile, *uuid, *label; /* of a new page; NULL where not given */
+    char *elements[MOST_GIVEN];             /* NAME:TYPE:FILL each */
+    int element_count;
+    char *methods[MOST_GIVEN];              /* names of compression methods */
+    int method_count;
+    int no_checksums;
 };
 
 /* The file that the command is about, and the second of a comparison: room for the longest and a byte more, so that a longer one is
@@ -82,7 +92,15 @@ char *folder_of(char *beside);
 /* Makes a new file: it gets its name once it is whole, and where there is such a file nothing is written. DONE or FAILED. */
 int write_new(const char *name, const uint8_t *bytes, uint64_t n);
 
+/* The clock's time, in milliseconds since 1970. */
+uint64_t clock_now(void);
+
+/* Makes a front for a score sheet of so many rows and columns: tiles of at most 256 by 256, one element `score`, a Short with the fill
+   -1. DONE, REFUSED or FAILED. */
+int score_front(uint64_t rows, uint64_t columns, uint8_t *front, uint64_t room, uint64_t *n);
+
 /* The commands. Each gives the exit status. */
+int run_new(const struct request *request);
 int run_check(const struct request *request);
 int run_info(const struct request *request);
 int run_cell(const struct request *request);

@@ -4,13 +4,15 @@
 #include <string.h>
 #include "cli.h"
 
-/* The options that a command takes, each with the name and the most of the number behind it; some have none. */
-enum { COMPRESSOR = 1, TIME = 2, WAIT = 4, QUIET = 8, SECOND = 16, MOST = 32, PARTIAL = 64, SQUEEZE = 128 };
+/* The options that a command takes, each with the name and the most of the number behind it, 0 where that is a text; some have none. */
+enum { COMPRESSOR = 1, TIME = 2, WAIT = 4, QUIET = 8, SECOND = 16, MOST = 32, PARTIAL = 64, SQUEEZE = 128, GRID = 128, TILE = 256, ELEMENTS = 512,
+       LABEL = 1024, METHODS = 2048, UUID = 4096, PLAIN = 8192 };
+enum { NEEDED = GRID | TILE | ELEMENTS, DESCRIBED = NEEDED | LABEL | METHODS | UUID | PLAIN };
 
 struct option {
     int option;
     const char *name;
-    const char *number;
+    const char *value;
     uint64_t most;
     const char *help;
 };
@@ -20,6 +22,15 @@ static const struct option OPTIONS[] = {
      "--compressor N unpacks content of the compressor index N, 0 to 255, but no Float's; other is refused (11).\n"},
     {SECOND, "--second-compressor", "N", 255, "--second-compressor N is the compressor index of SECOND, where that is another.\n"},
     {MOST, "--most", "N", UINT64_MAX, "--most N shows the earliest N cells that differ, at most; without it, all.\n"},
+    {GRID, "--grid", "ROWSxCOLUMNS", 0, "--grid ROWSxCOLUMNS is the size of the grid, as 1000x800.\n"},
+    {TILE, "--tile", "ROWSxCOLUMNS", 0, "--tile ROWSxCOLUMNS is the size of a tile.\n"},
+    {ELEMENTS, "--element", "NAME:TYPE:FILL", 0,
+     "--element NAME:TYPE:FILL is an element, with :UNIT behind it where it has a unit; one or more, in their order. TYPE\n"
+     "is Integer, integer-coded, Float or Short. An integer-coded element has the scale 1 and the offset 0.\n"},
+    {LABEL, "--label", "TEXT", 0, "--label TEXT is the product label.\n"},
+    {METHODS, "--method", "NAME", 0, "--method NAME is a compression method, as GvrsHuffman; more of them have the indexes 0, 1 and so on.\n"},
+    {UUID, "--uuid", "DIGITS", 0, "--uuid DIGITS is the page's UUID, in 32 hexadecimal digits; without it, a random one.\n"},
+    {PLAIN, "--no-checksums", NULL, 0, "--no-checksums turns checksums off.\n"},
     {TIME, "--time", "MS", UINT64_MAX,
      "--time MS is the time modified, in milliseconds since 1970; without it, the clock's.\n"},
     {WAIT, "--wait", "SECONDS", UINT32_MAX,
@@ -40,6 +51,9 @@ struct command {
 };
 
 static const struct command COMMANDS[] = {
+    {"new", "FILE", 1, DESCRIBED | TIME, run_new,
+     "Makes a page, a new file FILE, with nothing stored: every cell is its element's fill.\n"
+     "`gvrs new page.gvrs --grid 1000x1000 --tile 100x100 --element glyph:Integer:0 --element score:Short:-1`\n"},
     {"check", "FILE", 1, 0, run_check, "Says that the file is accepted, or which refusal it gets.\n"},
     {"info", "FILE", 1, 0, run_info,
      "Shows what the page is: the grid's sides, its tiles and how many are stored, metadata records, and\n"
@@ -81,9 +95,10 @@ static const struct command COMMANDS[] = {
      "Moves the records of a page together, so that no free space is left, and says how long the file then\n"
      "is. What is stored stays. The page is written to a copy beside FILE, which then takes its name; where\n"
      "anything fails FILE stays as it is.\n"},
-    {"sheet-in", "FRONT SHEET FILE", 3, TIME, run_sheet_in,
+    {"sheet-in", "[FRONT] SHEET FILE", 3, TIME, run_sheet_in,
      "Moves a score sheet into a page, a new file FILE. FRONT is a front, or a page of which the front is\n"
-     "taken: with the sheet's rows and columns, and one element only, a Short with the fill -1.\n"},
+     "taken: with the sheet's rows and columns, and one element only, a Short with the fill -1. Without FRONT the\n"
+     "page has such an element named score, and tiles of at most 256 by 256 cells.\n"},
     {"sheet-out", "FILE SHEET", 2, COMPRESSOR, run_sheet_out,
      "Moves a page out to a score sheet, a new file SHEET: one element only, a Short with the fill -1, each\n"
      "number -1 or from 0 to 1000, and no metadata record that says another rule than the first.\n"},
@@ -96,15 +111,16 @@ static const char ELEMENT[] = "ELEMENT is an element's number or its name.\n";
 static void print_usage(FILE *stream, const struct command *command) {
     fprintf(stream, "gvrs %s %s", command->name, command->arguments);
     for (int i = 0; i < OPTION_COUNT; i++) {
-        const char *number = OPTIONS[i].number;
+        const char *value = OPTIONS[i].value;
         if (command->options & OPTIONS[i].option)
-            fprintf(stream, " [%s%s%s]", OPTIONS[i].name, number == NULL ? "" : " ", number == NULL ? "" : number);
+            fprintf(stream, OPTIONS[i].option & NEEDED ? " %s%s%s" : " [%s%s%s]", OPTIONS[i].name, value == NULL ? "" : " ",
+                    value == NULL ? "" : value);
     }
     fprintf(stream, "\n");
 }
 
 static int print_help(void) {
-    printf("Checks, shows and corrects pages: GVRS files, version 1.4, of at most %d bytes.\nMoves score sheets into pages and out.\n\n", LONGEST);
+    printf("Makes, checks, shows and corrects pages: GVRS files, version 1.4, of at most %d bytes.\nMoves score sheets into pages and out.\n\n", LONGEST);
     for (int i = 0; i < COUNT; i++) {
         printf("    ");
         print_usage(stdout, &COMMANDS[i]);
@@ -128,9 +144,9 @@ static int print_command_help(const struct command *command) {
 }
 
 /* Whether an argument is the option: then its value is the rest of the argument, behind a =, or the next one, NULL if there is none. */
-static int is_option(const struct option *option, char ***at, const char **value) {
+static int is_option(const struct option *option, char ***at, char **value) {
     size_t n = strlen(option->name);
-    if (option->number == NULL)
+    if (option->value == NULL)
         return strcmp(**at, option->name) == 0;
     if (strncmp(**at, option->name, n) != 0 || ((**at)[n] != '\0' && (**at)[n] != '='))
         return 0;
@@ -147,18 +163,42 @@ static void set_option(struct request *request, int option, uint64_t number) {
     case WAIT: request->wait = number; break;
     case QUIET: request->quiet = 1; break;
     case PARTIAL: request->partial = 1; break;
-    case SQUEEZE: request->squeeze = 1; break;
+    case PLAIN: request->no_checksums = 1; break;
     }
 }
 
+static int set_text(struct request *request, int option, char *text) {
+    switch (option) {
+    case GRID: request->grid = text; break;
+    case TILE: request->tile = text; break;
+    case LABEL: request->label = text; break;
+    case UUID: request->uuid = text; break;
+    case ELEMENTS:
+        if (request->element_count == MOST_GIVEN)
+            return failed("a page has at most 16 elements");
+        request->elements[request->element_count++] = text;
+        break;
+    case METHODS:
+        if (request->method_count == MOST_GIVEN)
+            return failed("more than %d compression methods are not taken here", MOST_GIVEN);
+        request->methods[request->method_count++] = text;
+        break;
+    case SQUEEZE: request->squeeze = 1; break;
+    }
+    return DONE;
+}
+
 static int read_option(const struct command *command, char ***at, struct request *request) {
-    const char *given = **at, *value = NULL;
+    const char *given = **at;
+    char *value = NULL;
     for (const struct option *option = OPTIONS; option < OPTIONS + OPTION_COUNT; option++)
         if (command->options & option->option && is_option(option, at, &value)) {
             uint64_t number = 0;
-            if (option->number != NULL && value == NULL)
-                return failed("%s wants a number behind it", option->name);
-            if (option->number != NULL && number_given(option->name, value, option->most, &number) != DONE)
+            if (option->value != NULL && value == NULL)
+                return failed("%s wants a %s behind it", option->name, option->most == 0 ? "text" : "number");
+            if (option->value != NULL && option->most == 0)
+                return set_text(request, option->option, value);
+            if (option->value != NULL && number_given(option->name, value, option->most, &number) != DONE)
                 return FAILED;
             set_option(request, option->option, number);
             return DONE;
@@ -180,7 +220,8 @@ static int run_command(const struct command *command, char **at) {
         } else if (count++ < command->count)
             request.words[count - 1] = *at;
     }
-    if (count == command->count)
+    request.count = count;
+    if (count == command->count || (count == command->count - 1 && command->arguments[0] == '['))
         return command->run(&request);
     fprintf(stderr, "gvrs: %d arguments given, %d needed: ", count, command->count);
     print_usage(stderr, command);

@@ -6,17 +6,10 @@
 #include <stdio.h>
 #include <stdlib.h>
 #include <string.h>
-#include <time.h>
 #include "cli.h"
 
 /* The longest sheet: a length of four bytes, and as many as it can state. */
 static const uint64_t LONGEST_SHEET = 4 + (uint64_t)UINT32_MAX;
-
-static uint64_t now(void) {
-    struct timespec now = {0, 0};
-    clock_gettime(CLOCK_REALTIME, &now);
-    return (uint64_t)now.tv_sec * 1000 + (uint64_t)now.tv_nsec / 1000000;
-}
 
 /* FRONT is a front by itself, or a page, of which the front is taken. */
 static uint64_t front_length(void) {
@@ -24,15 +17,17 @@ static uint64_t front_length(void) {
     return gvrs_page(page.bytes, page.n, is, 13) == GVRS_ACCEPTED ? is[8] : page.n;
 }
 
-static int move_in(const uint8_t *sheet, uint64_t sheet_n, uint64_t time, const char *name) {
+static int move_in(const uint8_t *sheet, uint64_t sheet_n, uint64_t time, const char *name, int own) {
     static uint8_t file[LONGEST];
     uint64_t n;
     uint32_t number = gvrs_sheet_in(page.bytes, front_length(), time, sheet, sheet_n, file, sizeof file, &n, 1);
     if (number == GVRS_INPUT)
-        return refused(number, n, time == 0 ? "the time is 0" : "SHEET is no score sheet, or FRONT has not its rows and columns and one "
-                                                                "element only, a Short with the fill -1");
+        return refused(number, n, time == 0 ? "the time is 0"
+                                  : own     ? "SHEET is no score sheet"
+                                            : "SHEET is no score sheet, or FRONT has not its rows and columns and one element only, a Short with "
+                                              "the fill -1");
     if (number == GVRS_CEILING)
-        return refused(number, n, "of FRONT, or of the page that it would make");
+        return refused(number, n, own ? "of the page that it would make" : "of FRONT, or of the page that it would make");
     if (number != GVRS_ACCEPTED)
         return refused(number, n, NULL);
     if (write_new(name, file, n) != DONE)
@@ -41,14 +36,26 @@ static int move_in(const uint8_t *sheet, uint64_t sheet_n, uint64_t time, const 
     return DONE;
 }
 
+/* Without FRONT one is made of the sheet's own rows and columns, which stand behind its length and its version; of bytes that have none it is
+   that of one cell, and what is refused then is the sheet. */
+static int own_front(const char *name, const uint8_t *sheet, uint64_t sheet_n) {
+    uint64_t rows = sheet_n < 9 ? 1 : 256 * sheet[5] + sheet[6], columns = sheet_n < 9 ? 1 : 256 * sheet[7] + sheet[8];
+    page.name = name;
+    return score_front(rows == 0 ? 1 : rows, columns == 0 ? 1 : columns, page.bytes, sizeof page.bytes, &page.n);
+}
+
 int run_sheet_in(const struct request *request) {
     uint64_t sheet_n;
-    if (read_page(request->words[0]) != DONE)
+    int own = request->count == 2;
+    char *const *words = request->words + !own;
+    if (!own && read_page(request->words[0]) != DONE)
         return FAILED;
-    uint8_t *sheet = read_long(request->words[1], LONGEST_SHEET, &sheet_n);
+    uint8_t *sheet = read_long(words[0], LONGEST_SHEET, &sheet_n);
     if (sheet == NULL)
         return FAILED;
-    int status = move_in(sheet, sheet_n, request->has_time ? request->time : now(), request->words[2]);
+    int status = own ? own_front(words[0], sheet, sheet_n) : DONE;
+    if (status == DONE)
+        status = move_in(sheet, sheet_n, request->has_time ? request->time : clock_now(), words[1], own);
     free(sheet);
     return status;
 }

@@ -44,6 +44,7 @@ __all__ = [
     "Deed",
     "Element",
     "Fill",
+    "NewElement",
     "Outside",
     "Page",
     "Refused",
@@ -82,6 +83,7 @@ _FUNCTIONS = {
     "gvrs_cells": _FILE + [_U32, _U64, _U64, _U64, _U64, _U64] + [_LIST32, _U64] * 3,
     "gvrs_deed": _FILE + [_U32, _U64, _U64, _U64, _U64, _U64, _LIST32, _U64],
     "gvrs_compare": (_FILE + [_U32]) * 2 + [_LIST32, _U64] * 2,
+    "gvrs_front": [_LIST32, _U64, _BYTES, _U64, _LIST32, _U64, _BYTES, _U64, _BYTES, _U64],
     "gvrs_lay_down": _FILE + [_U64, _LIST32, _U64, _BYTES, _U64, _BYTES, _U64],
     "gvrs_open_page": _FILE + [_U64, _U64],
     "gvrs_replay": _FILE + [_U64, _BYTES, _U64],
@@ -571,54 +573,81 @@ def _packed(type_, value):
         raise ValueError(f"{value} does not fit the {8 * struct.calcsize(letter)} bits of a {type_}") from None
 
 
-def _padded(content, to):
-    return content + bytes(-len(content) % to)
+class NewElement(NamedTuple):
+    """An element of a page that is to be made: a tuple of its first three or more will do, and an Element too. `least` and `greatest` are
+    its type's unless they are given; the store carries them, and does not hold cells to them. Of an integer-coded element `least`,
+    `greatest` and `fill` are the integers that are stored, of which each stands for itself divided by `scale`, plus `offset`."""
+
+    name: str
+    type: str
+    fill: object
+    unit: str = ""
+    label: str = ""
+    description: str = ""
+    least: object = None
+    greatest: object = None
+    scale: float = 1
+    offset: float = 0
+    continuous: bool = False
 
 
-# The least and the greatest value of a type, which G's Tables 9 to 12 want beside its fill; the store carries them.
+# The least and the greatest value of a type, which G's Tables 9 to 12 want beside its fill.
 _RANGES = {"Short": (-(2**15), 2**15 - 1), "Integer": (-(2**31), 2**31 - 1), "Float": (-math.inf, math.inf)}
 
 
-def _block(type_, fill):
-    """G Tables 9 to 12: minimum, maximum and fill; of an integer-coded element as Floats, then its scale and offset, 1 and 0, then as
-    Integers."""
-    if type_ == "integer-coded":
-        floats = [_packed("Float", number) for number in (*_RANGES["Integer"], fill, 1, 0)]
-        return b"".join(floats) + _block("Integer", fill)
-    least, greatest = _RANGES.get(type_, (0, 0))
-    return b"".join(_padded(_packed(type_, number), 4) for number in (least, greatest, fill))
+def _bits(type_, value):
+    return int.from_bytes(_packed(type_, value), "little")
 
 
-def _entry(element):
-    """G Table 8, with an empty label and description."""
+def _block(element):
+    """G Tables 9 to 12: minimum, maximum and fill; of an integer-coded element as Floats, its scale and offset, then as Integers."""
+    fill = element.fill.value if isinstance(element.fill, Fill) else element.fill
+    coded = element.type == "integer-coded"
+    least, greatest = _RANGES["Integer" if coded else element.type] if element.type in _LETTERS else (0, 0)
+    range_ = (least if element.least is None else element.least, greatest if element.greatest is None else element.greatest, fill)
+    whole = [_bits("Integer" if coded else element.type, number) for number in range_]
+    if not coded:
+        return whole + [0] * 5
+    scaled = [number / element.scale + element.offset for number in range_]
+    return [_bits("Float", number) for number in (*scaled, element.scale, element.offset)] + whole
+
+
+def _told(element):
+    """An element's fourteen numbers for gvrs_front, and its texts."""
     try:
-        name, type_, fill, *unit = element
-        [unit] = unit or [""]
-        name, unit = name.encode(), unit.encode()
+        element = NewElement(*element)
+        texts = [text.encode() for text in (element.name, element.label, element.description, element.unit)]
     except (TypeError, ValueError, AttributeError):
-        raise TypeError(f"an element is (name, type, fill) or (name, type, fill, unit), and not {element!r}") from None
-    block = _block(type_, fill.value if isinstance(fill, Fill) else fill)
-    head = struct.pack("<B7xH", _TYPES.index(type_), _number(len(name), 65535, "the length of a name")) + name
-    texts = struct.pack("<4xH", _number(len(unit), 65535, "the length of a unit")) + unit
-    return _padded(_padded(head + block, 4) + texts, 4)
+        raise TypeError(f"an element is (name, type, fill), (name, type, fill, unit) or a NewElement, and not {element!r}") from None
+    block = _block(element)
+    lengths = [_number(len(text), 65535, "the length of a text") for text in texts]
+    return [_TYPES.index(element.type), bool(element.continuous), *lengths, *block], b"".join(texts)
 
 
-def front(rows, columns, tile_rows, tile_columns, elements, checksums=True, uuid=None):
-    """The identification block and the header of a new page, for lay_down. `elements` is a list of (name, type, fill), or of (name, type,
-    fill, unit) as Page.elements has them; an integer-coded element has the scale 1 and the offset 0. `uuid` is 16 bytes, a new one unless
-    given. No labels, coordinates or metadata. Nothing is judged here: lay_down refuses a front that breaks a rule."""
+def front(rows, columns, tile_rows, tile_columns, elements, checksums=True, uuid=None, label="", methods=()):
+    """The identification block and the header of a new page, for lay_down. `elements` is a list of (name, type, fill), of (name, type,
+    fill, unit) as Page.elements has them, or of NewElement, which has labels, ranges and a scale too. `uuid` is 16 bytes, a new one unless
+    given; `label` is the product label; `methods` are the names of the compression methods by their index, as "GvrsHuffman". No
+    coordinates and no metadata. Raises Refused: 3 and 4 as lay_down would."""
     names = ("rows", "columns", "tile_rows", "tile_columns")
     sides = [_number(side, 2**31 - 1, name) for side, name in zip((rows, columns, tile_rows, tile_columns), names)]
-    entries = [_entry(element) for element in elements]
+    told = [_told(element) for element in elements]
     uuid = uuid4().bytes if uuid is None else _bytes(uuid, "uuid")
     if len(uuid) != 16:
         raise ValueError(f"a uuid has 16 bytes, and this one {len(uuid)}")
-    # G Table 7, from position 24 on: the UUID, four sides, whether checksums are on, the elements; then no compression method, an empty
-    # product label and eight reserved bytes. The lay-down sets times, references and the checksum.
-    fixed = struct.pack("<16s64x4i8xB151xi", uuid, *sides, bool(checksums), len(entries))
-    content = fixed + b"".join(entries) + bytes(4 + 2 + 8)
-    record = _padded(bytes(8) + content + bytes(4), 8)
-    return b"gvrs raster\0\1\4\0\0" + struct.pack("<IB3x", len(record), 6) + record[8:]
+    behind = [text.encode() for text in (label, *methods)]
+    lengths = [_number(len(text), 65535, "the length of a text") for text in behind]
+    texts = b"".join([text for _, text in told] + behind[1:] + behind[:1])
+    page = [*sides, bool(checksums), *lengths]
+    numbers_ = [number for element, _ in told for number in element]
+    # Beside the texts a front has 300 bytes, at most 80 for each element and 2 for each method.
+    room = 300 + 80 * len(told) + 2 * len(behind) + len(texts)
+    file = ctypes.create_string_buffer(room)
+    lists = (_U32 * len(page))(*page), len(page), uuid, 16, (_U32 * len(numbers_))(*numbers_), len(numbers_)
+    number, [out] = _ask("gvrs_front", 1, *lists, texts, len(texts), file, room)
+    if number != _DONE:
+        raise Refused(number, out)
+    return file.raw[:out]
 
 
 class _Part(NamedTuple):

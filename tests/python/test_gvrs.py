@@ -401,7 +401,45 @@ class LayDown(Tests):
         self.assertEqual(self.laid((1, 1, 1, 1), [("z", "Short", 7)], {}).elements[0].unit, "")
         self.assertRaises(ValueError, gvrs.front, 1, 1, 1, 1, [("z", "Short", 7, "m" * 65536)])
         self.assertRaises(TypeError, gvrs.front, 1, 1, 1, 1, [("z", "Short", 7, b"m")])
-        self.assertRaises(TypeError, gvrs.front, 1, 1, 1, 1, [("z", "Short", 7, "m", "m")])
+        self.assertRaises(TypeError, gvrs.front, 1, 1, 1, 1, [("z", "Short", 7, "m", "", "", 0, 9, 1, 0, False, "m")])
+
+    def test_bytes_of_a_front(self):
+        """As G's Tables 6 to 12 have them, written out here once more."""
+        elements = [("a", "Short", -1), ("bb", "Integer", 5), ("ccc", "Float", 0.5), ("dddd", "integer-coded", 9, "m")]
+        for count in range(1, 5):
+            entries = b"".join(map(self.entry, elements[:count]))
+            body = struct.pack("<16s64x4i8xB151xi", bytes(range(16)), 3, 4, 2, 2, 0, count) + entries + bytes(4 + 2 + 8)
+            record = bytes(8) + body + bytes(4)
+            record += bytes(-len(record) % 8)
+            front = b"gvrs raster\0\1\4\0\0" + struct.pack("<IB3x", len(record), 6) + record[8:]
+            self.assertEqual(gvrs.front(3, 4, 2, 2, elements[:count], checksums=False, uuid=bytes(range(16))), front)
+
+    @staticmethod
+    def entry(element):
+        name, type_, fill, unit = (*element, "")[:4]
+        code, letter, least, greatest = {"Short": (3, "h2x", -(2**15), 2**15 - 1), "Integer": (0, "i", -(2**31), 2**31 - 1),
+                                         "Float": (2, "f", -math.inf, math.inf), "integer-coded": (1, "i", -(2**31), 2**31 - 1)}[type_]
+        floats = struct.pack("<5f", least, greatest, fill, 1, 0) if code == 1 else b""
+        head = struct.pack("<B7xH", code, len(name)) + name.encode() + floats + struct.pack("<" + 3 * letter, least, greatest, fill)
+        head += bytes(-len(head) % 4) + struct.pack("<4xH", len(unit)) + unit.encode()
+        return head + bytes(-len(head) % 4)
+
+    def test_texts_ranges_and_methods(self):
+        element = gvrs.NewElement("s", "integer-coded", -4, "m", "label", "d\xe9scription", -8, 12, 4, 0.5, True)
+        front = gvrs.front(3, 3, 2, 2, [element], uuid=bytes(16), label="product", methods=["GvrsHuffman", "GvrsDeflate"])
+        self.assertEqual(front[284:286], b"\1\1")
+        block = struct.pack("<5f3i", -1.5, 3.5, -0.5, 4, 0.5, -8, 12, -4)
+        self.assertEqual(front[295:327], block)
+        texts = [b"label", "d\xe9scription".encode(), b"m"]
+        strings = b"".join(struct.pack("<H", len(text)) + text for text in texts)
+        self.assertEqual(front[328 : 328 + len(strings)], strings)
+        behind = struct.pack("<IH11sH11sH7s8x", 2, 11, b"GvrsHuffman", 11, b"GvrsDeflate", 7, b"product")
+        self.assertIn(behind, front)
+        made = Page.of_bytes(gvrs.lay_down(front, {}, 1))
+        self.assertEqual(made.elements, (("s", "integer-coded", Fill(-4), "m"),))
+        self.assertRefused(3, 0, lambda: gvrs.front(3, 3, 0, 2, [element]))
+        self.assertRaises(ValueError, gvrs.front, 3, 3, 2, 2, [element], label="m" * 65536)
+        self.assertRaises(ValueError, gvrs.front, 3, 3, 2, 2, [element], methods=["m" * 65536])
 
     def test_page_laid_down_again(self):
         for name in ("four-types", "units"):
