@@ -5,8 +5,8 @@
 #include "cli.h"
 
 /* The options that a command takes, each with the name and the most of the number behind it, 0 where that is a text; some have none. */
-enum { COMPRESSOR = 1, TIME = 2, WAIT = 4, QUIET = 8, SECOND = 16, MOST = 32, PARTIAL = 64, SQUEEZE = 128, GRID = 128, TILE = 256, ELEMENTS = 512,
-       LABEL = 1024, METHODS = 2048, UUID = 4096, PLAIN = 8192 };
+enum { COMPRESSOR = 1, TIME = 2, WAIT = 4, QUIET = 8, SECOND = 16, MOST = 32, PARTIAL = 64, SQUEEZE = 128, GRID = 256, TILE = 512,
+       ELEMENTS = 1024, LABEL = 2048, METHODS = 4096, UUID = 8192, PLAIN = 16384 };
 enum { NEEDED = GRID | TILE | ELEMENTS, DESCRIBED = NEEDED | LABEL | METHODS | UUID | PLAIN };
 
 struct option {
@@ -163,6 +163,7 @@ static void set_option(struct request *request, int option, uint64_t number) {
     case WAIT: request->wait = number; break;
     case QUIET: request->quiet = 1; break;
     case PARTIAL: request->partial = 1; break;
+    case SQUEEZE: request->squeeze = 1; break;
     case PLAIN: request->no_checksums = 1; break;
     }
 }
@@ -183,7 +184,6 @@ static int set_text(struct request *request, int option, char *text) {
             return failed("more than %d compression methods are not taken here", MOST_GIVEN);
         request->methods[request->method_count++] = text;
         break;
-    case SQUEEZE: request->squeeze = 1; break;
     }
     return DONE;
 }
