@@ -5,7 +5,7 @@ use mathlib.Core.List.{List, [], _∷_, _++_}
 use Rattle.answer.specs.declared.Refusal.the-variants.{Input, Room, NotOpen}
 use Rattle.replay.specs.declared.Replayed.the-variants.{Done, Stopped, Refused}
 use Rattle.replay.specs.Replay.{replayAnswer, replayOut}
-use Rattle.small_pages.specs.Pages.{none, frontOf, noSpace, at408, directory, others, othersTile, fullFile, fullPage}
+use Rattle.small_pages.specs.Pages.{none, plainFront, noSpace, at408, directory, others, othersTile, fullFile, fullPage}
 
 -- remove tile 0, store tile 1, store the tile with a number: 28 bytes behind the length
 abbrev pub logTo : ℕ → List ℕ
@@ -19,7 +19,7 @@ pub record LoggedSo : Type 0 where
   pub untouched : replayOut fullPage 456 (logTo 4) ≡ fullPage
   -- tile 1 takes the place of tile 0; tile 2 goes to the end, for which there is no room: 13 behind two entries, which stay
   pub stopped : replayAnswer fullPage 456 (logTo 2) ≡ Stopped Room 456 2
-  pub stopped-page : replayOut fullPage 456 (logTo 2) ≡ frontOf 5 9 noSpace at408 ++ othersTile 1 ++ directory 0 47 0 0
+  pub stopped-page : replayOut fullPage 456 (logTo 2) ≡ plainFront 5 9 noSpace at408 ++ othersTile 1 ++ directory 0 47 0 0
   -- and with room for it
   pub done : replayAnswer (fullPage ++ none 32) 456 (logTo 2) ≡ Done 488 3
-  pub done-page : replayOut (fullPage ++ none 32) 456 (logTo 2) ≡ frontOf 5 9 noSpace at408 ++ othersTile 1 ++ directory 0 47 58 0 ++ othersTile 2
+  pub done-page : replayOut (fullPage ++ none 32) 456 (logTo 2) ≡ plainFront 5 9 noSpace at408 ++ othersTile 1 ++ directory 0 47 58 0 ++ othersTile 2

@@ -9,7 +9,7 @@ use Rattle.correct.specs.Plan.{tightPlan}
 use Rattle.correct.specs.Squeezing.{squeezedPage}
 use Rattle.correct.specs.Calls.{Call}
 use Rattle.corrected.specs.Refusals.{answerIn}
-use Rattle.small_pages.specs.Pages.{none, eight, frontOf, frontWith, noSpace, at496, at520, free, tile, junkPadded, packedTile, directory, openPage}
+use Rattle.small_pages.specs.Pages.{none, eight, plainFront, frontWith, noSpace, at496, at520, free, tile, junkPadded, packedTile, directory, openPage}
 use Rattle.check_samples.specs.Rows.{metadata, metadataDirectory}
 
 -- directories with something in their reserved bytes and in their padding, which stays
@@ -27,14 +27,14 @@ metadataPage first a b m d =
 pub record SqueezedSo : Type 0 where
   -- the kept records stand at 392, 456 and 512; the page's free records, one with something left in it, and the one at its end go
   pub tight-is : tightPlan openPage ≡ 368 ∷ 400 ∷ 432 ∷ []
-  pub tight : squeezedPage openPage (368 ∷ 400 ∷ 432 ∷ []) ≡ frontOf 5 9 noSpace (eight 184 1) ++ junkPadded ++ packedTile ++ directory 47 51 0 0
+  pub tight : squeezedPage openPage (368 ∷ 400 ∷ 432 ∷ []) ≡ plainFront 5 9 noSpace (eight 184 1) ++ junkPadded ++ packedTile ++ directory 47 51 0 0
   pub gaps :
       squeezedPage openPage (384 ∷ 416 ∷ 464 ∷ [])
-      ≡ frontOf 5 9 noSpace (eight 216 1) ++ free 16 ++ junkPadded ++ packedTile ++ free 16 ++ directory 49 53 0 0
+      ≡ plainFront 5 9 noSpace (eight 216 1) ++ free 16 ++ junkPadded ++ packedTile ++ free 16 ++ directory 49 53 0 0
   -- where nothing moves the gaps are zeroed, and the free record at the end is dropped
   pub stays :
       squeezedPage openPage (392 ∷ 456 ∷ 512 ∷ [])
-      ≡ frontOf 5 9 noSpace at520 ++ free 24 ++ junkPadded ++ free 32 ++ packedTile ++ free 24 ++ directory 50 58 0 0
+      ≡ plainFront 5 9 noSpace at520 ++ free 24 ++ junkPadded ++ free 32 ++ packedTile ++ free 24 ++ directory 50 58 0 0
   pub answers : answerIn (Call.Squeezing (368 ∷ 400 ∷ 432 ∷ [])) openPage 632 ≡ Length 488
   pub too-few : answerIn (Call.Squeezing (368 ∷ 400 ∷ [])) openPage 632 ≡ Refused Input
   pub too-many : answerIn (Call.Squeezing (368 ∷ 400 ∷ 432 ∷ 488 ∷ [])) openPage 632 ≡ Refused Input

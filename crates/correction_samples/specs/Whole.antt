@@ -11,7 +11,7 @@ use Rattle.answer.specs.Values.{valueOf}
 use Rattle.cells.specs.Meaning.{meaning, contentMeaning}
 use Rattle.correct.specs.Calls.{Call, State, pageOf, afterAll}
 use Rattle.power.specs.PowerCut.{andClose, Corrects, Cut}
-use Rattle.small_pages.specs.Pages.{none, frontOf, at496, at408, free, directory, entry, others, othersTile, fullFile}
+use Rattle.small_pages.specs.Pages.{none, plainFront, at496, at408, free, directory, entry, others, othersTile, fullFile}
 
 -- the file in a buffer of 528 bytes
 abbrev pub start : State
@@ -23,7 +23,7 @@ calls = Call.Opening 9 ∷ Call.Storing 1 others ∷ Call.Opening 3 ∷ Call.Rem
 -- and a closing with 7: tile 1 at 456, the free list at 488
 abbrev pub correctedFile : List ℕ
 correctedFile =
-    frontOf 7 0 at496 at408 ++ free 32 ++ directory 0 58 0 0 ++ othersTile 1
+    plainFront 7 0 at496 at408 ++ free 32 ++ directory 0 58 0 0 ++ othersTile 1
     ++ (32 ∷ 0 ∷ 0 ∷ 0 ∷ 3 ∷ 0 ∷ 0 ∷ 0 ∷ 1 ∷ 0 ∷ 0 ∷ 0 ∷ []) ++ entry 112 1 32 ++ none 8
 
 pub record WholeSample : Type 0 where

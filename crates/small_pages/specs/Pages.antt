@@ -30,8 +30,8 @@ abbrev pub frontWith : List ℕ → ℕ → ℕ → List ℕ → List ℕ → Li
 frontWith metadata modified opened space tiles =
     block ++ eight modified 0 ++ eight opened 0 ++ space ++ metadata ++ none 8 ++ tiles ++ none 16 ++ fields
 
-abbrev pub frontOf : ℕ → ℕ → List ℕ → List ℕ → List ℕ
-frontOf = frontWith (none 8)
+abbrev pub plainFront : ℕ → ℕ → List ℕ → List ℕ → List ℕ
+plainFront = frontWith (none 8)
 
 abbrev pub noSpace : List ℕ
 noSpace = none 8
@@ -109,17 +109,17 @@ otherJunkPadded = tile 0 (1 ∷ 2 ∷ []) (97 ∷ 98 ∷ []) (3 ∷ 4 ∷ 5 ∷ 
 -- an open page of 632 bytes: free records at 368, 424, 488 and 568, tile 0 at 392, tile 1 at 456, its element `b` compressed, the
 -- directory at 512
 abbrev pub openPage : List ℕ
-openPage = frontOf 5 9 noSpace at520 ++ worn ++ junkPadded ++ free 32 ++ packedTile ++ free 24 ++ directory 50 58 0 0 ++ free 64
+openPage = plainFront 5 9 noSpace at520 ++ worn ++ junkPadded ++ free 32 ++ packedTile ++ free 24 ++ directory 50 58 0 0 ++ free 64
 
 -- a file of 512 bytes: tile 2 at 368, a directory of tiles 2 and 3 at 400, a file-space directory at 456, a free record at 488
 abbrev pub partialFile : List ℕ
 partialFile =
-    frontOf 5 0 at464 at408 ++ cellsTile 2 ++ partial
+    plainFront 5 0 at464 at408 ++ cellsTile 2 ++ partial
     ++ (32 ∷ 0 ∷ 0 ∷ 0 ∷ 3 ∷ 0 ∷ 0 ∷ 0 ∷ 1 ∷ 0 ∷ 0 ∷ 0 ∷ []) ++ entry 232 1 24 ++ none 8 ++ free 24
 
 -- a file of 456 bytes without a free record: tile 0 at 368, the directory at 400; and the same page opened with 9
 abbrev pub fullFile : List ℕ
-fullFile = frontOf 5 0 noSpace at408 ++ cellsTile 0 ++ directory 47 0 0 0
+fullFile = plainFront 5 0 noSpace at408 ++ cellsTile 0 ++ directory 47 0 0 0
 
 abbrev pub fullPage : List ℕ
-fullPage = frontOf 5 9 noSpace at408 ++ cellsTile 0 ++ directory 47 0 0 0
+fullPage = plainFront 5 9 noSpace at408 ++ cellsTile 0 ++ directory 47 0 0 0
