@@ -21,7 +21,7 @@ use Rattle.fronts.specs.Given.{textAt, methodLength, methodAt, described
 use Rattle.fronts.specs.Writing.{sidesBytes, fixedBytes, entriesBytes, AllReady, methodsBytes, MethodsReady, endBytes, EndReady}
 use Rattle.fronts.proofs.EntryLaws.{strung-more, strung-within, string-length}
 use Rattle.fronts.proofs.FieldLaws.{fixed-length, front-length}
-use Rattle.fronts.proofs.CountLaws.{Right, right-of, texts-inside, summed-there, summed-short}
+use Rattle.fronts.proofs.CountLaws.{Right, right-of, method-is, texts-inside, summed-there, summed-short}
 
 -- a name of a method
 
@@ -52,10 +52,6 @@ unfolding methodsBytes strung
 named-none d at g ts from =
     record { place = omega arith; given = omega (arith, sum-none (methodLength g)); kept = refl; is = sym (put-nil d at) }
 
-method-number : (g : List ℕ) (i k : ℕ) → k ≡ getD g (6 + i) 0 → k ≡ methodLength g i
-unfolding methodLength
-method-number g i k e = e
-
 module _
     (d : List ℕ) (at : ℕ) (g ts : List ℕ) (from : ℕ) (l : List ℕ) (p start i n k : ℕ) (w : Named d at g ts from l p start i) (r : MethodsReady g ts from n)
     (h : i < n) (f : at + length (methodsBytes g ts from n) ≤ length d) (e : k ≡ getD g (6 + i) 0)
@@ -63,13 +59,13 @@ module _
     pub named-fits : (p + (2 + k) ≤ length d) × (start + k ≤ length ts)
     named-fits =
         let a = methods-within g ts from n (i + 1) (omega arith) in
-        let b = method-number g i k e in
+        let b = method-is g i k e in
         (omega (arith, a, b, methods-more g ts from n i r h, w .place), omega (arith, b, w .given, method-fits g ts from n i r h))
 
     pub named-more : (m t : List ℕ) → t ≡ part ts start k → m ≡ put l p (stringOf t) → Named d at g ts from m (p + (2 + k)) (start + k) (i + 1)
     unfolding methodsBytes strung
     named-more m t q u =
-        let b = method-number g i k e in
+        let b = method-is g i k e in
         let v = named-fits in
         let x : List ℕ = part ts (from + sumBelow i (methodLength g)) (methodLength g i) in
         let y : t ≡ x = q ∙ rw (w .given, b) in

@@ -124,7 +124,7 @@ module _ (g : List ℕ) (n i : ℕ) (w : MethodsSummed g n) (h : i ≤ n) where
   methods-sum-most =
       omega (arith, w .few, sum-most i (methodLength g) (λ j k. let a = means _ (below-each n (methodShort g) (w .short) j (omega arith)) in omega (arith, a .0)))
 
-method-is : (g : List ℕ) (i t : ℕ) → t ≡ getD g (6 + i) 0 → t ≡ methodLength g i
+pub method-is : (g : List ℕ) (i t : ℕ) → t ≡ getD g (6 + i) 0 → t ≡ methodLength g i
 unfolding methodLength
 method-is g i t q = q
 
@@ -167,15 +167,15 @@ module _ (g u es ts : List ℕ) (whole : methodAt g es (length g - 6) + getD g 5
     unfolding statedBy textsLength
     name-long = part-length ts (textAt es e) (numberOf es e 2) (omega (arith, texts-inside e h))
 
-    label-long : length (statedBy es ts e .label) ≡ numberOf es e 3
+    pub label-long : length (statedBy es ts e .label) ≡ numberOf es e 3
     unfolding statedBy textsLength
     label-long = part-length ts (textAt es e + numberOf es e 2) (numberOf es e 3) (omega (arith, texts-inside e h))
 
-    description-long : length (statedBy es ts e .description) ≡ numberOf es e 4
+    pub description-long : length (statedBy es ts e .description) ≡ numberOf es e 4
     unfolding statedBy textsLength
     description-long = part-length ts (textAt es e + numberOf es e 2 + numberOf es e 3) (numberOf es e 4) (omega (arith, texts-inside e h))
 
-    unit-long : length (statedBy es ts e .unit) ≡ numberOf es e 5
+    pub unit-long : length (statedBy es ts e .unit) ≡ numberOf es e 5
     unfolding statedBy textsLength
     unit-long = part-length ts (textAt es e + numberOf es e 2 + numberOf es e 3 + numberOf es e 4) (numberOf es e 5) (omega (arith, texts-inside e h))
 
@@ -192,6 +192,10 @@ module _ (g u es ts : List ℕ) (whole : methodAt g es (length g - 6) + getD g 5
   entries-told =
       strung-sum (length es / 14) (λ e. entryOf (statedBy es ts e)) ∙ sum-same (length es / 14) _ (entryCounted es) (λ e h. entry-told e h)
 
+  pub method-long : (i : ℕ) → i < length g - 6 → length (describedBy g u es ts .method i) ≡ methodLength g i
+  unfolding describedBy
+  method-long i h = part-length ts (methodAt g es i) (methodLength g i) (method-inside i h)
+
   method-told : (i : ℕ) → i < length g - 6 → length (stringOf (part ts (methodAt g es i) (methodLength g i))) ≡ 2 + methodLength g i
   method-told i h = string-length _ ∙ omega (arith, part-length ts (methodAt g es i) (methodLength g i) (method-inside i h))
 
@@ -202,7 +206,7 @@ module _ (g u es ts : List ℕ) (whole : methodAt g es (length g - 6) + getD g 5
       ∙ sum-same (length g - 6) _ (λ i. 2 + methodLength g i) (λ i h. method-told i h)
       ∙ sum-twos (length g - 6) (methodLength g)
 
-  label-told : length (describedBy g u es ts .label) ≡ getD g 5 0
+  pub label-told : length (describedBy g u es ts .label) ≡ getD g 5 0
   unfolding describedBy
   label-told = part-length ts (methodAt g es (length g - 6)) (getD g 5 0) (omega (arith, whole))
 

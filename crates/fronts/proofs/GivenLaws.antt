@@ -22,7 +22,7 @@ use Rattle.written_records.specs.Pieces.{recordHead, unclosed, recordOf}
 use Rattle.fronts.specs.Front.{Stated, StatedFits, Fits, strung, stringOf, blockOf, entryOf, fixedOf, entriesOf, methodsOf, bodyOf, blockBytes, frontOf}
 use Rattle.fronts.specs.Given.{numberOf, textAt, statedBy, methodLength, methodAt, describedBy, textsShort, methodShort, describable, frontVerdict, frontMade, Words, FrontMade, RefusedAsChecked}
 use Rattle.fronts.proofs.FrontLaws.{front-is-judged, says-as-told}
-use Rattle.fronts.proofs.CountLaws.{name-long, right-of}
+use Rattle.fronts.proofs.CountLaws.{name-long, label-long, description-long, unit-long, method-long, label-told, right-of}
 
 part-short : (s : List ℕ) (at n : ℕ) → length (part s at n) ≤ n
 part-short s at n =
@@ -158,12 +158,21 @@ front-made g u es ts room n wg bu we bt e =
     let b = gate-passed _ _ _ (a .0) in
     let c = behind-passed _ _ (b .1) in
     let f = fits g u es ts wg we (b .0) in
+    let w = right-of g u es ts (b .0) .whole in
     record {
       long = a .1;
       accepted = front-is-judged (describedBy g u es ts) f ∙ c .0;
       says = says-as-told (describedBy g u es ts) f;
       bytes = front-bytes g u es ts wg we (b .0) bu bt;
-      whole = name-long g u es ts (right-of g u es ts (b .0) .whole);
+      whole = λ i h.
+          record {
+            name = name-long g u es ts w i h;
+            label = label-long g u es ts w i h;
+            description = description-long g u es ts w i h;
+            unit = unit-long g u es ts w i h;
+          };
+      method = method-long g u es ts w;
+      label = label-told g u es ts w;
     }
 
 pub refused-as-checked : RefusedAsChecked

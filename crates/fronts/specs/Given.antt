@@ -100,13 +100,22 @@ frontMade g u es ts room = unlessRefused Refused (frontVerdict g u es ts room) (
 pub record Words (l : List ℕ) : Type 0 where
   pub small : (i : ℕ) → getD l i 0 < 4294967296
 
+-- an element's strings are whole: each has the length that was given
+pub record WholeTexts (es ts : List ℕ) (e : ℕ) : Type 0 where
+  pub name : length (statedBy es ts e .name) ≡ numberOf es e 2
+  pub label : length (statedBy es ts e .label) ≡ numberOf es e 3
+  pub description : length (statedBy es ts e .description) ≡ numberOf es e 4
+  pub unit : length (statedBy es ts e .unit) ≡ numberOf es e 5
+
 -- of every front that is made: its length, that it is a front for a lay-down, and that it says what it was told, each string whole
 pub record Made (g u es ts : List ℕ) (n : ℕ) : Type 0 where
   pub long : length (frontOf (describedBy g u es ts)) ≡ n
   pub accepted : checkFront (frontOf (describedBy g u es ts)) ≡ verdict.Accepted
   pub says : FrontSays (frontOf (describedBy g u es ts)) (describedBy g u es ts)
   pub bytes : Bytes (frontOf (describedBy g u es ts))
-  pub whole : (e : ℕ) → e < length es / 14 → length (statedBy es ts e .name) ≡ numberOf es e 2
+  pub whole : (e : ℕ) → e < length es / 14 → WholeTexts es ts e
+  pub method : (i : ℕ) → i < length g - 6 → length (describedBy g u es ts .method i) ≡ methodLength g i
+  pub label : length (describedBy g u es ts .label) ≡ getD g 5 0
 
 abbrev pub FrontMade : Type 0
 FrontMade = (g u es ts : List ℕ) (room n : ℕ) → Words g → Bytes u → Words es → Bytes ts → frontMade g u es ts room ≡ Length n → Made g u es ts n
