@@ -1,2 +1,3 @@
 pub mod CarriedLaws
 pub mod NewPageLaws
+pub mod SampleLaws
