@@ -26,7 +26,7 @@ extern "C" {
 
 /* What a function answers: a refusal's number, or what it found. */
 enum {
-    GVRS_ACCEPTED = 0,     /* the file is accepted; the page is laid down, moved out or corrected; the page, the element or the rectangle is there */
+    GVRS_ACCEPTED = 0,     /* the file is accepted; the front is made; the page is laid down, moved out or corrected; the page, the element or the rectangle is there */
     GVRS_NOT_GVRS = 1,     /* fewer than 16 bytes, or the first twelve differ */
     GVRS_VERSION = 2,      /* not version 1.4 */
     GVRS_HEADER = 3,       /* header record at fault: also a name or a text, as gvrs_is_identifier and gvrs_is_utf8 say */
@@ -40,7 +40,7 @@ enum {
     GVRS_COMPRESSED = 11,  /* content asked for is compressed; of a cell: and not of the compressor index named, or of a Float */
     GVRS_INPUT = 12,       /* input wrong: of a front, a lay-down, a score sheet, a correction, a correction log, a plan or a deed, or more first bytes than the
                               stated length; of a comparison, two pages that differ in grid, tile sides or element types */
-    GVRS_ROOM = 13,        /* lay-down output, a score sheet's buffer, a page's for a correction, one for the cells of a rectangle, or one for a
+    GVRS_ROOM = 13,        /* lay-down output, a front's buffer, a score sheet's buffer, a page's for a correction, one for the cells of a rectangle, or one for a
                               plan, too short */
     GVRS_MALFORMED = 14,   /* compressed content malformed, or a Short in it out of range */
     GVRS_NOT_OPEN = 15,    /* no page that is open for writing */
