@@ -20,7 +20,8 @@ use Rattle.bodies.specs.MetadataRecord.{recordIdAt}
 use Rattle.bodies.specs.ListDirectories.{entryCount, metadataAt, metadataCount, metadataEntrySize, metadataEntryEnd, metadataEntryAt}
 use Rattle.check_directory.specs.References.{refersTo, refersOrZero, noOther}
 use Rattle.check_lists.specs.Listed.{listedOnce, nothingElse}
-use Rattle.check_lists.specs.Metadata.{sameKey, metadataEntryOf, metadataEntryIs, metadataListed, metadataOnly, keysDistinct, metadataFits, metadataDirectoryRight}
+use Rattle.metadata_keys.specs.Pairs.{sameKey, keysDistinct}
+use Rattle.check_lists.specs.Metadata.{metadataEntryOf, metadataEntryIs, metadataListed, metadataOnly, metadataFits, metadataDirectoryRight}
 use Rattle.check_lists.proofs.MetadataLaws.{end-grows, first-behind}
 use Rattle.alone.specs.Alone.{SameRecord, SameMetadata}
 use Rattle.alone.specs.MetadataKept.{SameMetadataRecords, MetadataKept}

@@ -8,7 +8,7 @@ use lib.Dec.{eqb}
 use borrow.Author.Tests.{eqb-true, eqb-false}
 use Rattle.wire.proofs.ListLaws.{every-member, member-every}
 use Rattle.record.specs.Chain.{recordsOf}
-use Rattle.check_lists.specs.Metadata.{sameKey, keysDistinct}
+use Rattle.metadata_keys.specs.Pairs.{sameKey, keysDistinct}
 use Rattle.check_lists.specs.Rearranged.{Rearranged, Described, metadataEntries, metadataRecord, metadataRecords, MetadataRearranged}
 use Rattle.check_lists.proofs.RearrangedLaws.{metadata-rearranged, rearranged-metadata}
 use Rattle.alone.specs.Alone.{SameMetadata}

@@ -7,7 +7,8 @@ use Rattle.record.specs.Record.{contentAt}
 use Rattle.record.specs.Types.{metadataType}
 use Rattle.record.specs.Chain.{recordsOf}
 use Rattle.check_records.specs.MetadataBody.{metadataRight}
-use Rattle.check_lists.specs.Metadata.{metadataListed, metadataOnly, keysDistinct}
+use Rattle.metadata_keys.specs.Pairs.{keysDistinct}
+use Rattle.check_lists.specs.Metadata.{metadataListed, metadataOnly}
 use Rattle.check_lists.specs.Rearranged.{Described, metadataEntries}
 use Rattle.alone.specs.Alone.{SameRecord}
 

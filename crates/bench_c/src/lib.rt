@@ -2,7 +2,7 @@
 ghost use mathlib.Core.Path.{_≡_};
 ghost use Rattle.answer.specs.Answers.{cellBits};
 ghost use Rattle.bodies.specs.TileDirectory.{tileDirectoryAt};
-ghost use Rattle.cells.specs.Routes.{referredTo};
+ghost use Rattle.tile_routes.specs.Ways.{referredTo};
 ghost use Rattle.cells.specs.inner.Lookups.{lookedUp};
 ghost use Rattle.crc32c.specs.Crc.{crcOf};
 

@@ -11,7 +11,7 @@ use Rattle.record.specs.Record.{lengthAt}
 use Rattle.record.specs.Chain.{headerEnd, records}
 use Rattle.header.specs.Fields.{checksumEnabled}
 use Rattle.bodies.specs.TileDirectory.{tileDirectoryAt, referenceSize}
-use Rattle.cells.specs.Routes.{carries}
+use Rattle.tile_routes.specs.Ways.{carries}
 use Rattle.written_records.specs.Pieces.{recordOf}
 use Rattle.stores.specs.Stores.{Write}
 use Rattle.stores.specs.Writes.{wholeWrite}

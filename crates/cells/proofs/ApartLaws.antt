@@ -37,9 +37,10 @@ use Rattle.cells.specs.Asked.{inGrid}
 use Rattle.cells.specs.Demand3.{bytesOfCell}
 use Rattle.cells.specs.TileCells.{packed, unpackable, unpackedIn, packedCell, cellFrom, cellIn, offsetIn, placeIn, fillOf}
 use Rattle.cells.specs.Meaning.{meaning}
-use Rattle.cells.specs.Routes.{cellBy, meant}
+use Rattle.tile_routes.specs.Ways.{meant}
+use Rattle.cells.specs.Routes.{cellBy}
 use Rattle.cells.proofs.CellLaws.{grid-means}
-use Rattle.cells.proofs.RouteLaws.{meant-is}
+use Rattle.tile_routes.proofs.WayLaws.{meant-is}
 
 -- the sections of a tile record
 

@@ -43,7 +43,8 @@ use Rattle.page_check.proofs.AcceptedLaws.{accepted-sound}
 use Rattle.page_check.proofs.GivenLaws.{sound-tile}
 use Rattle.header.specs.Element.{cellSize, element, entryAt, fillBits}
 use Rattle.cells.specs.Asked.{inGrid, inTiles}
-use Rattle.cells.specs.Routes.{meant, tileBy, cellBy}
+use Rattle.tile_routes.specs.Ways.{meant}
+use Rattle.cells.specs.Routes.{tileBy, cellBy}
 use Rattle.cells.specs.Demand3.{bytesOfCell, InRecord, Demand3, ContentInside}
 use Rattle.cells.specs.Meaning.{meaning, contentMeaning, heldMeaning}
 use Rattle.cells.specs.TileCells.{locationOf, contentIn, packed, fillOf, unpackable, unpackedIn, unpackedAt, cellFrom, cellIn, storedAt, offsetIn, placeIn, heldIn, heldBits, heldCount}
@@ -52,7 +53,7 @@ use Rattle.cells.specs.Demand2.{Demand2Bits, RightBits, ShortBits}
 use Rattle.cells.specs.Compressor.{OldReads, ContentStays, OnlyPacked, UnpackedWhere, EachCell, HeldEach, HeldCounted}
 use Rattle.cells.proofs.CellLaws.{grid-means, tiles-mean, tiles-in, sides-mean, above-bytes}
 use Rattle.cells.proofs.HeldLaws.{stored-cell, stored-long, in-at}
-use Rattle.cells.proofs.RouteLaws.{meant-is}
+use Rattle.tile_routes.proofs.WayLaws.{meant-is}
 use Rattle.cells.proofs.ApartLaws.{content-extent, stored-as, cell-extent, cells-apart, offset-within, whole-least}
 use Rattle.cells.proofs.ReadLaws.{sound-lawful, sound-cells, passed-bodies}
 

@@ -39,7 +39,8 @@ use Rattle.page_check.specs.Accepted.{Sound}
 use Rattle.page_check.proofs.AcceptedLaws.{accepted-sound}
 use Rattle.cells.specs.Asked.{inGrid}
 use Rattle.cells.specs.TileCells.{locationOf, fillOf, packed, unpackable, unpackedIn, unpackedAt, offsetIn, storedAt, cellFrom, cellIn, cellOf, heldRoom, roomOf, unpackedBits}
-use Rattle.cells.specs.Routes.{meant, cellBy, tileBy, referredTo}
+use Rattle.tile_routes.specs.Ways.{meant, referredTo}
+use Rattle.cells.specs.Routes.{cellBy, tileBy}
 use Rattle.cells.specs.Meaning.{meaning}
 use Rattle.cells.specs.inner.Lookups.{guarded, lookedUp}
 use Rattle.cells.specs.Many.{heldByDirectory, storedFrom, numberedCell, toldBy, heldCell, Holds, HoldsAccepted}

@@ -5,9 +5,8 @@ use mathlib.Core.List.{List}
 use mathlib.Core.Bool.{Bool, true, false}
 use native.Mathlib.Omega.{arith}
 use lib.ListN.{length}
-use borrow.Author.Tests.{ne-eqb}
-use Rattle.wire.specs.Bytes.{u32At, part, partAt}
-use Rattle.wire.proofs.TestLaws.{means, yes, no}
+use Rattle.wire.specs.Bytes.{part, partAt}
+use Rattle.wire.proofs.TestLaws.{means, yes}
 use Rattle.answer.specs.declared.Refusal.{Refusal}
 use Rattle.answer.specs.declared.Refusal.the-variants.{Directory, OutsideGrid}
 use Rattle.answer.specs.declared.Verdict.{Verdict}
@@ -20,85 +19,32 @@ use Rattle.answer.specs.declared.Held.{Held}
 use Rattle.answer.specs.declared.Held.the-variants as held
 use Rattle.answer.specs.Answers.{contentPlace, contentLength}
 use Rattle.answer.proofs.VerdictLaws.{behind-passed, refusal-handed, answer-behind, same-behind}
-use Rattle.record.specs.declared.Cursor.{Cursor}
-use Rattle.record.specs.declared.Step.{Step}
-use Rattle.record.specs.declared.Step.the-variants.{Record}
 use Rattle.record.specs.declared.Found.{Found}
 use Rattle.record.specs.declared.Found.the-variants.{At, Nothing}
-use Rattle.record.specs.Record.{stepAt}
 use Rattle.record.specs.Chain.{headerEnd, records}
-use Rattle.record.proofs.SeekLaws.{Seeking, seek-next, seek-found, seek-type}
 use Rattle.geometry.specs.Tiles.{cellTile, tileCount}
 use Rattle.geometry.proofs.GridLaws.{tile-less}
 use Rattle.check_header.specs.HeaderRecord.{headerRight}
 use Rattle.check_header.specs.Ceilings.{withinCeilings}
 use Rattle.check_header.specs.Passed.{Headed}
-use Rattle.bodies.specs.TileDirectory.{referenceFrom, tileDirectoryAt}
-use Rattle.bodies.specs.TileRecord.{tileIndex}
+use Rattle.bodies.specs.TileDirectory.{tileDirectoryAt}
 use Rattle.page_check.specs.Stages.{checkToBodies, check}
 use Rattle.page_check.specs.Accepted.{Sound}
 use Rattle.page_check.proofs.AcceptedLaws.{accepted-sound, headed-if}
 use Rattle.page_check.proofs.StageLaws.{bodies-then}
 use Rattle.page_check.proofs.GivenLaws.{sound-one}
-use Rattle.cells.specs.declared.Route.{Route}
-use Rattle.cells.specs.declared.Route.the-variants as route
+use Rattle.tile_routes.specs.declared.Route.the-variants as route
 use Rattle.cells.specs.Asked.{inGrid, inTiles}
-use Rattle.cells.specs.Routes.{carries, meant, referredTo, walkedTo, cellBy, tileBy, contentBy, foundBy}
+use Rattle.tile_routes.specs.Ways.{meant, referredTo, walkedTo, foundBy}
+use Rattle.cells.specs.Routes.{cellBy, tileBy, contentBy}
 use Rattle.cells.specs.Meaning.{meaning, contentMeaning, heldMeaning}
 use Rattle.cells.specs.Reads.{readByDirectory, readByWalk, readByRecords, readMeaning, recordsMeaning, readContent, readHeld}
 use Rattle.cells.specs.Demand3.{SoundCells}
 use Rattle.cells.specs.inner.Lookups.{sidesLawful, inReach, reachedBy, cellReached, guarded, lookedUp, lookedTile, lookedUpContent, lookedUpHeld}
 use Rattle.cells.specs.TileCells.{contentOf, heldOf}
 use Rattle.cells.proofs.CellLaws.{sides-mean, grid-means, tiles-mean}
-use Rattle.cells.proofs.RouteLaws.{walk-finds, directory-finds, meant-is, cell-same, tile-same}
-
--- the record that the directory gives
-
-module _ (s : List ℕ) (at i r : ℕ) (p : r ≡ referenceFrom s at i) where
-  pub referred-none : r ≡ 0 → Nothing ≡ referredTo s at i
-  unfolding referredTo
-  referred-none z = rw (← p, z)
-
-  pub referred-at : (d : ℕ) → (r ≡ 0 → ⊥) → d ≡ r - 8 → At d ≡ referredTo s at i
-  unfolding referredTo
-  referred-at d z q = rw (← p, ne-eqb r 0 z, ← q)
-
--- the walk
-
-module _ (s : List ℕ) (from at i k st n : ℕ) (nx : Cursor) (x : Step) (g : Seeking (carries s i) s from at) (u : x ≡ Record k st n nx) (v : x ≡ stepAt s at) where
-  pub walk-other-type : (k ≡ 2 → ⊥) → Seeking (carries s i) s from (nx .at)
-  unfolding carries
-  walk-other-type h = seek-next g u v other refl
-    where
-      other : false ≡ carries s i st
-      other = no _ (λ y. h (seek-type s at k st n nx x u v ∙ y .0))
-
-  module _ (j : ℕ) (q : j ≡ u32At s (st + 8)) where
-    pub walk-other-index : (j ≡ i → ⊥) → Seeking (carries s i) s from (nx .at)
-    unfolding carries tileIndex
-    walk-other-index h = seek-next g u v other refl
-      where
-        other : false ≡ carries s i st
-        other = no _ (λ y. h (q ∙ y .1 .0))
-
-    pub walk-stops : k ≡ 2 → j ≡ i → At st ≡ walkedTo s from i
-    unfolding walkedTo carries tileIndex
-    walk-stops h m = seek-found g u v this refl
-      where
-        this : true ≡ carries s i st
-        this = yes _ (sym (seek-type s at k st n nx x u v) ∙ h, (sym q ∙ m, tt))
-
-pub ruleset walking = (walk-other-type, walk-other-index, walk-stops)
-
--- by the route's name
-
-pub found-referred : (s : List ℕ) (w : Route) (at i : ℕ) (f : Found) → w ≡ route.Directory at → f ≡ referredTo s at i → f ≡ foundBy s w i
-unfolding foundBy
-found-referred s w at i f p q = rw p q
-
-pub found-walked : (s : List ℕ) (w : Route) (at i : ℕ) (f : Found) → w ≡ route.Walk at → f ≡ walkedTo s at i → f ≡ foundBy s w i
-unfolding foundBy
-found-walked s w at i f p q = rw p q
+use Rattle.tile_routes.proofs.WayLaws.{walk-finds, directory-finds, meant-is}
+use Rattle.cells.proofs.RouteLaws.{cell-same, tile-same}
 
 -- what a look-up answers, by its tests
 

@@ -21,7 +21,8 @@ use Rattle.bodies.specs.TileRecord.{tileIndex}
 use Rattle.bodies.specs.TileDirectory.{tileDirectoryAt}
 use Rattle.page_check.specs.Stages.{check}
 use Rattle.page_check.specs.Accepted.{Sound}
-use Rattle.cells.specs.Routes.{referredTo, walkedTo, cellBy}
+use Rattle.tile_routes.specs.Ways.{referredTo, walkedTo}
+use Rattle.cells.specs.Routes.{cellBy}
 use Rattle.cells.specs.Meaning.{meaning, contentMeaning}
 use Rattle.cells.specs.Reads.{readByDirectory, readByWalk, readByRecords}
 

@@ -26,7 +26,7 @@ use Rattle.bodies.specs.TileDirectory.{tileDirectoryAt}
 use Rattle.page_check.specs.Stages.{check}
 use Rattle.cells.specs.Asked.{inGrid}
 use Rattle.cells.specs.TileCells.{storedFor, unpackedBits}
-use Rattle.cells.specs.Routes.{referredTo}
+use Rattle.tile_routes.specs.Ways.{referredTo}
 use Rattle.cells.specs.Meaning.{meaning}
 use Rattle.cells.specs.inner.Lookups.{guarded, lookedUp, lookedUpRoom}
 

@@ -5,7 +5,8 @@ use mathlib.Core.List.{List}
 use Rattle.answer.specs.declared.Cell.{Cell}
 use Rattle.answer.specs.declared.Content.{Content}
 use Rattle.answer.specs.declared.Held.{Held}
-use Rattle.cells.specs.Routes.{meant, cellBy, contentBy, heldBy}
+use Rattle.tile_routes.specs.Ways.{meant}
+use Rattle.cells.specs.Routes.{cellBy, contentBy, heldBy}
 
 unfoldable pub meaning : List ℕ → ℕ → ℕ → ℕ → ℕ → Cell
 meaning s ci row column e = cellBy s ci (meant s) row column e

@@ -12,7 +12,8 @@ use Rattle.answer.specs.Refusals.{unlessRefused}
 use Rattle.record.specs.Chain.{headerEnd}
 use Rattle.bodies.specs.TileDirectory.{tileDirectoryAt}
 use Rattle.page_check.specs.Stages.{check, checkToBodies}
-use Rattle.cells.specs.Routes.{referredTo, walkedTo, cellBy}
+use Rattle.tile_routes.specs.Ways.{referredTo, walkedTo}
+use Rattle.cells.specs.Routes.{cellBy}
 use Rattle.cells.specs.Meaning.{meaning, contentMeaning, heldMeaning}
 
 -- the read through the directory, by the walk, and by the walk without stage 9

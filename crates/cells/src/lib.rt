@@ -4,12 +4,4 @@ mod held;
 pub mod lookups;
 pub mod many;
 pub mod reads;
-pub mod routes;
 pub mod tile_cells;
-
-// A way to the record of a tile: through the tile directory, whose record starts at a position, or by the walk over the records from
-// a position on.
-pub enum Route {
-    Directory(usize),
-    Walk(usize),
-}

@@ -1,9 +1,7 @@
 // For callers that have made the check: the same as a read, without it. They answer 10 first, then 9 where unchecked bytes lead
 // nowhere; on an accepted file, from the positions that its bytes give, it is the cell's meaning.
-use crate::Route;
 use crate::asked;
 use crate::held;
-use crate::routes;
 use crate::tile_cells;
 use answer::Cell;
 use answer::Content;
@@ -12,11 +10,13 @@ use answer::Refusal;
 use check_header::ceilings;
 use check_header::header_record;
 use geometry::tiles;
+use tile_routes::Route;
+use tile_routes::routes;
 ghost use mathlib.Core.Path.{_≡_};
 ghost use Rattle.cells.specs.inner.Lookups.{sidesLawful, lookedUp, lookedUpContent, lookedUpHeld, lookedUpRoom};
 ghost use Rattle.wire.specs.Bytes.{put};
 ghost use Rattle.cells.specs.TileCells.{heldBits, unpackedBits};
-ghost use Rattle.cells.specs.Routes.{foundBy};
+ghost use Rattle.tile_routes.specs.Ways.{foundBy};
 
 // The most cells that a tile with lawful sides has.
 const MOST_CELLS: usize = 16777216;

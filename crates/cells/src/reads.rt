@@ -1,5 +1,4 @@
 // Reads: the check's refusal, then 10, then fill, stored, unpacked, 11 or 14.
-use crate::Route;
 use crate::lookups;
 use answer::Cell;
 use answer::Content;
@@ -7,6 +6,7 @@ use answer::Held;
 use answer::Verdict;
 use bodies::tile_directory;
 use record::chain;
+use tile_routes::Route;
 ghost use mathlib.Core.Path.{_≡_};
 ghost use Prim.Native.Nat.{_+_};
 ghost use Rattle.wire.specs.Bytes.{part, partAt, put};
@@ -15,7 +15,7 @@ ghost use Rattle.answer.specs.Answers.{contentPlace, contentLength};
 ghost use Rattle.answer.specs.declared.Verdict.the-variants.{Accepted};
 ghost use Rattle.page_check.specs.Stages.{check};
 ghost use Rattle.bodies.specs.TileDirectory.{tileDirectoryAt};
-ghost use Rattle.cells.specs.Routes.{referredTo};
+ghost use Rattle.tile_routes.specs.Ways.{referredTo};
 ghost use Rattle.cells.specs.Meaning.{meaning};
 ghost use Rattle.cells.specs.inner.Lookups.{lookedUp};
 ghost use Rattle.cells.specs.Reads.{readByDirectory, readByWalk, readByRecords, readMeaning, recordsMeaning, readContent, readHeld};

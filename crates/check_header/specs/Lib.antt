@@ -12,5 +12,3 @@ pub mod Stages
 pub mod Passed
 pub mod Judged
 pub mod Depends
-pub mod Start
-pub mod StartSamples

@@ -3,4 +3,3 @@ pub mod ceilings;
 pub mod header_record;
 pub mod identification;
 pub mod stages;
-pub mod start;

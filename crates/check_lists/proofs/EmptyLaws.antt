@@ -11,7 +11,8 @@ use Rattle.wire.specs.Lists.{every}
 use Rattle.check_directory.specs.References.{refersOrZero, noOther}
 use Rattle.bodies.specs.ListDirectories.{entryCount, metadataCount, freeCount}
 use Rattle.check_lists.specs.Listed.{listedOnce, nothingElse}
-use Rattle.check_lists.specs.Metadata.{metadataEntryIs, metadataListed, metadataOnly, keysDistinct, metadataFits, metadataDirectoryRight}
+use Rattle.metadata_keys.specs.Pairs.{keysDistinct}
+use Rattle.check_lists.specs.Metadata.{metadataEntryIs, metadataListed, metadataOnly, metadataFits, metadataDirectoryRight}
 use Rattle.check_lists.specs.FileSpace.{freeEntryIs, freeListed, freeOnly, freeFits, fileSpaceRight}
 
 -- of either list: the directory's type is d, that of the records listed is k

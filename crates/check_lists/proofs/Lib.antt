@@ -3,9 +3,6 @@ pub mod MetadataLaws
 pub mod ListLaws
 pub mod WindowLaws
 pub mod FindLaws
-pub mod OrderLaws
-pub mod SortLaws
-pub mod KeyLaws
 pub mod StageLaws
 pub mod RearrangedLaws
 pub mod EmptyLaws

@@ -6,30 +6,18 @@ use mathlib.Core.Bool.{Bool, true, false, not}
 use native.Mathlib.Omega.{arith}
 use lib.ListN.{length}
 use borrow.Author.Tests.{ne-eqb}
-use Rattle.wire.specs.Bytes.{u64At, sameBytes}
+use Rattle.wire.specs.Bytes.{u64At}
 use Rattle.wire.specs.Items.{advance}
 use Rattle.wire.proofs.TestLaws.{yes, no, not-both, either-way}
 use Rattle.wire.proofs.ItemLaws.{advance-grows}
 use Rattle.header.specs.Fields.{metadataReference}
 use Rattle.record.specs.Record.{recordLimit, padded}
-use Rattle.bodies.specs.MetadataRecord.{metadataName, recordId, dataType}
+use Rattle.bodies.specs.MetadataRecord.{dataType}
 use Rattle.record.proofs.FitLaws.{fit-over}
 use Rattle.check_directory.proofs.RuleLaws.{not-told, is-told}
-use Rattle.check_lists.specs.Metadata.{metadataEntryOf, metadataFits, sameKey}
+use Rattle.metadata_keys.specs.Pairs.{sameKey}
+use Rattle.check_lists.specs.Metadata.{metadataEntryOf, metadataFits}
 use Rattle.bodies.specs.ListDirectories.{metadataAt, metadataCount, metadataEntrySize, metadataEntryEnd, metadataEntryAt}
-
--- name and ID
-
-module _ (s : List ℕ) (x y i j : ℕ) (p : i ≡ recordId s x) (q : j ≡ recordId s y) where
-  pub other-id : (i ≡ j → ⊥) → false ≡ sameKey s x y
-  unfolding sameKey
-  other-id h = no _ (λ z. h (p ∙ z .1 .0 ∙ sym q))
-
-  pub key-is : (a b : List ℕ) (r : Bool) → i ≡ j → a ≡ metadataName s x → b ≡ metadataName s y → r ≡ sameBytes a b → r ≡ sameKey s x y
-  unfolding sameKey
-  key-is a b r h u v e =
-      let f : r ≡ sameBytes (metadataName s x) (metadataName s y) = e ∙ rw (u, v) in
-      either-way _ r (λ z. (sym f ∙ z, (sym p ∙ h ∙ q, tt))) (λ z w. not-both (w .0) (sym f ∙ z))
 
 -- an entry
 

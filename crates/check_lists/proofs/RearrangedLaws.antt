@@ -17,7 +17,8 @@ use Rattle.check_lists.specs.declared.ListKind.the-variants.{FreeSpace, 
 use Rattle.check_lists.specs.Listed.{listedOnce, nothingElse}
 use Rattle.check_lists.specs.FileSpace.{freeEntryOf, freeEntryIs, freeListed, freeOnly}
 use Rattle.bodies.specs.ListDirectories.{freeCount, metadataCount}
-use Rattle.check_lists.specs.Metadata.{metadataEntryOf, metadataEntryIs, metadataListed, metadataOnly, sameKey}
+use Rattle.metadata_keys.specs.Pairs.{sameKey}
+use Rattle.check_lists.specs.Metadata.{metadataEntryOf, metadataEntryIs, metadataListed, metadataOnly}
 use Rattle.check_lists.specs.inner.Search.{listEntryIs}
 use Rattle.check_lists.specs.Rearranged.{Rearranged, freeEntry, freeEntries, freeRecord, freeRecords, FreeRearranged, Described, metadataEntry, metadataEntries, metadataRecord, metadataRecords, MetadataRearranged}
 use Rattle.check_lists.proofs.ListLaws.{entry-alone}

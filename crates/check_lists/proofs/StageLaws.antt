@@ -10,7 +10,8 @@ use Rattle.check_directory.specs.TileRules.{tileDirectoryRight}
 use Rattle.check_directory.proofs.RuleLaws.{not-told, is-told}
 use Rattle.check_lists.specs.declared.ListKind.the-variants.{FreeSpace, Metadata}
 use Rattle.check_lists.specs.FileSpace.{freeListed, freeOnly, freeFits, fileSpaceRight}
-use Rattle.check_lists.specs.Metadata.{metadataListed, metadataOnly, metadataFits, keysDistinct, metadataDirectoryRight}
+use Rattle.metadata_keys.specs.Pairs.{keysDistinct}
+use Rattle.check_lists.specs.Metadata.{metadataListed, metadataOnly, metadataFits, metadataDirectoryRight}
 use Rattle.check_lists.specs.inner.Search.{listedKind, listCount, listFits, listEntryIs, listRight}
 use Rattle.check_lists.specs.Stage.{directoriesRight}
 

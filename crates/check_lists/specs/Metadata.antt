@@ -1,24 +1,18 @@
 -- Document 01, stage 9: the metadata directory (G 4.2.7, Table 19), its entry (4.2.7.1, Table 20), the unique pair (4.2.4).
 use Prim.Native.Nat.{ℕ}
 use mathlib.Core.List.{List, [], _∷_}
-use mathlib.Core.Bool.{Bool, _||_, not}
+use mathlib.Core.Bool.{Bool, _||_}
 use lib.Dec.{eqb}
 use Rattle.wire.specs.Tests.{_≤?_, _≡?_, is, passes}
-use Rattle.wire.specs.Bytes.{u64At, sameBytes, largestInteger}
+use Rattle.wire.specs.Bytes.{u64At, largestInteger}
 use Rattle.header.specs.Fields.{metadataReference}
 use Rattle.record.specs.Record.{contentAt, padded}
-use Rattle.bodies.specs.MetadataRecord.{metadataName, recordId, dataType}
-use Rattle.record.specs.Chain.{recordsOf}
+use Rattle.bodies.specs.MetadataRecord.{dataType}
 use Rattle.record.specs.Types.{metadataType, metadataDirectoryType}
-use Rattle.wire.specs.Lists.{every}
 use Rattle.check_directory.specs.References.{refersOrZero, noOther}
 use Rattle.bodies.specs.ListDirectories.{metadataEntryAt, metadataCount, metadataAt}
 use Rattle.check_lists.specs.Listed.{listedOnce, nothingElse}
-
--- two have the same pair of name and ID. Table 20's entry has a position of eight bytes, then the name, the ID and the type code
--- as Table 14's record has them behind its eight bytes of record header; so one reading serves both
-unfoldable pub sameKey : List ℕ → ℕ → ℕ → Bool
-sameKey s x y = passes (is (sameBytes (metadataName s x) (metadataName s y)) ∷ (recordId s x ≡? recordId s y) ∷ [])
+use Rattle.metadata_keys.specs.Pairs.{keysDistinct, sameKey}
 
 -- the entry at p is that of the record at x: its content, name, record ID and type code
 unfoldable pub metadataEntryOf : List ℕ → ℕ → ℕ → Bool
@@ -34,10 +28,6 @@ metadataListed s = listedOnce s metadataType (metadataCount s) (metadataEntryIs 
 -- and nothing else is
 unfoldable pub metadataOnly : List ℕ → Bool
 metadataOnly s = nothingElse s metadataType (metadataCount s) (metadataEntryIs s)
-
--- no two records have the same pair: of each, it alone has its own
-unfoldable pub keysDistinct : List ℕ → Bool
-keysDistinct s = every (λ x. every (λ y. eqb x y || not (sameKey s x y)) (recordsOf s metadataType)) (recordsOf s metadataType)
 
 -- the count, which is not negative, fits; the directory may be empty
 unfoldable pub metadataFits : List ℕ → Bool

@@ -1,6 +1,5 @@
 // Stage 9 of the check: the file-space and metadata directories, which list records, and the stage whole.
 pub mod file_space;
-pub mod keys;
 pub mod lists;
 pub mod metadata;
 pub mod stage;

@@ -2,25 +2,13 @@
 use bodies::list_directories;
 use bodies::metadata_record;
 use header::fields;
+use metadata_keys::keys;
 use record::frame;
 ghost use mathlib.Core.Path.{_≡_};
 ghost use Prim.Native.Nat.{_<_};
 ghost use lib.ListN.{length};
-ghost use Rattle.check_lists.specs.Metadata.{metadataEntryOf, metadataFits, sameKey};
+ghost use Rattle.check_lists.specs.Metadata.{metadataEntryOf, metadataFits};
 ghost use Rattle.bodies.specs.ListDirectories.{metadataAt, metadataCount, metadataEntryAt};
-
-// Whether the records, or entries, at two positions have the same pair of name and ID.
-pub fn same_key(s: &[u8], x: usize, y: usize) -> bool
-    ensures { λ r. ⌜ r ≡ sameKey (now (s .entry)) x y ⌝ }
-{
-    if metadata_record::record_id(s, x) != metadata_record::record_id(s, y) {
-        return false;
-    }
-    wire::same_bytes(
-        metadata_record::metadata_name(s, x),
-        metadata_record::metadata_name(s, y),
-    )
-}
 
 // Whether the entry at a position is that of the metadata record at another.
 pub fn metadata_entry_of(s: &[u8], x: usize, p: usize) -> bool
@@ -33,7 +21,7 @@ pub fn metadata_entry_of(s: &[u8], x: usize, p: usize) -> bool
     if content - 8 != (x as u64) {
         return false;
     }
-    if !same_key(s, p, x) {
+    if !keys::same_key(s, p, x) {
         return false;
     }
     if metadata_record::data_type(s, p) != metadata_record::data_type(s, x) {

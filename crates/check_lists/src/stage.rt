@@ -1,10 +1,10 @@
 // Stage 9: the file-space and metadata directories, whole, and the stage.
 use crate::ListKind;
-use crate::keys;
 use crate::lists;
 use check_directory::references;
 use check_directory::tile_rules;
 use header::fields;
+use metadata_keys::keys;
 ghost use mathlib.Core.Path.{_≡_};
 ghost use Rattle.check_lists.specs.FileSpace.{fileSpaceRight};
 ghost use Rattle.check_lists.specs.Metadata.{metadataDirectoryRight};

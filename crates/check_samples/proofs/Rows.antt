@@ -13,7 +13,8 @@ use Rattle.check_header.specs.Identification.{identified, mark, versionRight}
 use Rattle.check_header.specs.Stages.{checkHeader, closed, firstTwo, nextTwo, stages}
 use Rattle.check_lists.specs.FileSpace.{fileSpaceRight, freeEntryIs, freeEntryOf, freeFits, freeListed, freeNotEmpty, freeOnly}
 use Rattle.check_lists.specs.Listed.{listedOnce, nothingElse}
-use Rattle.check_lists.specs.Metadata.{keysDistinct, metadataDirectoryRight, metadataEntryIs, metadataEntryOf, metadataFits, metadataListed, metadataOnly, sameKey}
+use Rattle.metadata_keys.specs.Pairs.{keysDistinct, sameKey}
+use Rattle.check_lists.specs.Metadata.{metadataDirectoryRight, metadataEntryIs, metadataEntryOf, metadataFits, metadataListed, metadataOnly}
 use Rattle.check_lists.specs.Stage.{directoriesRight}
 use Rattle.check_records.specs.Checksum.{checksumAt, checksumOf, checksumRight, summedBytes}
 use Rattle.check_records.specs.Faults.{bodyFault, bodyRight, chainFault, checksumFault, firstWrong, rightOf}
@@ -27,7 +28,7 @@ use Rattle.header.specs.Element.{blockAt, blockSize, cellSize, descriptionAt, e
 use Rattle.header.specs.Names.{fiveRules, identifier, lastByte, letter, nameByte, nameBytes, within}
 use Rattle.header.specs.Tail.{fieldsEnd, methodCount, methodsAt, productLabelAt}
 use Rattle.header.specs.Texts.{entryTexts, stringText, textRight}
-use Rattle.page_check.specs.Stages.{check, checkDirectories, checkFromRecords, checkRecords, unless}
+use Rattle.page_check.specs.Stages.{check, checkDirectories, checkFromRecords, checkRecords, unless, checkToBodies}
 use Rattle.record.specs.Chain.{endOf, find, findNot, headerEnd, records, recordsEnd, recordsOf, starts, startsGo}
 use Rattle.record.specs.Record.{padded, recordLimit, recordOk}
 use Rattle.utf8.specs.Utf8.{following, goesOn, never, octet, rows, tail, utf8}
@@ -38,5 +39,5 @@ use Rattle.wire.specs.Tests.{allBelow, passes, sumBelow}
 use Rattle.check_samples.specs.Rows.{RowsHold}
 
 pub rows-hold : RowsHold
-unfolding advance allBelow blockAt blockSize bodyFault bodyRight byteAt bytesOf cellSize chainFault check checkDirectories checkFromRecords checkHeader checkRecords checksumAt checksumFault checksumOf checksumRight closed contentLengthAt countBelow crcBit crcByte crcOf crcOver crcPart dataType descriptionAt directoriesRight element elementBytes elementName elementPacking elementRight elementsRight endOf endRight entriesRead entryAt entryCount entryEnd entryStart entryTexts every fieldsEnd fileSpaceAt fileSpaceRight fillBits fillOffset find findNot firstTwo firstWrong fiveRules following formRight frameRight freeCount freeEntryAt freeEntryIs freeEntryOf freeFits freeListed freeNotEmpty freeOnly gate givesTile goesOn headerEnd headerRight identified identifier inRectangle inSpan indexRight keysDistinct labelAt lastByte leastLength lengthRight letter listedOnce mark metadataAt metadataCount metadataDescriptionAt metadataDirectoryRight metadataEnd metadataEntryAt metadataEntryEnd metadataEntryIs metadataEntryOf metadataEntrySize metadataFits metadataLength metadataListed metadataName metadataOnly metadataRight methodCount methodsAt nameByte nameBytes namesDiffer never nextTwo noOther nothingElse number numberAt numberOf octet oneIf optionsRight packingOf padded part passes positive productLabelAt put recordId recordIdAt recordLimit recordOk records recordsEnd recordsOf rectangleRight referenceAt referenceFrom referenceOf referenceSize referencesEnd refersOrZero refersTo rightOf rows sameBytes sameKey sectionAt sectionEnd sectionLength sectionPacking sectionRight select sidesRight sidesWithin some spanRight stages starts startsGo storedSize stringEnd stringSize stringText sumBelow summedBytes tail tailRight textRight tileBytes tileCount tileDirectoryAt tileDirectoryRight tileEnd tileIndex tileRight tilesAcross tilesAlong tilesDown tilesIn tilesListed tilesOnly uncompressed unitAt unless unlessRefused utf8 versionRight within withinCeilings zeros
-rows-hold = record { by-ceilings = refl; by-damaged = refl; by-blockRows = refl; by-headerRows = refl; by-openedRows = refl; by-chainRows = refl; by-sumRows = refl; by-bodyRows = refl; by-listRows = refl }
+unfolding advance allBelow blockAt blockSize bodyFault bodyRight byteAt bytesOf cellSize chainFault check checkDirectories checkFromRecords checkHeader checkRecords checkToBodies checksumAt checksumFault checksumOf checksumRight closed contentLengthAt countBelow crcBit crcByte crcOf crcOver crcPart dataType descriptionAt directoriesRight element elementBytes elementName elementPacking elementRight elementsRight endOf endRight entriesRead entryAt entryCount entryEnd entryStart entryTexts every fieldsEnd fileSpaceAt fileSpaceRight fillBits fillOffset find findNot firstTwo firstWrong fiveRules following formRight frameRight freeCount freeEntryAt freeEntryIs freeEntryOf freeFits freeListed freeNotEmpty freeOnly gate givesTile goesOn headerEnd headerRight identified identifier inRectangle inSpan indexRight keysDistinct labelAt lastByte leastLength lengthRight letter listedOnce mark metadataAt metadataCount metadataDescriptionAt metadataDirectoryRight metadataEnd metadataEntryAt metadataEntryEnd metadataEntryIs metadataEntryOf metadataEntrySize metadataFits metadataLength metadataListed metadataName metadataOnly metadataRight methodCount methodsAt nameByte nameBytes namesDiffer never nextTwo noOther nothingElse number numberAt numberOf octet oneIf optionsRight packingOf padded part passes positive productLabelAt put recordId recordIdAt recordLimit recordOk records recordsEnd recordsOf rectangleRight referenceAt referenceFrom referenceOf referenceSize referencesEnd refersOrZero refersTo rightOf rows sameBytes sameKey sectionAt sectionEnd sectionLength sectionPacking sectionRight select sidesRight sidesWithin some spanRight stages starts startsGo storedSize stringEnd stringSize stringText sumBelow summedBytes tail tailRight textRight tileBytes tileCount tileDirectoryAt tileDirectoryRight tileEnd tileIndex tileRight tilesAcross tilesAlong tilesDown tilesIn tilesListed tilesOnly uncompressed unitAt unless unlessRefused utf8 versionRight within withinCeilings zeros
+rows-hold = record { of-16 = refl; of-8 = refl; of-20 = refl; empty = refl; from-records = refl; by-ceilings = refl; by-damaged = refl; by-blockRows = refl; by-headerRows = refl; by-openedRows = refl; by-chainRows = refl; by-sumRows = refl; by-bodyRows = refl; by-listRows = refl }

@@ -7,9 +7,9 @@ use lib.ListN.{take}
 use Rattle.wire.specs.Bytes.{bytesOf, put}
 use Rattle.answer.specs.Refusals.{verdictNumber, verdictPlace}
 use Rattle.check_header.specs.Stages.{checkHeader}
-use Rattle.page_check.specs.Stages.{check}
+use Rattle.page_check.specs.Stages.{check, checkToBodies, checkFromRecords}
 use Rattle.sample_page.specs.Page.{file}
-use Rattle.small_pages.specs.Pages.{none, eight, frontWith, noSpace, at496, tile, directory}
+use Rattle.small_pages.specs.Pages.{none, eight, frontWith, noSpace, at496, free, tile, directory}
 
 -- `score_rule` and a record ID, data type 0
 abbrev key : ℕ → List ℕ
@@ -187,7 +187,18 @@ ceilings =
 abbrev pub damaged : List Judged
 damaged = judged (put file 352 (99 ∷ [])) 7 336 ∷ judged (put file 24 (1 ∷ [])) 7 16 ∷ []
 
+-- stages 1 to 8 alone: number and place
+abbrev pub toBodies : List ℕ → ℕ × ℕ
+toBodies s = (verdictNumber (checkToBodies s), verdictPlace (checkToBodies s))
+
 pub record RowsHold : Type 0 where
+  -- document 01's sample sums: "A record of 16 passes stage 6; 8 or 20 does not. An empty file is 1"; opened and a broken chain is 5 above, and 6
+  -- by stages 6 to 9 alone
+  pub of-16 : toBodies (ruled ++ free 16) ≡ (0, 0)
+  pub of-8 : toBodies (ruled ++ (8 ∷ none 7)) ≡ (6, 544)
+  pub of-20 : toBodies (ruled ++ (20 ∷ none 19)) ≡ (6, 544)
+  pub empty : verdictNumber (check []) ≡ 1
+  pub from-records : verdictNumber (checkFromRecords (put (put ruled 48 (1 ∷ [])) 368 (20 ∷ []))) ≡ 6
   pub by-ceilings : map (λ r. verdictNumber (checkHeader (r .bytes) (r .long))) ceilings ≡ map (λ r. r .answer) ceilings
   pub by-damaged : JudgedSo damaged
   pub by-blockRows : JudgedSo blockRows

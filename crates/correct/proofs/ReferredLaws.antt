@@ -11,8 +11,8 @@ use Rattle.record.proofs.FindLaws.{of-type}
 use Rattle.geometry.specs.Tiles.{tileCount}
 use Rattle.page_check.specs.Accepted.{Sound}
 use Rattle.page_check.proofs.GivenLaws.{sound-one}
-use Rattle.cells.specs.Routes.{carries, meant}
-use Rattle.cells.proofs.RouteLaws.{walk-finds, meant-is, directory-finds}
+use Rattle.tile_routes.specs.Ways.{carries, meant}
+use Rattle.tile_routes.proofs.WayLaws.{walk-finds, meant-is, directory-finds}
 use Rattle.writable.proofs.OpenLaws.{open-sound}
 use Rattle.correct.specs.Storing.{tileAt, carrying, tileReferred, ReferredIsWalked}
 

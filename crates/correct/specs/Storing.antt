@@ -21,7 +21,7 @@ use Rattle.geometry.specs.Tiles.{tileCount}
 use Rattle.geometry.specs.Sizes.{elementBytes, plainTileLength}
 use Rattle.bodies.specs.TileRecord.{sectionLength, elementContentAt}
 use Rattle.bodies.specs.TileDirectory.{tileDirectoryAt}
-use Rattle.cells.specs.Routes.{carries, referredTo, walkedTo}
+use Rattle.tile_routes.specs.Ways.{carries, referredTo, walkedTo}
 use Rattle.written_records.specs.Tile.{tileRecord}
 use Rattle.pieces.specs.Pieces.{pieces, freeing}
 use Rattle.pieces.specs.Edits.{placeFor, placed, resealed, withReference}

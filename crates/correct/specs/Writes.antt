@@ -15,7 +15,7 @@ use Rattle.header.specs.Fields.{checksumEnabled, metadataReference, tileDirecto
 use Rattle.header.specs.Element.{entriesRead}
 use Rattle.geometry.specs.Sizes.{elementBytes, plainTileLength}
 use Rattle.bodies.specs.TileDirectory.{tileDirectoryAt, referenceSize}
-use Rattle.cells.specs.Routes.{carries}
+use Rattle.tile_routes.specs.Ways.{carries}
 use Rattle.written_records.specs.Tile.{plainRecord}
 use Rattle.pieces.specs.Edits.{roomFor}
 use Rattle.writable.specs.Writable.{directoryFull}

@@ -31,7 +31,7 @@ use Rattle.cells.specs.Meaning.{meaning}
 use Rattle.cells.proofs.CellLaws.{grid-means}
 use Rattle.cells.proofs.ReadLaws.{sound-cells}
 use Rattle.cells.proofs.DemandLaws.{demand-3}
-use Rattle.cells.proofs.RouteLaws.{walk-finds, meant-is}
+use Rattle.tile_routes.proofs.WayLaws.{walk-finds, meant-is}
 use Rattle.cells.proofs.ApartLaws.{offset-within}
 use Rattle.alone.specs.Alone.{Moved, SameHeader, SameTile}
 use Rattle.alone.proofs.MovedLaws.{offset-of, offset-number, offset-byte}

@@ -29,11 +29,12 @@ use Rattle.check_header.specs.Judged.{SameJudged}
 use Rattle.page_check.specs.Accepted.{Sound}
 use Rattle.page_check.proofs.GivenLaws.{sound-tile}
 use Rattle.cells.specs.Asked.{inTiles}
-use Rattle.cells.specs.Routes.{meant, tileBy}
+use Rattle.tile_routes.specs.Ways.{meant}
+use Rattle.cells.specs.Routes.{tileBy}
 use Rattle.cells.specs.TileCells.{isPacked, packed, contentIn, contentOf}
 use Rattle.cells.specs.Meaning.{contentMeaning}
 use Rattle.cells.proofs.CellLaws.{tiles-mean}
-use Rattle.cells.proofs.RouteLaws.{walk-finds, meant-is}
+use Rattle.tile_routes.proofs.WayLaws.{walk-finds, meant-is}
 use Rattle.cells.proofs.ApartLaws.{content-extent, whole-least}
 use Rattle.alone.specs.Alone.{Moved, SameHeader}
 use Rattle.alone.proofs.HeaderLaws.{judged-header, count-within}

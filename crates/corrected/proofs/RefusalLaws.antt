@@ -35,7 +35,7 @@ use Rattle.pieces.proofs.FreeingLaws.{freeing-length}
 use Rattle.writable.specs.Writable.{openForWriting, directoryFull}
 use Rattle.writable.proofs.OpenLaws.{open-sound}
 use Rattle.writable.proofs.PartLaws.{sound-parted}
-use Rattle.cells.specs.Routes.{carries}
+use Rattle.tile_routes.specs.Ways.{carries}
 use Rattle.correct.specs.Front.{pageIn}
 use Rattle.correct.specs.Opening.{compactOf, fullDirectory, openedMore, openedLength}
 use Rattle.correct.specs.Storing.{storedOver, storedAt, storedLength, freedOf}

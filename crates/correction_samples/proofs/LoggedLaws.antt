@@ -5,7 +5,7 @@ use Rattle.bodies.specs.ListDirectories.{entryCount, fileSpaceAt, freeCount, fr
 use Rattle.bodies.specs.MetadataRecord.{contentLengthAt, dataType, metadataDescriptionAt, metadataEnd, metadataLength, metadataName, recordId, recordIdAt}
 use Rattle.bodies.specs.TileDirectory.{inRectangle, inSpan, numberOf, referenceAt, referenceFrom, referenceOf, referenceSize, referencesEnd, tileDirectoryAt}
 use Rattle.bodies.specs.TileRecord.{elementContentAt, sectionAt, sectionEnd, sectionLength, tileEnd, tileIndex}
-use Rattle.cells.specs.Routes.{carries, referredTo}
+use Rattle.tile_routes.specs.Ways.{carries, referredTo}
 use Rattle.check_directory.specs.References.{noOther, refersOrZero, refersTo}
 use Rattle.check_directory.specs.TileRules.{formRight, givesTile, rectangleRight, spanRight, tileDirectoryRight, tilesListed, tilesOnly}
 use Rattle.check_header.specs.Ceilings.{sidesWithin, withinCeilings}
@@ -14,7 +14,8 @@ use Rattle.check_header.specs.Identification.{identified, mark, versionRight}
 use Rattle.check_header.specs.Stages.{checkHeader, closed, firstTwo, nextTwo, stages}
 use Rattle.check_lists.specs.FileSpace.{fileSpaceRight, freeEntryIs, freeEntryOf, freeFits, freeListed, freeNotEmpty, freeOnly}
 use Rattle.check_lists.specs.Listed.{listedOnce, nothingElse}
-use Rattle.check_lists.specs.Metadata.{keysDistinct, metadataDirectoryRight, metadataEntryIs, metadataEntryOf, metadataFits, metadataListed, metadataOnly, sameKey}
+use Rattle.metadata_keys.specs.Pairs.{keysDistinct, sameKey}
+use Rattle.check_lists.specs.Metadata.{metadataDirectoryRight, metadataEntryIs, metadataEntryOf, metadataFits, metadataListed, metadataOnly}
 use Rattle.check_lists.specs.Stage.{directoriesRight}
 use Rattle.check_records.specs.Checksum.{checksumAt, checksumOf, checksumRight, summedBytes}
 use Rattle.check_records.specs.Faults.{bodyFault, bodyRight, chainFault, checksumFault, firstWrong, rightOf}

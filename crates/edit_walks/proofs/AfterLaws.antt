@@ -13,7 +13,7 @@ use Rattle.record.specs.Record.{lengthAt, typeAt, recordOk, stepAt}
 use Rattle.record.specs.Chain.{starts}
 use Rattle.record.proofs.ChainLaws.{by-chain, starts-none, starts-record}
 use Rattle.bodies.specs.TileRecord.{tileIndex}
-use Rattle.cells.specs.Routes.{carries}
+use Rattle.tile_routes.specs.Ways.{carries}
 use Rattle.stores.specs.Stores.{Write, Apart, stopped}
 use Rattle.stores.proofs.StoreLaws.{apart-stays, length-stopped}
 use Rattle.correct.specs.Front.{pageIn}

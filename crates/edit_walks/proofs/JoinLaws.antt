@@ -20,7 +20,7 @@ use Rattle.record.proofs.ChainLaws.{Stepped, stepped, starts-none, starts-recor
 use Rattle.record.proofs.SeekLaws.{over}
 use Rattle.record.proofs.Step.{the-type}
 use Rattle.bodies.specs.TileRecord.{tileIndex}
-use Rattle.cells.specs.Routes.{carries}
+use Rattle.tile_routes.specs.Ways.{carries}
 use Rattle.pieces.specs.Pieces.{freeRecord}
 use Rattle.stores.specs.Stores.{Write, Apart}
 use Rattle.stores.specs.Writes.{oneWrite, wholeWrite}

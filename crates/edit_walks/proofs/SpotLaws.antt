@@ -23,7 +23,7 @@ use Rattle.record.proofs.SeekLaws.{over}
 use Rattle.record.proofs.Step.{the-type}
 use Rattle.header.specs.Fields.{checksumEnabled}
 use Rattle.bodies.specs.TileRecord.{tileIndex}
-use Rattle.cells.specs.Routes.{carries}
+use Rattle.tile_routes.specs.Ways.{carries}
 use Rattle.pieces.specs.Pieces.{pieceAt, piecesOf, pieces, freeRecord, isFree, attach, joinFree, cleared, freeing}
 use Rattle.pieces.specs.Edits.{takes, placeFor, roomFor}
 use Rattle.pieces.proofs.SplitLaws.{piece-placed, piece-long, piece-type, piece-free}

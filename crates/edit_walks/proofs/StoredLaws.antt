@@ -23,8 +23,8 @@ use Rattle.geometry.specs.Sizes.{elementBytes, cap}
 use Rattle.bodies.specs.TileRecord.{sectionStart, sectionLength}
 use Rattle.bodies.proofs.SectionLaws.{section-told}
 use Rattle.bodies.specs.TileDirectory.{tileDirectoryAt}
-use Rattle.cells.specs.declared.Route.the-variants.{Directory}
-use Rattle.cells.specs.Routes.{carries, referredTo, foundBy}
+use Rattle.tile_routes.specs.declared.Route.the-variants.{Directory}
+use Rattle.tile_routes.specs.Ways.{carries, referredTo, foundBy}
 use Rattle.correct.specs.Storing.{carrying, tileReferred, isPlain, storedOver}
 use Rattle.correct.specs.Removing.{isThere}
 use Rattle.correct.specs.Closing.{anyFree}

@@ -9,7 +9,7 @@ use Rattle.record.specs.declared.Found.the-variants.{Nothing}
 use Rattle.record.specs.Types.{fileSpaceDirectoryType, tileDirectoryType}
 use Rattle.record.specs.Record.{typeAt}
 use Rattle.record.specs.Chain.{starts, headerEnd}
-use Rattle.cells.specs.Routes.{carries}
+use Rattle.tile_routes.specs.Ways.{carries}
 use Rattle.stores.specs.Stores.{Write}
 use Rattle.pieces.specs.Edits.{placeFor, roomFor}
 use Rattle.correct.specs.Storing.{freedOf, tileReferred, storedOver}

@@ -2,12 +2,12 @@
 use crate::freeing;
 use bodies::tile_directory;
 use bodies::tile_record;
-use cells::Route;
-use cells::routes;
 use geometry::sizes;
 use header::fields;
 use record::Found;
 use record::chain;
+use tile_routes::Route;
+use tile_routes::routes;
 ghost use mathlib.Core.Path.{_≡_};
 ghost use Prim.Native.Nat.{_<_};
 ghost use lib.ListN.{length};

@@ -29,10 +29,10 @@ use Rattle.bodies.proofs.SectionLaws.{section-mono, sections-sum, limit-inside}
 use Rattle.check_header.specs.Passed.{InRange}
 use Rattle.check_records.specs.TileBody.{tileRight}
 use Rattle.check_records.proofs.SectionLaws.{sections-end}
-use Rattle.check_lists.proofs.KeyLaws.{find-at}
+use Rattle.metadata_keys.proofs.KeyLaws.{find-at}
 use Rattle.page_check.specs.Accepted.{Sound}
 use Rattle.page_check.proofs.GivenLaws.{sound-range, sound-tile, sound-one}
-use Rattle.cells.specs.Routes.{carries, walkedTo}
+use Rattle.tile_routes.specs.Ways.{carries, walkedTo}
 use Rattle.written_records.specs.Pieces.{checksumFor, sealed}
 use Rattle.written_records.proofs.TileLaws.{element-within}
 use Rattle.stores.specs.Stores.{Write, run}

@@ -23,7 +23,7 @@ use Rattle.bodies.specs.TileDirectory.{tileDirectoryAt}
 use Rattle.check_header.specs.Passed.{InRange}
 use Rattle.page_check.specs.Accepted.{Sound}
 use Rattle.page_check.proofs.GivenLaws.{sound-range}
-use Rattle.cells.specs.Routes.{carries}
+use Rattle.tile_routes.specs.Ways.{carries}
 use Rattle.written_records.specs.Tile.{plainRecord, sectionsOf, tileRecord}
 use Rattle.written_records.proofs.PieceLaws.{placed-kind}
 use Rattle.written_records.proofs.TileLaws.{tile-length, tile-well}

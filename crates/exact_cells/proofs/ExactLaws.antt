@@ -38,12 +38,13 @@ use Rattle.page_check.specs.Accepted.{Sound}
 use Rattle.page_check.proofs.AcceptedLaws.{accepted-sound}
 use Rattle.page_check.proofs.GivenLaws.{sound-tile, sound-one}
 use Rattle.cells.specs.Asked.{inGrid}
-use Rattle.cells.specs.Routes.{carries, recordsWith, meant, cellBy}
+use Rattle.tile_routes.specs.Ways.{carries, recordsWith, meant}
+use Rattle.cells.specs.Routes.{cellBy}
 use Rattle.cells.specs.TileCells.{locationOf, fillOf, packed, unpackable, cellFrom, cellIn, offsetIn}
 use Rattle.cells.specs.Meaning.{meaning}
 use Rattle.cells.specs.CellExactly.{OfGrid, TileRecordAt, Decided, Named, contentHolds, IsFill, IsStored, IsUnpacked, IsMalformed, IsCompressed, CellIs, CellExactly, ReadExactly, FiveKinds}
 use Rattle.cells.proofs.CellLaws.{grid-in, grid-means, sides-mean}
-use Rattle.cells.proofs.RouteLaws.{meant-is}
+use Rattle.tile_routes.proofs.WayLaws.{meant-is}
 use Rattle.cells.proofs.ApartLaws.{whole-least}
 use Rattle.cells.proofs.ReadLaws.{sound-lawful}
 use Rattle.cells.proofs.DemandLaws.{demand-3}

@@ -20,7 +20,7 @@ use Rattle.answer.specs.declared.Held.{Held}
 use Rattle.answer.specs.declared.Laid.{Laid}
 use Rattle.answer.specs.Refusals.{verdictNumber, verdictPlace}
 use Rattle.answer.specs.Answers.{cellKind, cellType, cellBits, cellPlace, contentKind, contentPlace, contentLength, heldKind, heldPlace, laidNumber, written, answerTile, answerInside}
-use Rattle.check_header.specs.Start.{checkStart, needed}
+use Rattle.check_start.specs.Start.{checkStart, needed}
 use Rattle.page_check.specs.Stages.{check}
 use Rattle.cells.specs.Reads.{readByDirectory, readByWalk, readByRecords, readMeaning, recordsMeaning}
 use Rattle.cells.proofs.ReadLaws.{directory-read, walk-read, records-read}

@@ -15,7 +15,7 @@ use Rattle.comparisons.specs.declared.Comparison.{Comparison}
 use Rattle.comparisons.specs.Comparisons.{comparisonPage, comparisonCount}
 use lib.Dec.{eqb}
 use Rattle.wire.specs.Pick.{pick}
-use Rattle.check_header.specs.Start.{checkStart, needed}
+use Rattle.check_start.specs.Start.{checkStart, needed}
 use Rattle.cells.specs.TileCells.{heldCount}
 
 unfoldable pub reported : List ℕ → List ℕ → List ℕ

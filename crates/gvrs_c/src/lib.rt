@@ -12,7 +12,7 @@ use answer::Cell;
 use answer::Held;
 use answer::Laid;
 use cells::reads;
-use check_header::start;
+use check_start::start;
 use header::fields;
 use header::names;
 use m32::writing;
@@ -25,7 +25,7 @@ ghost use Rattle.answer.specs.Answers.{cellKind, contentKind, heldKind, lookupK
 ghost use Rattle.wire.specs.Pick.{pick};
 ghost use Rattle.header.specs.Names.{identifier, longestName};
 ghost use Rattle.utf8.specs.Utf8.{utf8};
-ghost use Rattle.check_header.specs.Start.{checkStart, needed};
+ghost use Rattle.check_start.specs.Start.{checkStart, needed};
 ghost use Rattle.page_check.specs.Stages.{check};
 ghost use Rattle.m32.specs.M32.{codes, bytesNext, readCodes};
 ghost use Rattle.cells.specs.TileCells.{heldBits, heldCount};

@@ -11,7 +11,7 @@ use Rattle.record.specs.Chain.{joined, WellFormed}
 use Rattle.header.specs.Fields.{checksumEnabled, elementCount}
 use Rattle.geometry.specs.Tiles.{tileCount}
 use Rattle.check_lists.specs.Metadata.{metadataDirectoryRight}
-use Rattle.cells.specs.Routes.{carries}
+use Rattle.tile_routes.specs.Ways.{carries}
 use Rattle.pieces.specs.Pieces.{pieces}
 use Rattle.pieces.specs.Edits.{withReference}
 use Rattle.pieces.specs.Standing.{AllOf, standing}

@@ -18,7 +18,7 @@ use Rattle.bodies.specs.TileDirectory.{tileReference}
 use Rattle.check_directory.specs.TileRules.{tilesListed, tilesOnly}
 use Rattle.check_directory.specs.Correspondence.{TileRecord, OneToOne}
 use Rattle.check_directory.proofs.CorrespondLaws.{if-listed, if-only}
-use Rattle.cells.specs.Routes.{carries}
+use Rattle.tile_routes.specs.Ways.{carries}
 use Rattle.pieces.specs.Standing.{standing, placeOf, without, Inserted}
 use Rattle.alone.specs.Alone.{Front}
 use Rattle.alone.proofs.TileLaws.{index-same}

@@ -30,8 +30,8 @@ use Rattle.check_records.specs.Faults.{bodyRight, rightOf, bodyFault}
 use Rattle.check_records.proofs.SectionLaws.{sections-end}
 use Rattle.check_lists.specs.Metadata.{metadataDirectoryRight}
 use Rattle.page_check.proofs.GivenLaws.{sound-range, sound-tile, sound-one}
-use Rattle.cells.specs.Routes.{carries}
-use Rattle.cells.proofs.RouteLaws.{walk-finds, IsMeant, meant-is}
+use Rattle.tile_routes.specs.Ways.{carries}
+use Rattle.tile_routes.proofs.WayLaws.{walk-finds, IsMeant, meant-is}
 use Rattle.pieces.specs.Pieces.{pieces, nothingToJoin}
 use Rattle.pieces.specs.Edits.{resealed}
 use Rattle.pieces.specs.Standing.{AllOf, standing}

@@ -16,7 +16,7 @@ use Rattle.record.specs.Chain.{records, joined}
 use Rattle.header.specs.Fields.{checksumEnabled, elementCount}
 use Rattle.geometry.specs.Tiles.{tileCount}
 use Rattle.page_check.proofs.GivenLaws.{sound-range}
-use Rattle.cells.specs.Routes.{carries}
+use Rattle.tile_routes.specs.Ways.{carries}
 use Rattle.pieces.specs.Pieces.{pieces}
 use Rattle.pieces.specs.Edits.{withReference}
 use Rattle.pieces.specs.Standing.{standing}

@@ -11,7 +11,7 @@ use Rattle.record.specs.Record.{contentAt}
 use Rattle.record.specs.Chain.{joined}
 use Rattle.header.specs.Fields.{checksumEnabled, elementCount}
 use Rattle.bodies.specs.TileRecord.{tileIndex}
-use Rattle.cells.specs.Routes.{carries}
+use Rattle.tile_routes.specs.Ways.{carries}
 use Rattle.written_records.specs.Tile.{tileRecord}
 use Rattle.pieces.specs.Pieces.{pieces, freeing}
 use Rattle.pieces.specs.Edits.{placeFor, withReference}

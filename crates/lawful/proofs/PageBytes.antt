@@ -14,7 +14,7 @@ use Rattle.record.specs.Chain.{headerEnd, records, recordsOf, joined}
 use Rattle.record.specs.Types.{freeType, tileType, tileDirectoryType, fileSpaceDirectoryType}
 use Rattle.header.specs.Fields.{checksumEnabled, elementCount}
 use Rattle.bodies.specs.TileDirectory.{referenceSize}
-use Rattle.cells.specs.Routes.{carries}
+use Rattle.tile_routes.specs.Ways.{carries}
 use Rattle.written_records.specs.Pieces.{recordOf, sealed}
 use Rattle.written_records.specs.Tile.{sections, plainRecord, tileRecord}
 use Rattle.written_records.proofs.SealLaws.{unclosed-bytes, sections-bytes}

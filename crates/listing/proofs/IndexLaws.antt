@@ -21,7 +21,7 @@ use Rattle.wire.proofs.CountLaws.{count-one, count-same, count-named}
 use Rattle.page_check.specs.Stages.{check}
 use Rattle.page_check.proofs.AcceptedLaws.{accepted-obeys}
 use Rattle.page_check.proofs.GivenLaws.{obeys-one}
-use Rattle.cells.specs.Routes.{carries}
+use Rattle.tile_routes.specs.Ways.{carries}
 use Rattle.listing.specs.Listing.{written, LineEach}
 
 module _ (s : List ℕ) (e : check s ≡ Accepted) (i : ℕ) where

@@ -14,7 +14,7 @@ use Rattle.wire.specs.Lists.{some}
 use Rattle.record.specs.Chain.{records}
 use Rattle.bodies.specs.TileDirectory.{tileReference}
 use Rattle.page_check.specs.Stages.{check}
-use Rattle.cells.specs.Routes.{carries}
+use Rattle.tile_routes.specs.Ways.{carries}
 use Rattle.listing.specs.Text.{decimal, newline, elementsWord, line}
 use Rattle.listing.specs.Listing.{indexLines}
 use Rattle.listing.specs.Puts.{Puts}

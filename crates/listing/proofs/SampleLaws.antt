@@ -12,7 +12,7 @@ use Rattle.record.specs.Chain.{starts, startsGo, headerEnd, records, recordsOf}
 use Rattle.geometry.specs.Tiles.{tileCount, tilesAlong, tilesIn}
 use Rattle.bodies.specs.TileRecord.{tileIndex}
 use Rattle.wire.specs.Lists.{select, some}
-use Rattle.cells.specs.Routes.{carries}
+use Rattle.tile_routes.specs.Ways.{carries}
 use Rattle.sample_page.specs.Page.{file}
 use Rattle.sample_page.proofs.SampleLaws.{sample-read}
 use Rattle.listing.specs.Text.{atWord, decimal, digits, elementsWord, gridWord, line, ofWord, refusedWord, tileWord, tooLong, writtenWord}

@@ -14,7 +14,7 @@ use Rattle.wire.specs.Lists.{some, countBelow}
 use Rattle.record.specs.Chain.{records, recordsOf}
 use Rattle.record.specs.Types.{tileType}
 use Rattle.page_check.specs.Stages.{check}
-use Rattle.cells.specs.Routes.{carries}
+use Rattle.tile_routes.specs.Ways.{carries}
 use Rattle.listing.specs.Text.{decimal, space, newline, gridWord, tileWord, elementsWord, writtenWord, ofWord, refusedWord, atWord, tooLong, line}
 
 -- `written` is the number of tile records in the chain

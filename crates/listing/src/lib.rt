@@ -28,7 +28,7 @@ ghost use Rattle.geometry.specs.Tiles.{tileCount};
 ghost use Rattle.wire.specs.Lists.{some};
 ghost use Rattle.record.specs.Chain.{records};
 ghost use Rattle.page_check.specs.Stages.{check};
-ghost use Rattle.cells.specs.Routes.{carries};
+ghost use Rattle.tile_routes.specs.Ways.{carries};
 ghost use Rattle.listing.specs.Text.{decimal, space, newline, gridWord, tileWord, elementsWord, writtenWord, ofWord, line};
 ghost use Rattle.listing.specs.Listing.{written, indexLines, listed, listedBy, listing};
 ghost use Rattle.listing.specs.Puts.{Puts, mostLine, mostText};

@@ -10,8 +10,8 @@ use Rattle.answer.specs.declared.Verdict.the-variants.{Accepted, Refused}
 use Rattle.answer.specs.Refusals.{unlessRefused}
 use Rattle.answer.proofs.VerdictLaws.{refused-not, refused-is}
 use Rattle.check_header.specs.Stages.{checkHeader}
-use Rattle.check_header.specs.Start.{checkStart}
-use Rattle.check_header.proofs.StartAgrees.{whole-file, begins-so}
+use Rattle.check_start.specs.Start.{checkStart}
+use Rattle.check_start.proofs.StartAgrees.{whole-file, begins-so}
 use Rattle.page_check.specs.Stages.{checkFromRecords, check}
 use Rattle.page_check.specs.Halves.{checkRest, Together, DecidesOf, FirstDecides}
 

@@ -9,7 +9,7 @@ use Rattle.answer.specs.declared.Refusal.the-variants.{Input, Incomplete}
 use Rattle.answer.specs.declared.Verdict.{Verdict}
 use Rattle.answer.specs.declared.Verdict.the-variants.{Accepted, Refused}
 use Rattle.answer.specs.Refusals.{unlessRefused}
-use Rattle.check_header.specs.Start.{checkStart}
+use Rattle.check_start.specs.Start.{checkStart}
 use Rattle.page_check.specs.Stages.{checkFromRecords, check}
 
 -- 'The second half takes the whole file and begins by repeating the first': then stages 6 to 9

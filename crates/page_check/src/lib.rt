@@ -2,9 +2,9 @@
 use answer::Refusal;
 use answer::Verdict;
 use check_header::stages;
-use check_header::start;
 use check_lists::stage;
 use check_records::faults;
+use check_start::start;
 use record::Found;
 ghost use mathlib.Core.Path.{_≡_};
 ghost use Rattle.answer.specs.declared.Verdict.the-variants.{Accepted};

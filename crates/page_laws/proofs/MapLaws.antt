@@ -11,7 +11,7 @@ use Rattle.wire.specs.Tests.{both, passes}
 use Rattle.wire.proofs.TestLaws.{means}
 use Rattle.record.specs.Record.{typeAt}
 use Rattle.bodies.specs.TileRecord.{tileIndex}
-use Rattle.cells.specs.Routes.{carries}
+use Rattle.tile_routes.specs.Ways.{carries}
 use Rattle.pieces.specs.Standing.{standing, without, Inserted}
 use Rattle.page_laws.specs.Tiles.{ofTile}
 use Rattle.page_laws.specs.TileMap.{contentsAlone, heldIn, NoneWith}

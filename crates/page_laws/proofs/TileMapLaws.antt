@@ -21,7 +21,7 @@ use Rattle.bodies.specs.TileRecord.{tileIndex, sectionLength, elementContentAt}
 use Rattle.check_records.specs.declared.Rule.the-variants.{Body}
 use Rattle.check_records.specs.TileBody.{tileRight}
 use Rattle.check_records.specs.Faults.{bodyRight, rightOf}
-use Rattle.cells.specs.Routes.{carries, walkedTo}
+use Rattle.tile_routes.specs.Ways.{carries, walkedTo}
 use Rattle.pieces.specs.Pieces.{piecesOf, pieces}
 use Rattle.pieces.specs.Standing.{standing}
 use Rattle.alone.specs.Alone.{SameRecord, SameHeader, Front, AllAlone}

@@ -15,7 +15,7 @@ use Rattle.record.specs.Record.{typeAt}
 use Rattle.record.specs.Chain.{headerEnd, records, find, firstRecord, joined, startsOf, WellFormed}
 use Rattle.bodies.specs.TileRecord.{tileIndex}
 use Rattle.page_check.specs.Accepted.{Sound}
-use Rattle.cells.specs.Routes.{carries, walkedTo}
+use Rattle.tile_routes.specs.Ways.{carries, walkedTo}
 use Rattle.pieces.specs.Pieces.{pieces}
 use Rattle.pieces.specs.Standing.{standing}
 use Rattle.alone.specs.Alone.{SameRecord}

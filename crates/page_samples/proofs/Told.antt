@@ -9,7 +9,8 @@ use Rattle.bodies.specs.TileRecord.{elementContentAt, sectionAt, sectionEnd, se
 use Rattle.cells.specs.Asked.{inGrid}
 use Rattle.cells.specs.Meaning.{meaning}
 use Rattle.cells.specs.Reads.{readByDirectory, readByRecords, readByWalk, readMeaning}
-use Rattle.cells.specs.Routes.{carries, cellBy, meant, recordsWith, referredTo, walkedTo}
+use Rattle.tile_routes.specs.Ways.{carries, meant, recordsWith, referredTo, walkedTo}
+use Rattle.cells.specs.Routes.{cellBy}
 use Rattle.cells.specs.TileCells.{cellFrom, cellIn, fillOf, locationOf, offsetIn}
 use Rattle.check_directory.specs.References.{noOther, refersOrZero, refersTo}
 use Rattle.check_directory.specs.TileRules.{formRight, givesTile, rectangleRight, spanRight, tileDirectoryRight, tilesListed, tilesOnly}
@@ -19,7 +20,8 @@ use Rattle.check_header.specs.Identification.{identified, mark, versionRight}
 use Rattle.check_header.specs.Stages.{checkHeader, closed, firstTwo, nextTwo, stages}
 use Rattle.check_lists.specs.FileSpace.{fileSpaceRight, freeEntryIs, freeEntryOf, freeFits, freeListed, freeNotEmpty, freeOnly}
 use Rattle.check_lists.specs.Listed.{listedOnce, nothingElse}
-use Rattle.check_lists.specs.Metadata.{keysDistinct, metadataDirectoryRight, metadataEntryIs, metadataEntryOf, metadataFits, metadataListed, metadataOnly, sameKey}
+use Rattle.metadata_keys.specs.Pairs.{keysDistinct, sameKey}
+use Rattle.check_lists.specs.Metadata.{metadataDirectoryRight, metadataEntryIs, metadataEntryOf, metadataFits, metadataListed, metadataOnly}
 use Rattle.check_lists.specs.Stage.{directoriesRight}
 use Rattle.check_records.specs.Checksum.{checksumAt, checksumOf, checksumRight, summedBytes}
 use Rattle.check_records.specs.Faults.{bodyFault, bodyRight, chainFault, checksumFault, firstWrong, rightOf}

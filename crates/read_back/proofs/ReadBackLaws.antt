@@ -30,9 +30,10 @@ use Rattle.cells.specs.Meaning.{meaning, contentMeaning}
 use Rattle.cells.specs.Demand3.{bytesOfCell}
 use Rattle.cells.proofs.CellLaws.{grid-means, tiles-mean}
 use Rattle.cells.proofs.ApartLaws.{offset-within}
-use Rattle.cells.specs.Routes.{referredTo, tileBy, cellBy, meant}
+use Rattle.tile_routes.specs.Ways.{referredTo, meant}
+use Rattle.cells.specs.Routes.{tileBy, cellBy}
 use Rattle.cells.proofs.DemandLaws.{demand-3}
-use Rattle.cells.proofs.RouteLaws.{directory-finds}
+use Rattle.tile_routes.proofs.WayLaws.{directory-finds}
 use Rattle.written_records.proofs.TileLaws.{element-within}
 use Rattle.lay_down.specs.Page.{laidFile}
 use Rattle.lay_down.specs.Answer.{laidOut}

@@ -14,7 +14,8 @@ use Rattle.check_header.specs.Identification.{identified, mark, versionRight}
 use Rattle.check_header.specs.Stages.{checkFront, checkHeader, closed, firstTwo, frontRight, nextTwo, stages}
 use Rattle.check_lists.specs.FileSpace.{fileSpaceRight, freeEntryIs, freeEntryOf, freeFits, freeListed, freeOnly}
 use Rattle.check_lists.specs.Listed.{listedOnce, nothingElse}
-use Rattle.check_lists.specs.Metadata.{keysDistinct, metadataDirectoryRight, metadataEntryIs, metadataEntryOf, metadataFits, metadataListed, metadataOnly, sameKey}
+use Rattle.metadata_keys.specs.Pairs.{keysDistinct, sameKey}
+use Rattle.check_lists.specs.Metadata.{metadataDirectoryRight, metadataEntryIs, metadataEntryOf, metadataFits, metadataListed, metadataOnly}
 use Rattle.check_records.specs.Checksum.{summedBytes}
 use Rattle.check_records.specs.MetadataBody.{metadataRight}
 use Rattle.check_records.specs.TileBody.{indexRight, sectionPacking, sectionRight, tileRight}

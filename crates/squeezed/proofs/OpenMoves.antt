@@ -30,7 +30,8 @@ use Rattle.check_directory.specs.References.{refersTo, refersOrZero, noOther}
 use Rattle.check_directory.specs.TileRules.{tilesListed, tilesOnly, rectangleRight, tileDirectoryRight}
 use Rattle.check_directory.specs.Correspondence.{OneToOne}
 use Rattle.check_directory.proofs.CorrespondLaws.{one-to-one}
-use Rattle.check_lists.specs.Metadata.{metadataListed, metadataOnly, keysDistinct, metadataFits, metadataDirectoryRight}
+use Rattle.metadata_keys.specs.Pairs.{keysDistinct}
+use Rattle.check_lists.specs.Metadata.{metadataListed, metadataOnly, metadataFits, metadataDirectoryRight}
 use Rattle.check_lists.specs.Rearranged.{Described, metadataEntry, metadataEntries}
 use Rattle.bodies.specs.ListDirectories.{entryCount, metadataCount}
 use Rattle.bodies.specs.TileDirectory.{tileReference}

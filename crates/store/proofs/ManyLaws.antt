@@ -20,10 +20,10 @@ use Rattle.geometry.proofs.GridLaws.{tile-less}
 use Rattle.check_header.specs.Passed.{Sides}
 use Rattle.bodies.specs.TileDirectory.{tileDirectoryAt}
 use Rattle.page_check.specs.Stages.{check}
-use Rattle.cells.specs.declared.Route.the-variants.{Directory}
+use Rattle.tile_routes.specs.declared.Route.the-variants.{Directory}
 use Rattle.cells.specs.Asked.{inGrid}
 use Rattle.cells.specs.TileCells.{unpackedBits}
-use Rattle.cells.specs.Routes.{foundBy}
+use Rattle.tile_routes.specs.Ways.{foundBy}
 use Rattle.cells.specs.inner.Lookups.{lookedUpRoom}
 use Rattle.cells.specs.Many.{heldByDirectory, Holds}
 use Rattle.cells.proofs.CellLaws.{grid-means, sides-mean, inside-small}

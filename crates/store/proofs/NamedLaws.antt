@@ -22,7 +22,8 @@ use Rattle.record.specs.Chain.{starts, headerEnd, records, recordsOf, find, fir
 use Rattle.record.proofs.ChainLaws.{ok-means, by-chain, starts-record, starts-none, starts-behind}
 use Rattle.record.proofs.FindLaws.{found-not, at-is, type-of}
 use Rattle.bodies.specs.MetadataRecord.{metadataName, recordId}
-use Rattle.check_lists.specs.Metadata.{sameKey, keysDistinct, metadataDirectoryRight}
+use Rattle.metadata_keys.specs.Pairs.{sameKey, keysDistinct}
+use Rattle.check_lists.specs.Metadata.{metadataDirectoryRight}
 use Rattle.page_check.specs.Stages.{check}
 use Rattle.page_check.proofs.AcceptedLaws.{accepted-sound}
 use Rattle.store.specs.declared.named.NamedIds.{NamedIds}

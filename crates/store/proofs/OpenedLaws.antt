@@ -19,9 +19,9 @@ use Rattle.record.specs.Chain.{headerEnd}
 use Rattle.geometry.specs.Tiles.{tileCount}
 use Rattle.bodies.specs.TileDirectory.{tileDirectoryAt}
 use Rattle.page_check.specs.Stages.{check}
-use Rattle.cells.specs.declared.Route.{Route}
-use Rattle.cells.specs.declared.Route.the-variants.{Directory, Walk}
-use Rattle.cells.specs.Routes.{meant, foundBy}
+use Rattle.tile_routes.specs.declared.Route.{Route}
+use Rattle.tile_routes.specs.declared.Route.the-variants.{Directory, Walk}
+use Rattle.tile_routes.specs.Ways.{meant, foundBy}
 use Rattle.cells.specs.Meaning.{meaning, contentMeaning}
 use Rattle.cells.specs.Reads.{readByDirectory, readByWalk, readMeaning, readContent}
 use Rattle.cells.specs.inner.Lookups.{lookedUp, lookedUpContent}

@@ -14,9 +14,10 @@ use Rattle.answer.specs.Refusals.{unlessRefused}
 use Rattle.header.specs.Fields.{tileDirectoryReference}
 use Rattle.record.specs.Chain.{headerEnd}
 use Rattle.page_check.specs.Stages.{check}
-use Rattle.cells.specs.declared.Route.{Route}
-use Rattle.cells.specs.declared.Route.the-variants.{Directory, Walk}
-use Rattle.cells.specs.Routes.{foundBy, cellBy, contentBy}
+use Rattle.tile_routes.specs.declared.Route.{Route}
+use Rattle.tile_routes.specs.declared.Route.the-variants.{Directory, Walk}
+use Rattle.tile_routes.specs.Ways.{foundBy}
+use Rattle.cells.specs.Routes.{cellBy, contentBy}
 use Rattle.cells.specs.Reads.{readByDirectory, readByWalk}
 
 -- what a page holds beside the bytes s and the index: positions that they give, 0 where the check refuses them. Where the header ends

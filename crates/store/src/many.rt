@@ -3,9 +3,9 @@
 use answer::Cell;
 use answer::Held;
 use bodies::tile_directory;
-use cells::Route;
 use cells::lookups;
 use header::fields;
+use tile_routes::Route;
 ghost use mathlib.Core.Path.{_≡_};
 ghost use Prim.Native.Nat.{_+_, _<_};
 ghost use lib.ListN.{length};

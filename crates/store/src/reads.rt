@@ -2,11 +2,11 @@
 use answer::Cell;
 use answer::Content;
 use answer::Verdict;
-use cells::Route;
 use cells::lookups;
 use header::fields;
 use record::chain;
 use record::frame;
+use tile_routes::Route;
 ghost use mathlib.Core.Path.{_≡_};
 ghost use Prim.Native.Nat.{_+_, _-_};
 ghost use Rattle.wire.specs.Pick.{pick};

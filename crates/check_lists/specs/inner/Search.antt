@@ -3,17 +3,14 @@
 use Prim.Native.Nat.{ℕ}
 use mathlib.Core.List.{List, [], _∷_}
 use mathlib.Core.Bool.{Bool}
-use Rattle.wire.specs.Tests.{_≡?_, _≢?_, is, passes}
-use Rattle.record.specs.Record.{typeAt}
-use Rattle.record.specs.Chain.{recordsOf}
+use Rattle.wire.specs.Tests.{is, passes}
 use Rattle.record.specs.Types.{freeType, metadataType}
-use Rattle.wire.specs.Lists.{some}
 use Rattle.check_lists.specs.declared.ListKind.{ListKind}
 use Rattle.check_lists.specs.declared.ListKind.the-variants.{FreeSpace, Metadata}
 use Rattle.check_lists.specs.Listed.{listedOnce, nothingElse}
 use Rattle.check_lists.specs.FileSpace.{freeEntryOf, freeEntryIs, freeFits}
 use Rattle.bodies.specs.ListDirectories.{freeCount, freeEntryAt, metadataCount, metadataEntryAt, metadataEntrySize}
-use Rattle.check_lists.specs.Metadata.{metadataEntryOf, metadataEntryIs, metadataFits, sameKey}
+use Rattle.check_lists.specs.Metadata.{metadataEntryOf, metadataEntryIs, metadataFits}
 
 -- the type of the records that a list is of
 unfoldable pub listedKind : ListKind → ℕ
@@ -44,17 +41,6 @@ listEntryOf s Metadata = metadataEntryOf s
 unfoldable pub listEntryIs : List ℕ → ListKind → ℕ → ℕ → Bool
 listEntryIs s FreeSpace = freeEntryIs s
 listEntryIs s Metadata = metadataEntryIs s
-
--- a metadata record that is not the one at x and has its pair of name and ID
-unfoldable pub twinOf : List ℕ → ℕ → ℕ → Bool
-twinOf s x y = passes ((typeAt s y ≡? metadataType) ∷ (x ≢? y) ∷ is (sameKey s x y) ∷ [])
-
-unfoldable pub hasTwin : List ℕ → ℕ → Bool
-hasTwin s x = some (λ y. passes ((x ≢? y) ∷ is (sameKey s x y) ∷ [])) (recordsOf s metadataType)
-
--- a metadata record that has one
-unfoldable pub doubled : List ℕ → ℕ → Bool
-doubled s x = passes ((typeAt s x ≡? metadataType) ∷ is (hasTwin s x) ∷ [])
 
 -- a list fits its record, every record of its type is listed once, and nothing else is
 unfoldable pub listRight : List ℕ → ListKind → Bool

@@ -4,7 +4,7 @@ use native.Mathlib.Omega.{arith}
 use mathlib.Core.Path.{sym, _∙_}
 use Rattle.answer.specs.declared.Cell.the-variants as cell
 use Rattle.cells.specs.inner.Lookups.{lookedUp}
-use Rattle.cells.specs.Routes.{foundBy}
+use Rattle.tile_routes.specs.Ways.{foundBy}
 use Rattle.cells.proofs.CellLaws.{grid-means, sides-mean, tile-small}
 use Rattle.cells.proofs.ReadLaws.{guarded-outside, guarded-unlawful, looked-found}
 use Rattle.cells.proofs.lookups.look_up.Statement.{statement}

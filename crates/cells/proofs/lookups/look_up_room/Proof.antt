@@ -3,7 +3,7 @@ use native.Mathlib.Omega.{arith}
 use mathlib.Core.Path.{refl, sym, _∙_}
 use Rattle.answer.specs.declared.Held.the-variants as held
 use Rattle.cells.specs.inner.Lookups.{lookedTile}
-use Rattle.cells.specs.Routes.{foundBy}
+use Rattle.tile_routes.specs.Ways.{foundBy}
 use Rattle.cells.proofs.CellLaws.{tiles-mean, sides-mean, count-small}
 use Rattle.cells.proofs.HeldLaws.{refused-keeps}
 use Rattle.cells.proofs.ReadLaws.{guarded-outside, guarded-unlawful, tile-looked}

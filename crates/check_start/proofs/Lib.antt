@@ -1,0 +1,3 @@
+pub mod StartLaws
+pub mod StartAgrees
+pub mod StartSamples

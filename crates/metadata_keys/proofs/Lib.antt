@@ -1,0 +1,5 @@
+pub mod PairLaws
+pub mod TwinLaws
+pub mod OrderLaws
+pub mod SortLaws
+pub mod KeyLaws

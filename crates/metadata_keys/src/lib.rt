@@ -1,0 +1,2 @@
+// Whether metadata records have distinct pairs of name and ID.
+pub mod keys;

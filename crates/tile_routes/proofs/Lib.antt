@@ -1,0 +1,2 @@
+pub mod WayLaws
+pub mod WayReads
