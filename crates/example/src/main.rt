@@ -2,6 +2,8 @@
 //
 // A product above the store: it judges rectangles of the page that its first argument names, and prints what the page is and some of its
 // elements, cells and contents. It lists the crates `deeds`, `store` and `answer`, and none below them.
+#![tactic(auto)]
+
 ghost use Rattle.std.specs.Prelude.{◌≡◌};
 ghost use Rattle.store.specs.Face.{read_meaning};
 ghost use Rattle.deeds.specs.Deeds.{deed};

@@ -4,6 +4,8 @@
 // 32,768 bytes, and nothing is printed of a longer one. That none is longer is counted, not proved: a tile record that passes stage 8
 // has at least 24 bytes and its line at most 6, so 65,536 bytes give less than 16,400 bytes of such lines, and the four lines before
 // them have less than 200.
+#![tactic(auto)]
+
 use libc::STDOUT_FILENO;
 
 // Room for a file that is listed and one byte more, and for its text.

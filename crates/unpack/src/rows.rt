@@ -13,21 +13,21 @@ use crate::values::{cell_or, fill, fill_from, in_range, put_bits, put_of_tile};
 use m32::Found;
 
 // A row that was made: the bit behind its numbers, and how many bytes their codes have.
-#[derive(Drop)]
+#[derive(Clone, Copy)]
 pub enum Made {
     Row { pos: usize, bytes: usize },
     Bad,
 }
 
 // A tile whose rows were all made: how many bytes the codes of its numbers have, and the cell that was asked for.
-#[derive(Drop)]
+#[derive(Clone, Copy)]
 pub enum Tile {
     Done { bytes: usize, value: u32 },
     Bad,
 }
 
 // What is to be made: by which predictor, whether of Shorts, how many rows and cells, and which cell is asked for.
-#[derive(Drop)]
+#[derive(Clone, Copy)]
 pub struct Plan {
     pub predictor: u32,
     pub short: bool,
