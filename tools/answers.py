@@ -23,7 +23,7 @@ def blocks(text):
     out, cur = [], []
     for line in text.split("\n"):
         if line and not line[0].isspace():
-            opener = re.match(r"(abbrev |unfoldable |pub )*(\S+) :( |$)", line) or line.startswith(("use ", "--", "record", "data", "pub record", "pub data", "module"))
+            opener = re.match(r"(abbrev |unfoldable |pub )*(\S+) :( |$)", line) or line.startswith(("use ", "--", "record ", "data ", "pub record ", "pub data ", "module "))
             if opener and cur:
                 out.append("\n".join(cur).rstrip())
                 cur = []
@@ -181,6 +181,14 @@ class Function:
             for var, step in row:
                 self.typed[step] = self.typed[dashed(step)] = var
         self.goals = names["needs"]
+        # what a pattern binds: old step and path, then today's step and field
+        self.arms = {}
+        for arm in names["arms"]:
+            if arm:
+                for field, step, path in arm[2]:
+                    if path:
+                        for s in (step, dashed(step)):
+                            self.arms.setdefault((s, ".".join(path)), f"{arm[0]}.{field}")
 
     def fail(self, why):
         self.said.append(f"{self.file}: {why}")
@@ -193,12 +201,24 @@ class Function:
 
         def one(m):
             head, step, rest = m[1], m[2], m[3] or ""
+            if rest.startswith(".given"):
+                path = rest[1:].split(".")
+                for k in range(len(path), 0, -1):
+                    found = self.arms.get((step, ".".join(path[:k])))
+                    if found:
+                        return f"{head}.{found}" + "".join("." + it for it in path[k:])
+                if step in self.typed and rest == ".given":
+                    return f"{head}.type_inv.{self.typed[step]}"
+                if re.search(r"(known|told)", step) or any(s == step for s, _ in self.arms):
+                    return "(search rules)"
             if step in self.typed and rest == ".given":
                 return f"{head}.type_inv.{self.typed[step]}"
             return f"{head}.{self.steps.get(step, step)}{rest}"
 
         # heads: c, w and what is bound to them
-        term = re.sub(r"(?<![\w.'-])([a-z][\w₀-₉']*)\.([^\s(){}\[\],;.]+)(\.given(?![\w-]))?", lambda m: one(m) if m[2] in self.steps or m[2] in self.typed else m[0], term)
+        term = re.sub(r"(?<![\w.'-])([a-z][\w₀-₉']*)\.([^\s(){}\[\],;.]+)(\.given(?![\w-])(?:\.[01])*)?", lambda m: one(m) if m[2] in self.steps or m[2] in self.typed else m[0], term)
+        # a test of `!x` is of the whole now
+        term = re.sub(r"(?<![\w.'-])([a-z][\w₀-₉']*\.if-not-[^\s(){}\[\],;.]+\.(true|false))(?![\w'-])", lambda m: f"(not_from_{'false' if m[2] == 'true' else 'true'} _ {m[1]})", term)
         # clauses go by name
         for step, callee in self.callee.items():
             labels = self.labels.get(callee, ((), ()))[1]
@@ -293,9 +313,11 @@ class Function:
             if c == "_":
                 c = "c"
             body = self.renamed(body.strip())
+            more = " ".join(k for k in ks if k != "κs")
+            c = f"{c} {more}".strip()
             for k in ks:
-                if k != "_":
-                    body = re.sub(rf"(?<![\w.'-]){re.escape(k)}(?![\w'-])", f"{c}.lifetimes", body)
+                if k == "κs":
+                    body = re.sub(rf"(?<![\w.'-]){re.escape(k)}(?![\w'-])", f"{binders[0]}.lifetimes", body)
             trivial = lambda t: re.sub(r"\s+", " ", t.strip("() ")) in ("search rules", "search rules ", "omega arith")
             labels = self.names["asked"].get(old)
             if trivial(body) and (not extra or not goal.startswith("returns")):
@@ -358,6 +380,9 @@ class Function:
 
         def imports(body):
             out = []
+            nots = [it for it in ("not_from_true", "not_from_false") if f"({it} _" in body]
+            if nots:
+                out.append(f"use Rattle.std.proofs.lemmas.Bool.{{{', '.join(nots)}}}")
             for u in uses:
                 m = re.match(r"use (\S+?)\.\{(.*)\}$", u)
                 if not m:
