@@ -1,6 +1,5 @@
 -- `utf8::is_utf8` meets its contract: what is wanted, and the bytes that are still to come, give the whole. Assumes nothing.
 use native.Mathlib.Omega.{arith}
-use Prim.Native.Nat.{◌-◌}
 use mathlib.Core.Path.{◌∙◌}
 use Rattle.utf8.specs.inner.Wanted.{wanted}
 use Rattle.utf8.proofs.StepLaws.{loop_begin, loop_step, loop_yes, loop_no}

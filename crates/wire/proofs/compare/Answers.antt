@@ -1,6 +1,5 @@
 -- `wire::compare` meets its contract. The loop's invariant: the lengths are equal, and the first i pairs agree. Assumes nothing.
 use native.Mathlib.Omega.{arith}
-use Prim.Native.Nat.{◌-◌}
 use Rattle.wire.specs.Bytes.{byte_at}
 use Rattle.wire.proofs.ByteLaws.{same_none, same_more, same_whole}
 use Rattle.wire.proofs.CompareLaws.{told_none, told_all, told_first}

@@ -1,7 +1,6 @@
 -- `record::chain::records_end` meets its contract. Assumes nothing.
 use borrow.Author.Rules.{rules}
-use Prim.Native.Nat.{◌-◌}
-use Rattle.record.specs.Chain.{header_end, records_end, records}
+use Rattle.record.specs.Chain.{records_end, records}
 use Rattle.record.proofs.SeekLaws.{ending, ending_begin}
 use Rattle.record.proofs.chain.records_end.Goals as goal
 

@@ -1,7 +1,6 @@
 -- `wire::writing::put_bytes` meets its contract. Assumes nothing.
 use borrow.Author.Rules.{rules}
 use native.Mathlib.Omega.{arith}
-use Prim.Native.Nat.{◌-◌}
 use mathlib.Core.Path.{sym, ◌∙◌}
 use lib.ListN.{length-set}
 use Rattle.wire.proofs.PutLaws.{put_not, pasted_none, pasted_more, pasted_all}

@@ -3,7 +3,6 @@ use Rattle.wire.proofs.ByteLaws.{zeros_length}
 use Rattle.wire.proofs.PutLaws.{put_out, zeros_all, zeros_none, zeros_put_more}
 use lib.ListN.{length-set}
 use borrow.Author.Rules.{rules}
-use Prim.Native.Nat.{◌-◌}
 use native.Mathlib.Omega.{arith}
 use Rattle.wire.proofs.writing.put_zeros.Goals as goal
 
