@@ -1,5 +1,7 @@
 // What benches/ measures and the C interface does not offer: the look-up that does not repeat the check, the storing of a tile that does
 // not, and the checksum by itself.
+#![tactic(auto)]
+
 ghost use Rattle.std.specs.Prelude.{◌≡◌};
 ghost use Rattle.answer.specs.Answers.{cell_bits, laid_number};
 ghost use Rattle.bodies.specs.TileDirectory.{tile_directory_at};

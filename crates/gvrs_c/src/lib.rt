@@ -1,4 +1,6 @@
 // The C interface: what a C program calls, declared in include/gvrs.h. A slice is a pointer and a count of elements.
+#![tactic(auto)]
+
 mod compare;
 mod correction;
 mod deed;
