@@ -8,9 +8,11 @@ ghost use Rattle.std.specs.Prelude.{◌≡◌};
 ghost use Rattle.store.specs.Face.{read_meaning};
 ghost use Rattle.deeds.specs.Deeds.{deed};
 
-use answer::{Cell, Content, Location, Lookup, Refusal};
+use answer::{Cell, Content, Location, Lookup, Refusal, Value};
 use deeds::{Deed, Grade, Lowest};
-use libc::STDOUT_FILENO;
+use std::io::Read;
+use std::rt::Files;
+use std::{env, fs, io};
 use store::description;
 use store::description::{Described, Specified};
 
@@ -30,42 +32,30 @@ fn judged(file: &[u8], row: u64, column: u64, rows: u64, columns: u64) -> Deed
     deeds::judge(file, 256, 0, row, column, rows, columns, &mut memory)
 }
 
-fn print(text: &[u8], number: u64) {
-    io::write_all(STDOUT_FILENO, text);
-    io::print_decimal(STDOUT_FILENO, number);
+fn print_refusal(rt: &impl Print, r: Refusal) -> io::Result<()> {
+    let number = answer::refusal_number(r);
+    let place = answer::refusal_place(r);
+    println!(rt; "refused {number} at {place}")
 }
 
-fn print_refusal(r: Refusal) {
-    print(b"refused ", answer::refusal_number(r) as u64);
-    print(b" at ", answer::refusal_place(r) as u64);
-}
-
-fn print_grade(x: Grade) {
+fn grade_word(x: Grade) -> &'static str {
     match x {
-        Grade::Certain => {
-            io::write_all(STDOUT_FILENO, b"certain");
-        }
-        Grade::Doubtful => {
-            io::write_all(STDOUT_FILENO, b"doubtful");
-        }
-        Grade::Unread => {
-            io::write_all(STDOUT_FILENO, b"unread");
-        }
+        Grade::Certain => "certain",
+        Grade::Doubtful => "doubtful",
+        Grade::Unread => "unread",
     }
 }
 
 // The lowest score by its bits.
-fn print_lowest(x: Lowest) {
+fn print_lowest(rt: &impl Print, x: Lowest) -> io::Result<()> {
     match x {
-        Lowest::Score(z) => print(b", lowest ", answer::bits_16(z) as u64),
-        Lowest::None => {
-            io::write_all(STDOUT_FILENO, b", no score");
-        }
+        Lowest::Score(z) => print!(rt; ", lowest {}", answer::bits_16(z)),
+        Lowest::None => print!(rt; ", no score"),
     }
 }
 
-fn print_deed(label: &[u8], x: Deed) {
-    io::write_all(STDOUT_FILENO, label);
+fn print_deed(rt: &impl Print, label: &str, x: Deed) -> io::Result<()> {
+    print!(rt; "scores of {label}: ")?;
     match x {
         Deed::Graded {
             rule,
@@ -73,34 +63,32 @@ fn print_deed(label: &[u8], x: Deed) {
             fills,
             lowest,
         } => {
-            print_grade(grade);
-            print(b", fills ", fills);
-            print_lowest(lowest);
-            print(b", scale ", answer::bits_16(rule.scale) as u64);
+            print!(rt; "{}, fills {fills}", grade_word(grade))?;
+            print_lowest(rt, lowest)?;
+            println!(rt; ", scale {}", answer::bits_16(rule.scale))
         }
-        Deed::Refused(r) => print_refusal(r),
+        Deed::Refused(r) => print_refusal(rt, r),
     }
-    io::write_all(STDOUT_FILENO, b"\n");
 }
 
 // The tiles of the page, and where its header ends.
-fn print_tiles(label: &[u8], file: &[u8]) {
-    io::write_all(STDOUT_FILENO, label);
+fn print_tiles(rt: &impl Print, file: &[u8]) -> io::Result<()> {
+    print!(rt; "tiles: ")?;
     match description::describe(file) {
         Described::Page(x) => {
-            print(b"down ", x.tiles_down as u64);
-            print(b", across ", x.tiles_across as u64);
-            print(b", bytes in each ", x.tile_bytes);
-            print(b", behind a front of ", x.front as u64);
+            print!(rt; "down {}, across {}", x.tiles_down, x.tiles_across)?;
+            println!(rt;
+                ", bytes in each {}, behind a front of {}",
+                x.tile_bytes, x.front
+            )
         }
-        Described::Refused(r) => print_refusal(r),
+        Described::Refused(r) => print_refusal(rt, r),
     }
-    io::write_all(STDOUT_FILENO, b"\n");
 }
 
 // What an element is.
-fn print_specification(label: &[u8], file: &[u8], e: u64) {
-    io::write_all(STDOUT_FILENO, label);
+fn print_specification(rt: &impl Print, file: &[u8], e: u64) -> io::Result<()> {
+    print!(rt; "element {e}: ")?;
     match description::specify(file, e) {
         Specified::Element {
             kind,
@@ -110,123 +98,132 @@ fn print_specification(label: &[u8], file: &[u8], e: u64) {
             unit,
             unit_length,
         } => {
-            print(b"type ", kind as u64);
-            print(b", fill ", fill as u64);
-            print(b", name at ", name as u64);
-            print(b", bytes ", name_length as u64);
-            print(b", unit at ", unit as u64);
-            print(b", bytes ", unit_length as u64);
+            print!(rt; "type {kind}, fill {fill}, name at {name}, bytes {name_length}")?;
+            println!(rt; ", unit at {unit}, bytes {unit_length}")
         }
-        Specified::Refused(r) => print_refusal(r),
+        Specified::Refused(r) => print_refusal(rt, r),
     }
-    io::write_all(STDOUT_FILENO, b"\n");
 }
 
 // The number of the element with a name.
-fn print_element(label: &[u8], file: &[u8], name: &[u8]) {
-    io::write_all(STDOUT_FILENO, label);
-    match store::find_element(file, name) {
-        Lookup::Number(e) => print(b"number ", e as u64),
-        Lookup::Absent => {
-            io::write_all(STDOUT_FILENO, b"absent");
-        }
-        Lookup::Refused(r) => print_refusal(r),
+fn print_element(rt: &impl Print, file: &[u8], name: &str) -> io::Result<()> {
+    print!(rt; "element {name}: ")?;
+    match store::find_element(file, name.as_bytes()) {
+        Lookup::Number(e) => println!(rt; "number {e}"),
+        Lookup::Absent => println!(rt; "absent"),
+        Lookup::Refused(r) => print_refusal(rt, r),
     }
-    io::write_all(STDOUT_FILENO, b"\n");
+}
+
+// A value by its bits.
+fn print_value(rt: &impl Print, label: &str, value: Value) -> io::Result<()> {
+    print!(rt; "{label} {}", answer::value_bits(value))
 }
 
 // The tile of a cell, and the cell's number inside it.
-fn print_location(x: Location) {
-    print(b", tile ", x.tile);
-    print(b", number ", x.inside);
+fn print_location(rt: &impl Print, x: Location) -> io::Result<()> {
+    println!(rt; ", tile {}, number {}", x.tile, x.inside)
 }
 
-// A value by its bits, and a refusal by its number.
-fn print_cell(label: &[u8], x: Cell) {
-    io::write_all(STDOUT_FILENO, label);
+fn print_cell(rt: &impl Print, label: &str, x: Cell) -> io::Result<()> {
+    print!(rt; "cell {label}: ")?;
     match x {
         Cell::Stored {
             value,
             place,
             location,
         } => {
-            print(b"stored ", answer::value_bits(value) as u64);
-            print(b" at ", place as u64);
-            print_location(location);
+            print_value(rt, "stored", value)?;
+            print!(rt; " at {place}")?;
+            print_location(rt, location)
         }
         Cell::Unpacked {
             value,
             place,
             location,
         } => {
-            print(b"unpacked ", answer::value_bits(value) as u64);
-            print(b" at ", place as u64);
-            print_location(location);
+            print_value(rt, "unpacked", value)?;
+            print!(rt; " at {place}")?;
+            print_location(rt, location)
         }
         Cell::Fill { value, location } => {
-            print(b"fill ", answer::value_bits(value) as u64);
-            print_location(location);
+            print_value(rt, "fill", value)?;
+            print_location(rt, location)
         }
-        Cell::Refused(r) => print_refusal(r),
+        Cell::Refused(r) => print_refusal(rt, r),
     }
-    io::write_all(STDOUT_FILENO, b"\n");
 }
 
 // The content of element 0 in a tile is a part of the file itself, with nothing copied. Whether it is there is asked apart.
-fn print_content(label: &[u8], file: &[u8], tile: u64) {
-    io::write_all(STDOUT_FILENO, label);
+fn print_content(rt: &impl Print, file: &[u8], tile: u64) -> io::Result<()> {
+    print!(rt; "content of tile {tile}: ")?;
     match store::reads::content_at(file, 0, tile, 0) {
         Content::Present { start, length: _ } => {
-            print(b"present at ", start as u64);
-            print(b", bytes ", store::content_of(file, tile, 0).len() as u64);
+            let bytes = store::content_of(file, tile, 0).len();
+            println!(rt; "present at {start}, bytes {bytes}")
         }
-        Content::Absent => {
-            io::write_all(STDOUT_FILENO, b"absent");
-        }
-        Content::Refused(r) => print_refusal(r),
+        Content::Absent => println!(rt; "absent"),
+        Content::Refused(r) => print_refusal(rt, r),
     }
-    io::write_all(STDOUT_FILENO, b"\n");
 }
 
-fn print_deeds(file: &[u8]) {
-    print_deed(b"scores of tile 2 in the grid: ", judged(file, 2, 0, 1, 2));
-    print_deed(b"scores of the whole grid: ", judged(file, 0, 0, 3, 3));
-    print_deed(b"scores of tile 0: ", judged(file, 0, 0, 2, 2));
-    print_deed(b"scores of a row more: ", judged(file, 0, 0, 4, 3));
-    print_deed(b"scores of no row: ", judged(file, 3, 0, 0, 3));
+fn print_deeds(rt: &impl Print, file: &[u8]) -> io::Result<()> {
+    print_deed(rt, "tile 2 in the grid", judged(file, 2, 0, 1, 2))?;
+    print_deed(rt, "the whole grid", judged(file, 0, 0, 3, 3))?;
+    print_deed(rt, "tile 0", judged(file, 0, 0, 2, 2))?;
+    print_deed(rt, "a row more", judged(file, 0, 0, 4, 3))?;
+    print_deed(rt, "no row", judged(file, 3, 0, 0, 3))
 }
 
-fn print_page(file: &[u8]) {
-    print_tiles(b"tiles: ", file);
-    print_specification(b"element 0: ", file, 0);
-    print_specification(b"element 1: ", file, 1);
-    print_element(b"element z: ", file, b"z");
-    print_element(b"element Z: ", file, b"Z");
-    print_cell(b"cell 2 1 by the directory: ", cell(file, 2, 1, false));
-    print_cell(b"cell 2 1 by the walk: ", cell(file, 2, 1, true));
+fn print_page(rt: &impl Print, file: &[u8]) -> io::Result<()> {
+    print_tiles(rt, file)?;
+    print_specification(rt, file, 0)?;
+    print_specification(rt, file, 1)?;
+    print_element(rt, file, "z")?;
+    print_element(rt, file, "Z")?;
+    print_cell(rt, "2 1 by the directory", cell(file, 2, 1, false))?;
+    print_cell(rt, "2 1 by the walk", cell(file, 2, 1, true))?;
     // An opened page may hold any two positions beside the bytes and the index, as 1 and 2 here. It answers the same.
     let held = store::reads::read_from(file, 256, 1, 2, 2, 1, 0, true);
-    print_cell(b"cell 2 1 on a page that holds wrong numbers: ", held);
-    print_cell(b"cell 0 0 by the directory: ", cell(file, 0, 0, false));
-    print_cell(b"cell 0 0 by the walk: ", cell(file, 0, 0, true));
-    print_cell(b"cell 3 0: ", cell(file, 3, 0, false));
-    print_content(b"content of tile 2: ", file, 2);
-    print_content(b"content of tile 0: ", file, 0);
-    print_content(b"content of tile 4: ", file, 4);
+    print_cell(rt, "2 1 on a page that holds wrong numbers", held)?;
+    print_cell(rt, "0 0 by the directory", cell(file, 0, 0, false))?;
+    print_cell(rt, "0 0 by the walk", cell(file, 0, 0, true))?;
+    print_cell(rt, "3 0", cell(file, 3, 0, false))?;
+    print_content(rt, file, 2)?;
+    print_content(rt, file, 0)?;
+    print_content(rt, file, 4)
 }
 
-// Of a file that is longer than the buffer the first 65,536 bytes are read.
-fn main() {
-    let mut path = io::buffer();
-    let length = os::arg(1, &mut path);
-    let fd = os::open_read(&path[..length]);
-    if fd < 0 {
-        os::fail(&path[..length]);
-        return;
+// Of a file that is longer the first 65,536 bytes are read.
+const MOST_READ: u64 = 65536;
+
+fn read_file<R: Files + AllocGlobal>(rt: &R, path: &str) -> io::Result<Vec<u8>> {
+    let mut file = Vec::new(rt.alloc());
+    fs::open(rt, path)?.take(MOST_READ).read_to_end(&mut file)?;
+    Ok(file)
+}
+
+// Says why the file cannot be read, in the system's words without their number.
+fn complain<R: Eprint + AllocGlobal>(rt: &R, path: &str, error: io::Error) -> io::Result<()> {
+    let said = format!(in rt.alloc(); "{error}")?;
+    let words = match said.as_str().split_once(" (os error ") {
+        Some((words, _)) => words,
+        None => said.as_str(),
+    };
+    eprintln!(rt; "{path}: {words}")
+}
+
+// No argument is the empty name, which no file has.
+fn main(rt: HostRuntime) -> io::Result<()> {
+    let path = match env::args(&rt)?.nth(1) {
+        Some(path) => path,
+        None => String::new(rt.alloc()),
+    };
+    match read_file(&rt, path.as_str()) {
+        Ok(file) => {
+            print_deeds(&rt, file.as_slice())?;
+            print_page(&rt, file.as_slice())
+        }
+        Err(error) => complain(&rt, path.as_str(), error),
     }
-    let mut file = io::large_buffer();
-    let n = io::read_full(fd, &mut file);
-    libc::close(fd);
-    print_deeds(&file[..n]);
-    print_page(&file[..n]);
 }

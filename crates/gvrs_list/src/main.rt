@@ -6,76 +6,51 @@
 // them have less than 200.
 #![tactic(auto)]
 
-use libc::STDOUT_FILENO;
+use std::io::Read;
+use std::rt::Files;
+use std::{env, fs, io};
 
-// Room for a file that is listed and one byte more, and for its text.
-const FILE_ROOM: usize = listing::MOST_LISTED + 1;
+// A file that is listed, and one byte more.
+const MOST_READ: usize = listing::MOST_LISTED + 1;
 
 const TEXT_ROOM: usize = 32768;
 
-// What a failed read answers: more than any buffer here holds. Every number up to 65,537 is a count that can come about, so one number
-// goes round the loop. A failed read is told apart before anything is listed: a part of a file is never listed as the file.
-const FAILED: usize = FILE_ROOM + 1;
-
-// Each read but the last adds a byte at least, so a full buffer is reached before these are used up.
-const TURNS: usize = FILE_ROOM + 1;
-
-// Reads once, behind the bytes that are there, and answers how many are there then: no more at the end of the file.
-fn read_some(fd: i32, buf: &mut [u8], done: usize) -> usize {
-    if buf.len() <= done {
-        return done;
-    }
-    let rest = &mut buf[done..];
-    let got = libc::read(fd, rest);
-    if got < 0 {
-        return FAILED;
-    }
-    done + io::count(got, rest)
-}
-
-// Reads to the end of the file or of the buffer.
-fn read_all(fd: i32, buf: &mut [u8]) -> usize {
-    let mut done = 0;
-    let mut turns = TURNS;
-    while turns > 0 {
-        let now = read_some(fd, buf, done);
-        if now == done {
-            return done;
-        }
-        done = now;
-        turns -= 1;
-    }
-    done
+// Reads to the end of the file, or as many bytes as are needed. A failed read is told apart before anything is listed: a part of a file
+// is never listed as the file.
+fn read_file<R: Files + AllocGlobal>(rt: &R, path: &str) -> io::Result<Vec<u8>> {
+    let mut file = Vec::new(rt.alloc());
+    fs::open(rt, path)?
+        .take(MOST_READ as u64)
+        .read_to_end(&mut file)?;
+    Ok(file)
 }
 
 // Prints the listing of the bytes.
-fn print_listing(file: &[u8]) {
+fn print_listing(rt: &impl Print, file: &[u8]) -> io::Result<()> {
     let mut text = [0u8; TEXT_ROOM];
     let n = listing::list(file, &mut text);
     if TEXT_ROOM < n {
-        return;
+        return Ok(());
     }
-    io::write_all(STDOUT_FILENO, &text[..n]);
+    rt.write_all(&text[..n])
 }
 
-fn main() {
-    let mut path = io::buffer();
-    let length = os::arg(1, &mut path);
-    if os::errno() != 0 {
-        os::fail(b"gvrs_list: the name of one file is needed");
-        return;
+// Says why the file cannot be read, in the system's words without their number.
+fn complain<R: Eprint + AllocGlobal>(rt: &R, path: &str, error: io::Error) -> io::Result<()> {
+    let said = format!(in rt.alloc(); "{error}")?;
+    let words = match said.as_str().split_once(" (os error ") {
+        Some((words, _)) => words,
+        None => said.as_str(),
+    };
+    eprintln!(rt; "{path}: {words}")
+}
+
+fn main(rt: HostRuntime) -> io::Result<()> {
+    let Some(path) = env::args(&rt)?.nth(1) else {
+        return eprintln!(rt; "gvrs_list: the name of one file is needed: Invalid argument");
+    };
+    match read_file(&rt, path.as_str()) {
+        Ok(file) => print_listing(&rt, file.as_slice()),
+        Err(error) => complain(&rt, path.as_str(), error),
     }
-    let fd = os::open_read(&path[..length]);
-    if fd < 0 {
-        os::fail(&path[..length]);
-        return;
-    }
-    let mut file = [0u8; FILE_ROOM];
-    let n = read_all(fd, &mut file);
-    if FILE_ROOM < n {
-        os::fail(&path[..length]);
-        return;
-    }
-    print_listing(&file[..n]);
-    libc::close(fd);
 }
