@@ -172,6 +172,10 @@ class Function:
         for _, _, (old, new), callee, _ in names["places"]:
             if old:
                 steps[old] = steps[dashed(old)] = new
+                # what the respelling made of a step that was called as a lemma or a predicate
+                steps.setdefault(old + "_lem", new)
+                if old.startswith("is_"):
+                    steps.setdefault("is_Is" + "".join(w.capitalize() for w in old[3:].split("_")), new)
         for (old, new), _ in names["loops"]:
             steps[old] = steps[dashed(old)] = new
         self.steps = steps
