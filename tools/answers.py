@@ -350,7 +350,7 @@ class Function:
                     mm = re.compile(r"let\s").match(body, pos)
                     if not mm:
                         break
-                    depth, i, found = 0, pos, None
+                    depth, i, found = 0, pos + 3, None
                     while i < len(body):
                         if body[i] in "([{":
                             i = matching(body, i)
