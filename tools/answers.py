@@ -176,9 +176,11 @@ class Function:
                 steps.setdefault(old + "_lem", new)
                 if old.startswith("is_"):
                     steps.setdefault("is_Is" + "".join(w.capitalize() for w in old[3:].split("_")), new)
+                steps.setdefault(dashed(old)[:1].upper() + dashed(old)[1:], new)
         for (old, new), _ in names["loops"]:
             steps[old] = steps[dashed(old)] = new
         self.steps = steps
+        self.params = names.get("params", {})
         self.callee = {new: callee for _, _, (old, new), callee, _ in names["places"] if callee}
         self.typed = {}
         for row in names["typed"]:
@@ -223,6 +225,16 @@ class Function:
         term = re.sub(r"(?<![\w.'-])([a-z][\w₀-₉']*)\.([^\s(){}\[\],;.]+)(\.given(?![\w-])(?:\.[01])*)?", lambda m: one(m) if m[2] in self.steps or m[2] in self.typed else m[0], term)
         # a test of `!x` is of the whole now
         term = re.sub(r"(?<![\w.'-])([a-z][\w₀-₉']*\.if-not-[^\s(){}\[\],;.]+\.(true|false))(?![\w'-])", lambda m: f"(not_from_{'false' if m[2] == 'true' else 'true'} _ {m[1]})", term)
+        # what a call leaves in an argument goes by the argument's name
+        for step, callee in self.callee.items():
+            ps = self.params.get(callee)
+            if ps:
+
+                def named(m, ps=ps):
+                    i = m[2].count(".1")
+                    return f"{m[1]}.{ps[i]}" if i < len(ps) else m[0]
+
+                term = re.sub(rf"(?<![\w.'-])([a-z][\w₀-₉']*\.{re.escape(step)}\.(?:auto|new))((?:\.1)*\.0)(?![\w.'-])", named, term)
         # clauses go by name
         for step, callee in self.callee.items():
             labels = self.labels.get(callee, ((), ()))[1]
