@@ -182,6 +182,12 @@ class Function:
         self.steps = steps
         self.params = names.get("params", {})
         self.callee = {new: callee for _, _, (old, new), callee, _ in names["places"] if callee}
+        # of a callee in the library, the names of its clauses
+        self.fields = {
+            place[2][1]: it["fields"]
+            for place, it in zip(names["places"], names.get("clauses") or [])
+            if place[3] and it and it.get("fields") and place[3] not in self.labels
+        }
         self.typed = {}
         for row in names["typed"]:
             for var, step in row:
@@ -237,7 +243,7 @@ class Function:
                 term = re.sub(rf"(?<![\w.'-])([a-z][\w₀-₉']*\.{re.escape(step)}\.(?:auto|new))((?:\.1)*\.0)(?![\w.'-])", named, term)
         # clauses go by name
         for step, callee in self.callee.items():
-            labels = self.labels.get(callee, ((), ()))[1]
+            labels = self.labels.get(callee, ((), self.fields.get(step, ())))[1]
             if labels and (len(labels) > 1 or labels[0]):
                 term = re.sub(
                     rf"(?<![\w.'-])([a-z][\w₀-₉']*\.{re.escape(step)}\.ensures)((?:\.[01])*)(?![\w.'-])",
