@@ -88,6 +88,8 @@ def parts_of(text):
             start = i + 1
         i += 1
     out.append(inside[start:])
+    if not out[-1].strip():
+        out.pop()
     # a let or a lambda swallows the commas behind it only inside brackets
     if len(out) > 1 and re.match(r"\s*(let|λ|rw|simp|elim|omega|search|grind)\b", out[0]) and re.match(r"\s*(let|λ)\b", out[0]):
         return None
