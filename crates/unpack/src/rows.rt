@@ -9,7 +9,7 @@ ghost use Rattle.unpack.specs.Steps.{Lined, Rowed, Few, Tiled, Answered};
 use crate::Unpacked;
 use crate::head::{count_right, head_right, read_root};
 use crate::reading::{Behind, number_at};
-use crate::values::{cell_or, fill, fill_from, in_range, put_bits, put_of_tile};
+use crate::values::{cell_or, clear, fill_from, in_range, put_bits, put_of_tile};
 use m32::Found;
 
 // A row that was made: the bit behind its numbers, and how many bytes their codes have.
@@ -191,7 +191,7 @@ fn unpack_tile(
     requires shape { (length above.old ≡ length row.old) × ((plan.cells ≡ plan.rows * length row.old) × (plan.predictor ≡ predictor_of c.now)) }
     ensures { (t : Tree) → Nodes nodes.now 0 t → tree_in c.now ≡ got t start → tree_right c.now ≡ true → Answered (unpacked c.now plan.rows (length row.old) plan.short) plan.inside out.old out.new result }
 {
-    fill(above, 0);
+    clear(above);
     row[0] = wire::u32_at(c, 2);
     match all_rows(c, nodes, plan, start, above, row, out) {
         Tile::Bad => Unpacked::Malformed,
