@@ -91,7 +91,7 @@ def parts_of(text):
     if not out[-1].strip():
         out.pop()
     # a let or a lambda swallows the commas behind it only inside brackets
-    if len(out) > 1 and re.match(r"\s*(let|λ|rw|simp|elim|omega|search|grind)\b", out[0]) and re.match(r"\s*(let|λ)\b", out[0]):
+    if len(out) > 1 and re.match(r"\s*(let|λ|rw|simp|elim|omega|search|grind)\b", out[0]) and re.match(r"\s*let\b", out[0]):
         return None
     return [it.strip() for it in out] if len(out) > 1 else None
 
@@ -357,6 +357,11 @@ class Function:
                     continue
                 if trivial(body):
                     out_ans.append(f"pub {goal} : goal.{goal}{put_extra}\n{goal} {c} = {body}")
+                    continue
+                if re.match(r"(search|omega|grind|cc)\b", body):
+                    # one tactic, asked for each
+                    for label in labels:
+                        out_ans.append(f"pub {goal}-clause-{label} : goal.{goal}-clause-{label}{put_extra}\n{goal}-clause-{label} {c} = {body}")
                     continue
                 # one term for all the clauses
                 proj = lambda i, n: ".1" * i + (".0" if i < n - 1 else "")
