@@ -109,6 +109,33 @@ def flat(text, n):
     return parts if parts and len(parts) == n else None
 
 
+def inlined(term):
+    """The term with `let x = (c.f.ensures.a, c.f.ensures.b) in` gone, and its parts where `x.0` or `x.1` stood."""
+    pos = 0
+    while True:
+        m = re.compile(r"(?<![\w'-])let ([\w'₀-₉]+) = (?=\(c\.)").search(term, pos)
+        if not m:
+            return term
+        pos = m.end()
+        end = matching(term, pos)
+        close = re.compile(r"\s+in(?=\s)\s*").match(term, end)
+        if not close or not re.fullmatch(r"[\w\s.,()'₀-₉-]+", term[pos:end]) or re.search(r"[^\s,]\s+[^\s]", re.sub(r",\s+", ",", term[pos:end])):
+            continue
+        whole, rest = term[pos:end], term[close.end() :]
+
+        def part(u, whole=whole):
+            t, path = whole, u[1] or ""
+            while path:
+                ps = parts_of(t)
+                if not ps or len(ps) != 2:
+                    break
+                t, path = ps[int(path[1])], path[2:]
+            return t + path
+
+        term = term[: m.start()] + re.sub(rf"(?<![\w.'-]){re.escape(m[1])}((?:\.[01])*)(?![\w'-])", part, rest)
+        pos = m.start()
+
+
 def dashed(name):
     return name.replace("_", "-")
 
@@ -336,7 +363,7 @@ class Function:
             c = binders[0] if binders else "c"
             if c == "_":
                 c = "c"
-            body = self.renamed(body.strip())
+            body = inlined(self.renamed(body.strip()))
             more = " ".join(k for k in ks if k != "κs")
             c = f"{c} {more}".strip()
             for k in ks:
