@@ -37,7 +37,6 @@ struct request {
     uint64_t time;        /* milliseconds since 1970 */
     uint64_t wait;        /* seconds; 0 where none are given */
     int quiet;
-    int why;              /* whether the rule is said below a refusal */
     int all;              /* whether all that a page says of itself is shown */
     int each;             /* whether several files are checked */
     int partial;          /* whether a replay that stops is written */
