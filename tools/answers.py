@@ -301,6 +301,8 @@ class Function:
                     lambda m, labels=labels: projected(m[1], labels, m[2]),
                     term,
                 )
+        # no record, in a chain's step
+        term = re.sub(r"(?<![\w.'-])(c\.in_default[\w-]*)\.keys\d*", r"(tag_other _ \1.not-Record)", term)
         labels = self.labels.get(f"{self.name}::" + self.path.replace(".", "::"), ((), ()))[0]
         if labels and (len(labels) > 1 or labels[0]):
             term = re.sub(r"(?<![\w.'-])(c\.requires)((?:\.[01])*)(?![\w.'-])", lambda m: projected(m[1], labels, m[2]), term)
@@ -461,6 +463,8 @@ class Function:
             nots = [it for it in ("not_from_true", "not_from_false") if f"({it} _" in body]
             if nots:
                 out.append(f"use Rattle.std.proofs.lemmas.Bool.{{{', '.join(nots)}}}")
+            if "(tag_other _" in body:
+                out.append("use Rattle.record.proofs.TallyLaws.{tag_other}")
             for u in uses:
                 m = re.match(r"use (\S+?)\.\{(.*)\}$", u)
                 if not m:
