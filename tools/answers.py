@@ -136,6 +136,22 @@ def inlined(term):
         pos = m.start()
 
 
+def fitted(args, goals):
+    """The arguments that fit the goals in their order, without those that only search, or None."""
+    if len(args) == len(goals) and not args:
+        return []
+    if len(args) < len(goals):
+        return None
+    kept = re.match(r"\(λ \S+ κs\.", args[0])
+    if goals and bool(kept) == ("-requires" in goals[0]):
+        rest = fitted(args[1:], goals[1:])
+        if rest is not None:
+            return [args[0]] + rest
+    if re.fullmatch(r"\(λ \S+\. (search rules|refl)\)", args[0]):
+        return fitted(args[1:], goals)
+    return None
+
+
 def dashed(name):
     return name.replace("_", "-")
 
@@ -332,6 +348,9 @@ class Function:
             if m:
                 local[m[1]] = b
         want = 2 * len(loops) + len(self.goals)
+        if len(args) > want:
+            # the goal of a byte literal is gone: an argument that only searches, and takes no κs
+            args = args[: 2 * len(loops)] + (fitted(args[2 * len(loops) :], [goal for _, goal in self.goals]) or args[2 * len(loops) :])
         if len(args) != want:
             return self.fail(f"{len(args)} arguments, and {len(loops)} loops with {len(self.goals)} goals")
         out_inv, out_ans = [], []
