@@ -1,11 +1,11 @@
 #!/usr/bin/env python3
 """Spells the names that specs/ and proofs/ declare as today's Rattle does: words in snake case, joined by underscores.
 
-usage: tools/respell.py [--check] [TOP]
+usage: tools/respell.py [--check | --list] [TOP]
 
 TOP is the repository's top, by default the folder above this one. A name that begins with a small letter and has a capital or a dash is
 turned, and where a page cites it between backticks. Types, modules, names of src/ and what Rattle makes of them stay. Where two names would fall together, a lemma gets `_lem`
-behind it, as the style of names asks of one that has its function's name. --check writes nothing, and lists what falls together.
+behind it, as the style of names asks of one that has its function's name. --check writes nothing, and lists what falls together; --list writes nothing, and lists each crate's names, old and new.
 Run once, behind /opt/rattle/port/port.py; a second run finds nothing.
 """
 
@@ -57,7 +57,8 @@ def bare(text):
 
 def main(args):
     check = "--check" in args
-    args = [a for a in args if a != "--check"]
+    listing = "--list" in args
+    args = [a for a in args if a not in ("--check", "--list")]
     here = os.path.dirname(os.path.dirname(os.path.realpath(__file__)))
     top = os.path.realpath(args[0]) if args else here
     crates = set(os.listdir(os.path.join(top, "crates")))
@@ -133,6 +134,11 @@ def main(args):
             for a in words & set(here_table):
                 if here_table[a] in named:
                     clashes.append((where, a, here_table[a], "parameter"))
+    if listing:
+        of = lambda where: os.path.relpath(where, os.path.join(top, "crates")).split("/")[0]
+        for crate, old in sorted({(of(where), n) for n in table for where in kinds[n]}):
+            print(crate, old, table[old])
+        return 0
     for it in clashes:
         print("clash:", *it)
     for n in twice:

@@ -14,15 +14,14 @@ use Rattle.wire.specs.Lists.{select}
 use Rattle.wire.proofs.ByteLaws.{number_before}
 use Rattle.wire.proofs.PlaceLaws.{Placed, placed_byte}
 use Rattle.record.specs.Record.{length_at, type_at, record_ok}
-use Rattle.record.specs.Chain.{joined, starts_of, WellFormed, records_of, records}
+use Rattle.record.specs.Chain.{joined, starts_of, WellFormed, records_of}
 use Rattle.record.proofs.ChainLaws.{ok_means, placed_type}
 use Rattle.header.specs.Fields.{metadata_reference}
-use Rattle.check_records.specs.declared.Rule.{Rule}
 use Rattle.check_records.specs.declared.Rule.TheVariants.{Body}
 use Rattle.check_records.specs.MetadataBody.{metadata_right}
 use Rattle.check_records.specs.Faults.{body_right, right_of}
 use Rattle.pieces.specs.Standing.{AllOf, standing, place_of}
-use Rattle.alone.specs.Alone.{SameRecord, Front, alone, AllAlone}
+use Rattle.alone.specs.Alone.{SameRecord, Front, alone}
 use Rattle.alone.specs.MetadataKept.{SameMetadataRecords}
 use Rattle.alone.specs.Standing.{MetadataStands, StandingKeeps}
 use Rattle.alone.proofs.HeaderLaws.{header_sym, front_header, front_long}

@@ -1,5 +1,5 @@
 -- Req 03, reading 20: where metadata records and their directory stay, stage 9's metadata rules say the same.
-use Rattle.std.specs.Prelude.{ℕ, ◌+◌, ◌≡◌, List, ◌++◌, length}
+use Rattle.std.specs.Prelude.{ℕ, ◌≡◌, List, ◌++◌, length}
 use Rattle.record.specs.Types.{metadata_type, metadata_directory_type}
 use Rattle.record.specs.Chain.{joined, WellFormed}
 use Rattle.header.specs.Fields.{metadata_reference}

@@ -1,5 +1,7 @@
 // The answer types, and what each case says as numbers. Positions and lengths are `usize`, since they index the caller's slice. A bit
 // pattern is unsigned: it is compared and kept, not calculated with.
+#![tactic(auto)]
+
 ghost use Rattle.std.specs.Prelude.{◌≡◌, ◌%◌};
 ghost use Rattle.std.specs.Float.Ieee.{of_bits};
 ghost use Rattle.std.specs.Float.{binary32};
@@ -11,7 +13,7 @@ ghost use Rattle.answer.specs.Answers.{cell_kind, cell_type, cell_bits, cell_pla
 
 // Document 01's thirteen refusals, in their order, with a place where it gives one that varies; then document 02's:
 // compressed content is malformed, a page is not open for writing, and a byte that a stage needs is not given.
-#[derive(Drop)]
+#[derive(Clone, Copy)]
 pub enum Refusal {
     Identification,
     Version,
@@ -32,7 +34,7 @@ pub enum Refusal {
 }
 
 // What a check answers.
-#[derive(Drop)]
+#[derive(Clone, Copy)]
 pub enum Verdict {
     Accepted,
     Refused(Refusal),
@@ -40,7 +42,7 @@ pub enum Verdict {
 
 // A value of an element's type. The Float case has the f32 of the bit pattern, and the pattern itself, since the one
 // NaN of the language does not keep a NaN's bits.
-#[derive(Drop)]
+#[derive(Clone, Copy)]
 pub enum Value {
     Integer(i32),
     IntegerCoded(i32),
@@ -49,14 +51,14 @@ pub enum Value {
 }
 
 // Where a cell lies: the index of its tile, and its number inside the tile.
-#[derive(Drop)]
+#[derive(Clone, Copy)]
 pub struct Location {
     pub tile: u64,
     pub inside: u64,
 }
 
 // What a cell read answers.
-#[derive(Drop)]
+#[derive(Clone, Copy)]
 pub enum Cell {
     Stored {
         value: Value,
@@ -76,7 +78,7 @@ pub enum Cell {
 }
 
 // What is said of an element's content in a tile.
-#[derive(Drop)]
+#[derive(Clone, Copy)]
 pub enum Content {
     Present { start: usize, length: usize },
     Absent,
@@ -84,7 +86,7 @@ pub enum Content {
 }
 
 // What is said of an element's name.
-#[derive(Drop)]
+#[derive(Clone, Copy)]
 pub enum Lookup {
     Number(usize),
     Absent,
@@ -93,7 +95,7 @@ pub enum Lookup {
 
 // What is said of all cells of an element in a tile: where their content starts, stored or unpacked. Alone: it is compressed, and the
 // room that was lent is too short for all of them, so that each is looked up by itself.
-#[derive(Drop)]
+#[derive(Clone, Copy)]
 pub enum Held {
     Stored(usize),
     Unpacked(usize),
@@ -103,7 +105,7 @@ pub enum Held {
 }
 
 // What a lay-down answers, and each call that corrects a page: the page's length, or the refusal.
-#[derive(Drop)]
+#[derive(Clone, Copy)]
 pub enum Laid {
     Length(usize),
     Refused(Refusal),

@@ -1,5 +1,7 @@
 // Places on a line that is cut into blocks of one length. A part of the line has its own count of places, from the line's place
 // `first` on.
+#![tactic(auto)]
+
 ghost use Rattle.std.specs.Prelude.{◌≡◌, ◌+◌, ◌%◌, ◌≤◌, ◌<◌};
 ghost use Rattle.blocks.specs.Blocks.{block_end};
 

@@ -6,6 +6,8 @@
 //
 // No function can lend the page for reading and write the buffer at once. So what a call needs is read first, by value, and written
 // then: judging answers what is to be done, and writing takes it.
+#![tactic(auto)]
+
 mod closing;
 pub mod judging;
 mod lengths;
@@ -25,7 +27,7 @@ use record::Found;
 
 // What the calls read of a page: the header's flag for checksums and where it ends, and the tile directory: where its record starts,
 // how long that is, and whether its references have eight bytes.
-#[derive(Drop)]
+#[derive(Clone, Copy)]
 struct Layout {
     pub flag: u32,
     pub end: usize,
@@ -35,7 +37,7 @@ struct Layout {
 }
 
 // What opening reads besides: whether the tile directory is full, and the tiles of the grid.
-#[derive(Drop)]
+#[derive(Clone, Copy)]
 struct Grid {
     pub full: bool,
     pub down: u32,
@@ -44,7 +46,7 @@ struct Grid {
 }
 
 // What storing a tile is to do: the record that it is stored over, or where the new one goes; and how long the page then is.
-#[derive(Drop)]
+#[derive(Clone, Copy)]
 struct Plan {
     pub over: Found,
     pub spot: Spot,
@@ -52,14 +54,14 @@ struct Plan {
 }
 
 // What is judged of it.
-#[derive(Drop)]
+#[derive(Clone, Copy)]
 enum Judged {
     Refused(Refusal),
     Planned(Plan),
 }
 
 // What a call that stops answers: what the call does, and how many byte stores it has made.
-#[derive(Drop)]
+#[derive(Clone, Copy)]
 pub struct StoppedCall {
     pub answer: Laid,
     pub made: usize,

@@ -1,4 +1,6 @@
 // Cells: what one means, the routes to its tile's record, the reader of a record, and an element's content.
+#![tactic(auto)]
+
 pub mod asked;
 mod held;
 pub mod lookups;

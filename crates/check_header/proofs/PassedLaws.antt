@@ -1,6 +1,6 @@
 -- What stages 1 to 4 give where they pass. Assumes nothing.
-use Prim.Native.Nat.{ℕ, min, ◌≤◌, ◌<◌}
-use mathlib.Core.Path.{◌≡◌, sym}
+use Prim.Native.Nat.{ℕ, min, ◌≤◌}
+use mathlib.Core.Path.{◌≡◌}
 use mathlib.Core.List.{List}
 use mathlib.Core.Bool.{Bool, true}
 use native.Mathlib.Omega.{arith}

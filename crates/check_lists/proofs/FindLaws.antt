@@ -62,7 +62,7 @@ unlisted_not s l x t e = go (eqb (count_below (list_count s l) (list_entry_is s 
     go false i = not_both (sym (yes _ (t, (eqb-false _ _ i, tt)))) e
 
 -- every record is listed once just where none of those is found
-once_found :
+pub once_found :
     (s : List ℕ) (l : ListKind) (f : Found) → f ≡ first_record s (header_end s) (not_listed_once s l) →
     not (is_found f) ≡ listed_once s (listed_kind l) (list_count s l) (list_entry_is s l)
 unfolding listed_once records_of records first_record not_listed_once passes
@@ -100,7 +100,7 @@ module _ (s : List ℕ) (l : ListKind) (n m i : ℕ) (p : n ≡ list_count s l) 
   list_other h =
       no _ (λ y. h (p ∙ else_count s (listed_kind l) (list_count s l) (list_entry_is s l) (entry_alone s l) y.1.0 y.1.1.0 ∙ sym (q ∙ rw t)))
 
-  list_is : (b r : Bool) → b ≡ list_fits s l → b ≡ true → n ≡ m → r ≡ listed_once s (listed_kind l) (list_count s l) (list_entry_is s l) → r ≡ list_right s l
+  pub list_is : (b r : Bool) → b ≡ list_fits s l → b ≡ true → n ≡ m → r ≡ listed_once s (listed_kind l) (list_count s l) (list_entry_is s l) → r ≡ list_right s l
   unfolding list_right
   list_is b r f g h e =
       either_way _ r

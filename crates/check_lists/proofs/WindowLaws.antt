@@ -18,14 +18,14 @@ use Rattle.record.specs.declared.Found.{Found}
 use Rattle.record.specs.declared.Found.TheVariants.{At, Nothing}
 use Rattle.record.specs.Record.{type_at}
 use Rattle.record.specs.Chain.{starts, first_record, header_end, records, records_of}
-use Rattle.record.proofs.FindLaws.{of_type, type_of}
+use Rattle.record.proofs.FindLaws.{of_type, type_of, is_found, every_found}
 use Rattle.wire.proofs.CountLaws.{count_none, count_more, count_stay}
 use Rattle.wire.specs.Lists.{count_below}
 use Rattle.check_lists.specs.declared.ListKind.{ListKind}
 use Rattle.check_lists.specs.declared.ListKind.TheVariants.{FreeSpace, Metadata}
 use Rattle.check_lists.specs.FileSpace.{free_entry_of}
 use Rattle.check_lists.specs.Metadata.{metadata_entry_of}
-use Rattle.check_lists.specs.inner.Windows.{named_by, entry_in, slot_of, one_more, noted, tallied, count_not_one, not_once_in, window_counts, window_places, window_bytes}
+use Rattle.check_lists.specs.inner.Windows.{named_by, entry_in, slot_of, one_more, noted, tallied, count_not_one, not_once_in, window_counts, window_right, window_places, window_bytes}
 use Rattle.check_lists.specs.inner.Search.{listed_kind, list_count, list_fits, list_entry_at, list_entry_size, list_entry_of, list_entry_is, not_listed_once}
 use Rattle.check_lists.proofs.ListLaws.{list_room, list_step, entry_is}
 use Rattle.check_lists.proofs.FirstLaws.{placed, record_placed, first_means, first_is, none_means, none_is}
@@ -365,3 +365,19 @@ module _ (s : List ℕ) (l : ListKind) (base : ℕ) (g : Passed s l base) where
       (λ x m.
       let p = placed s x (header_end s) m in
       sym (no _ (λ z. z.1.0 (g.once x (type_of s (listed_kind l) m z.0) (omega (arith, p.inside))))))
+
+-- a window holds no such record just where it is right
+pub window_found :
+    (s : List ℕ) (l : ListKind) (base : ℕ) (cs : List ℕ) (f : Found) → cs ≡ window_counts s l base → f ≡ first_record s (header_end s) (not_once_in s l base cs) →
+    not (is_found f) ≡ window_right s l base
+unfolding window_right records_of records first_record not_once_in passes
+window_found s l base cs f d e =
+    ap (λ (g : Found). not (is_found g)) e
+    ∙ sym
+    (rw (← d)
+    (every_found (λ x. not (count_not_one base cs x)) (λ x. eqb (type_at s x) (listed_kind l)) (not_once_in s l base cs) (λ x. go (eqb (type_at s x) (listed_kind l)) (count_not_one base cs x)) (starts s (header_end s))))
+  where
+    go : (a b : Bool) → both a (both b true) ≡ both a (not (not b))
+    go true true = refl
+    go true false = refl
+    go false b = refl

@@ -13,7 +13,8 @@ ghost use Rattle.record.specs.Record.{type_at};
 ghost use Rattle.record.specs.Chain.{first_record, header_end};
 ghost use Rattle.header.specs.Element.{longest_string};
 ghost use Rattle.check_lists.specs.inner.Windows.{named_by, slot_of, one_more, noted, tallied, not_once_in, window_counts};
-ghost use Rattle.check_lists.specs.inner.Search.{listed_kind, list_count, list_fits, list_entry_at, list_entry_of, list_entry_size, list_right, not_listed_once, first_unlisted};
+ghost use Rattle.check_lists.specs.Listed.{listed_once};
+ghost use Rattle.check_lists.specs.inner.Search.{listed_kind, list_count, list_fits, list_entry_at, list_entry_of, list_entry_is, list_entry_size, list_right, not_listed_once, first_unlisted};
 
 use crate::{ListKind, file_space, metadata};
 use bodies::list_directories;
@@ -233,6 +234,17 @@ pub fn first_unlisted(s: &[u8], list: ListKind) -> Found
     Found::Nothing
 }
 
+// Every record of the list's type is listed once.
+fn listed_once(s: &[u8], list: ListKind) -> bool
+    requires { list_fits s.now list ≡ true }
+    ensures { result ≡ listed_once s.now (listed_kind list) (list_count s.now list) (list_entry_is s.now list) }
+{
+    if let Found::At(_) = find_unlisted(s, list) {
+        return false;
+    }
+    true
+}
+
 // A list fits its record, and names every record of its type once and nothing else. Where every record is listed once, nothing
 // else is just where there are as many entries as records.
 pub fn list_right(s: &[u8], list: ListKind) -> bool
@@ -246,10 +258,7 @@ pub fn list_right(s: &[u8], list: ListKind) -> bool
         if records == 0 {
             return true;
         }
-        if let Found::At(_) = find_unlisted(s, list) {
-            return false;
-        }
-        return true;
+        return listed_once(s, list);
     }
     false
 }

@@ -35,7 +35,7 @@ use Rattle.check_records.specs.TileBody.{section_packing, section_right, tile_ri
 use Rattle.bodies.specs.TileRecord.{section_start, section_length, tile_end, section_at}
 use Rattle.header.specs.Texts.{text_right}
 use Rattle.check_records.specs.MetadataBody.{metadata_right}
-use Rattle.bodies.specs.MetadataRecord.{metadata_name, record_id_at, content_length_at, metadata_length, metadata_description_at, metadata_end, record_id_start}
+use Rattle.bodies.specs.MetadataRecord.{metadata_name, content_length_at, metadata_length, metadata_description_at, metadata_end, record_id_start}
 use Rattle.bodies.proofs.SectionLaws.{section_told, section_least}
 use Rattle.bodies.proofs.MetadataLaws.{id_told}
 use Rattle.check_records.specs.Faults.{body_right, right_of, first_wrong, chain_fault, BrokenAt, ChainFaultExactly, checksum_fault}

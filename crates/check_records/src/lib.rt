@@ -1,4 +1,6 @@
 // Stages 6 to 8 of the check: chain, checksums, bodies of tile and metadata records.
+#![tactic(auto)]
+
 pub mod checksum;
 pub mod ends;
 pub mod faults;
@@ -6,7 +8,7 @@ pub mod metadata_body;
 pub mod tile_body;
 
 // What a record is judged by, a rule for each stage.
-#[derive(Drop)]
+#[derive(Clone, Copy)]
 pub enum Rule {
     Checksum,
     Body,

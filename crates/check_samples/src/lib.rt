@@ -1,1 +1,2 @@
 // Samples of the check. It has no functions.
+#![tactic(auto)]

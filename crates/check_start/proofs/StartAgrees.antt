@@ -10,7 +10,7 @@ use native.Mathlib.Omega.{arith}
 use lib.ListN.{length, take}
 use lib.Seq.{take-take, take_all}
 use Rattle.wire.specs.Pick.{pick}
-use Rattle.wire.specs.Tests.{◌≤?◌, is, passes}
+use Rattle.wire.specs.Tests.{◌≤?◌, passes}
 use Rattle.wire.proofs.TestLaws.{yes, no, means, fails}
 use Rattle.answer.specs.declared.Refusal.{Refusal}
 use Rattle.answer.specs.declared.Refusal.TheVariants.{Identification, Version, Header, Ceiling, Opened, Input, Incomplete}

@@ -12,7 +12,6 @@ use Rattle.answer.specs.declared.Verdict.TheVariants.{Refused}
 use Rattle.answer.specs.Refusals.{gate}
 use native.Mathlib.Omega.{arith}
 use borrow.Author.Tests.{le-leb, lt-leb}
-use Rattle.wire.specs.Pick.{pick}
 use Rattle.record.specs.Chain.{header_end}
 use Rattle.check_header.specs.HeaderRecord.{length_right}
 use Rattle.check_start.specs.Start.{no_more, header_given, needed}

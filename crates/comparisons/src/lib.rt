@@ -1,5 +1,7 @@
 // What is said of two pages that are compared cell by cell: the answer, whether two pages are alike, whether two cells differ, and whose
 // refusal comes first.
+#![tactic(auto)]
+
 ghost use Rattle.std.specs.Prelude.{◌≡◌, eqb};
 ghost use Rattle.wire.specs.Tests.{all_below};
 ghost use Rattle.store.specs.Face.{element};
@@ -11,7 +13,7 @@ use answer::{Cell, Refusal, Verdict};
 use store::description;
 
 // What is said of two pages: how many cells differ, or whose refusal it is, or that they are unlike.
-#[derive(Drop)]
+#[derive(Clone, Copy)]
 pub enum Comparison {
     Count(u64),
     First(Refusal),
@@ -20,7 +22,7 @@ pub enum Comparison {
 }
 
 // Of cells of two pages, the first refusal, if any, and whose it is.
-#[derive(Drop)]
+#[derive(Clone, Copy)]
 pub enum Halt {
     None,
     First(Refusal),

@@ -5,6 +5,8 @@
 //
 // No function can lend the page for reading and write the buffer at once. What a writer reads of the page while it writes stands where
 // it does not write.
+#![tactic(auto)]
+
 pub mod directories;
 pub mod front;
 pub mod records;

@@ -1,1 +1,2 @@
 // What the calls that correct a page make of it: definitions and proofs, no code.
+#![tactic(auto)]

@@ -1,5 +1,7 @@
 // Correction logs (Req 14): whether one is right, and its entries. A log is a slice, and no byte more; it is judged by the tiles of a
 // page and the bytes of a tile, so that no page is borrowed. Of a log that is not right each function promises its definition too.
+#![tactic(auto)]
+
 ghost use Rattle.std.specs.Prelude.{◌≡◌, ◌≤◌, min, length};
 ghost use Rattle.correction_logs.specs.Log.{is_store, entry_tile, entry_cells, end_of_entry, entry_whole, entry_right, log_right};
 

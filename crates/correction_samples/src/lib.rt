@@ -1,1 +1,2 @@
 // Samples of what corrects a page. It has no functions.
+#![tactic(auto)]

@@ -7,7 +7,7 @@ use mathlib.Core.Path.{◌≡◌, refl, sym, ap, ap₂, ◌∙◌}
 use lib.Arith.{bin_ind}
 use lib.Pow.{pow_pos}
 use lib.Dec.{eqb}
-use lib.Bits.{bit_xor, differ, xor_step, xor_shr, xor_comm, xor_self, xor_zero_r, xor_shifted, shifted_half, shifted_even}
+use lib.Bits.{bit_xor, differ, xor_step, xor_shr, xor_comm, xor_self, xor_shifted, shifted_half, shifted_even}
 use Rattle.wire.specs.Pick.{pick}
 use Rattle.crc32c.specs.Crc.{polynomial, crc_bit, crc_byte}
 use Rattle.crc32c.specs.inner.Ahead.{over_bits}

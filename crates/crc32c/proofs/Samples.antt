@@ -1,7 +1,5 @@
 -- The published vectors, by computing. Assumes nothing.
 use mathlib.Core.Path.{refl}
-use mathlib.Core.List.{map}
-use Rattle.wire.specs.Pick.{pick}
 use Rattle.wire.specs.Bytes.{part, put, zeros}
 use Rattle.crc32c.specs.Crc.{crc_bit, crc_byte, crc_over, crc_of, crc_part, crc_without}
 use Rattle.crc32c.specs.Samples.{VectorsHold}

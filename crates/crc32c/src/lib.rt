@@ -1,5 +1,7 @@
 // CRC32C, eight bytes at a time: the bytes and the state are one number, and each few bits of it have a table of what they
 // do. Fewer bytes than eight are taken one by one.
+#![tactic(auto)]
+
 mod tables;
 
 ghost use Rattle.std.specs.Prelude.{◌≡◌, ◌+◌, ◌/◌, ◌%◌, ◌≤◌, ◌<◌, length};
@@ -9,7 +11,7 @@ ghost use Rattle.crc32c.specs.inner.Ahead.{over_bits, crc_from, byte_without};
 
 // A step of the loop: the state but for an entry of the table of six bits, a number whose six lowest bits are that entry's
 // place, and the next position.
-#[derive(Drop)]
+#[derive(Clone, Copy)]
 struct Step {
     rest: u32,
     place: u64,

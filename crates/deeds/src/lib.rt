@@ -1,4 +1,6 @@
 // Whether the scores of a rectangle of a page are certain, doubtful or unread: one check, then each tile that the rectangle meets once.
+#![tactic(auto)]
+
 mod pieces;
 mod tally;
 
@@ -15,13 +17,13 @@ use store::{description, many};
 use tally::Tally;
 
 // The scores that are certain: from a mark to a scale.
-#[derive(Drop)]
+#[derive(Clone, Copy)]
 pub struct Rule {
     pub mark: i16,
     pub scale: i16,
 }
 
-#[derive(Drop)]
+#[derive(Clone, Copy)]
 pub enum Grade {
     Certain,
     Doubtful,
@@ -29,14 +31,14 @@ pub enum Grade {
 }
 
 // The lowest stored score, if any.
-#[derive(Drop)]
+#[derive(Clone, Copy)]
 pub enum Lowest {
     Score(i16),
     None,
 }
 
 // What is said of a rectangle: the rule that its page says, its grade by that rule, how many of its cells are fill, and its lowest score.
-#[derive(Drop)]
+#[derive(Clone, Copy)]
 pub enum Deed {
     Graded {
         rule: Rule,

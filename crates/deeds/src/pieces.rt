@@ -13,7 +13,7 @@ use store::pieces::Piece;
 use store::{description, many, pieces};
 
 // What was counted, or the first refusal.
-#[derive(Drop)]
+#[derive(Clone, Copy)]
 pub(crate) enum Judged {
     Tallied(Tally),
     Refused(Refusal),

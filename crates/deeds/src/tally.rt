@@ -10,7 +10,7 @@ ghost use Rattle.deeds.specs.Tallies.{fill_tally, join_tally, rank_of, low_rank,
 use crate::{Lowest, Rule};
 use answer::Cell;
 
-#[derive(Drop)]
+#[derive(Clone, Copy)]
 pub(crate) struct Tally {
     pub fills: u64,
     pub certain: bool,
@@ -30,7 +30,7 @@ pub(crate) fn of_fills(n: u64) -> Tally
 
 // A run of cells, counted in numbers alone, so that none costs a jump by its bits: the fills, and the ranks of the lowest and of the highest
 // score, 65,536 and 0 where there is none.
-#[derive(Drop)]
+#[derive(Clone, Copy)]
 pub(crate) struct Run {
     pub fills: u64,
     pub low: u32,

@@ -1,1 +1,2 @@
 // What the check answers, exactly: definitions and proofs, no code.
+#![tactic(auto)]

@@ -1,1 +1,2 @@
 // What the products answer, exactly: definitions and proofs, no code.
+#![tactic(auto)]

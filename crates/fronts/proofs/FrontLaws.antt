@@ -1,5 +1,5 @@
 -- A front that is made from a description says what it was told, and is judged as the description is. Assumes nothing.
-use Prim.Native.Nat.{ℕ, min, ◌+◌, ◌-◌, ◌%◌, ◌≤◌, ◌<◌}
+use Prim.Native.Nat.{ℕ, min, ◌+◌, ◌%◌, ◌≤◌, ◌<◌}
 use mathlib.Core.Path.{◌≡◌, refl, sym, ◌∙◌}
 use mathlib.Core.List.{List, [], ◌∷◌, ◌++◌}
 use mathlib.Core.Bool.{Bool, true, false}
@@ -17,7 +17,7 @@ use Rattle.answer.specs.Refusals.{gate}
 use Rattle.record.specs.Types.{header_record_type}
 use Rattle.record.specs.Chain.{header_end}
 use Rattle.header.specs.Fields.{header_length, header_limit}
-use Rattle.header.specs.Element.{element, entry_start, entries_read}
+use Rattle.header.specs.Element.{entry_start, entries_read}
 use Rattle.header.specs.Texts.{text_right}
 use Rattle.geometry.specs.Tiles.{tile_count}
 use Rattle.geometry.specs.Sizes.{element_bytes, tile_bytes}

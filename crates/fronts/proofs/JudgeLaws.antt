@@ -7,7 +7,7 @@ use native.Mathlib.Omega.{arith}
 use native.Mathlib.Nat.{mul-le-mul}
 use lib.ListN.{length, get_or}
 use borrow.Author.Tests.{le-leb, lt-leb}
-use Rattle.wire.specs.Tests.{is, passes, all_below, sum_below}
+use Rattle.wire.specs.Tests.{passes, all_below, sum_below}
 use Rattle.wire.specs.Bytes.{part, put, same_bytes}
 use Rattle.wire.proofs.PutLaws.{put_fits}
 use Rattle.wire.proofs.TestLaws.{not_both, means, yes, no, either_way, sum_none}

@@ -1,5 +1,5 @@
 -- How a front that is made from a description is judged, and what it says.
-use Rattle.std.specs.Prelude.{ℕ, min, ◌+◌, ◌≤◌, ◌<◌, ◌≡◌, List, [], ◌∷◌, Bool, true, length, leb, eqb}
+use Rattle.std.specs.Prelude.{ℕ, min, ◌+◌, ◌<◌, ◌≡◌, List, [], ◌∷◌, Bool, true, length, leb, eqb}
 use Rattle.wire.specs.Pick.{pick}
 use Rattle.wire.specs.Tests.{◌≤?◌, is, is_not, passes, all_below, sum_below}
 use Rattle.wire.specs.Bytes.{byte_at, part, same_bytes}

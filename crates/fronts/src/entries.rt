@@ -108,7 +108,7 @@ fn put_entry_tail(out: &mut [u8], at: usize, a: &[u8], b: &[u8], c: &[u8]) -> us
 }
 
 // What an element's numbers say: its type code, whether it is continuous, the lengths of its strings.
-#[derive(Drop)]
+#[derive(Clone, Copy)]
 pub(crate) struct Numbers {
     pub(crate) kind: u8,
     pub(crate) continuous: u8,

@@ -3,6 +3,8 @@
 //
 // A description is judged by its numbers and texts first, as stages 3 and 4 would judge the front; then the front is written into the
 // lent buffer, piece by piece. The writers have a `requires`: the description was judged, and what is written fits.
+#![tactic(auto)]
+
 mod body;
 mod counts;
 mod entries;

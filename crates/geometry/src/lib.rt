@@ -1,9 +1,11 @@
 // Where a cell lies, and how many bytes things take.
+#![tactic(auto)]
+
 pub mod sizes;
 pub mod tiles;
 
 // What a length L is, compared with the uncompressed size U.
-#[derive(Drop)]
+#[derive(Clone, Copy)]
 pub enum Packing {
     Uncompressed,
     Compressed,

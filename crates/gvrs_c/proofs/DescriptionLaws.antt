@@ -15,7 +15,7 @@ use Rattle.store.specs.declared.description.Specified.TheVariants as specified_a
 use Rattle.says.specs.declared.further.PageSaid.{PageSaid}
 use Rattle.says.specs.declared.further.ElementSaid.{ElementSaid}
 use Rattle.gvrs_c.specs.Report.{reported}
-use Rattle.gvrs_c.specs.Description.{numbers_in_order, page_numbers, further_in_order, element_numbers}
+use Rattle.gvrs_c.specs.Description.{numbers_in_order, page_numbers, numbers_said, page_numbers_said, element_numbers, further_in_order, element_numbers_said}
 
 -- the loop: the first k of the numbers are written
 
@@ -59,27 +59,43 @@ module _ (vs o : List ℕ) where
 
 -- a page's numbers, or the place of a refusal
 
-module _ (y : PageSaid) (x : Described) where
-  pub page_told :
-      (p : PageNumbers) (z : PageSaid) (l : List ℕ) → x ≡ described_as.Page p → z ≡ y → l ≡ numbers_in_order p z → l ≡ page_numbers y x
-  page_told p z l e g f = f ∙ rw (g, e)
+module _ (x : Described) where
+  pub page_told : (p : PageNumbers) (l : List ℕ) → x ≡ described_as.Page p → l ≡ numbers_in_order p → l ≡ page_numbers x
+  page_told p l e f = f ∙ rw e
 
-  pub page_refused :
-      (r : Refusal) (a : ℕ) → x ≡ described_as.Refused r → a ≡ refusal_place r →
-      a ∷ 0 ∷ 0 ∷ 0 ∷ 0 ∷ 0 ∷ 0 ∷ 0 ∷ 0 ∷ 0 ∷ 0 ∷ 0 ∷ 0 ∷ 0 ∷ 0 ∷ 0 ∷ 0 ∷ 0 ∷ 0 ∷ 0 ∷ 0 ∷ [] ≡ page_numbers y x
+  pub page_refused : (r : Refusal) (a : ℕ) → x ≡ described_as.Refused r → a ≡ refusal_place r → a ∷ 0 ∷ 0 ∷ 0 ∷ 0 ∷ 0 ∷ 0 ∷ 0 ∷ 0 ∷ 0 ∷ 0 ∷ 0 ∷ 0 ∷ [] ≡ page_numbers x
   page_refused r a e f = rw (e, f)
 
--- the same of an element
-module _ (y : ElementSaid) (x : Specified) where
-  pub element_told_lem :
-      (kind fill name n unit u : ℕ) (z : ElementSaid) → x ≡ specified_as.Element kind fill name n unit u → z ≡ y →
-      kind ∷ fill ∷ name ∷ n ∷ unit ∷ u ∷ further_in_order z ≡ element_numbers y x
-  element_told_lem kind fill name n unit u z e f = rw (e, f)
+-- with the further ones
+module _ (y : PageSaid) (x : Described) where
+  pub page_all_told :
+      (p : PageNumbers) (z : PageSaid) (l : List ℕ) → x ≡ described_as.Page p → z ≡ y → l ≡ numbers_said p z → l ≡ page_numbers_said y x
+  page_all_told p z l e g f = f ∙ rw (g, e)
 
-  pub element_refused :
-      (r : Refusal) (a : ℕ) → x ≡ specified_as.Refused r → a ≡ refusal_place r →
-      a ∷ 0 ∷ 0 ∷ 0 ∷ 0 ∷ 0 ∷ 0 ∷ 0 ∷ 0 ∷ 0 ∷ 0 ∷ 0 ∷ 0 ∷ 0 ∷ 0 ∷ 0 ∷ 0 ∷ 0 ∷ [] ≡ element_numbers y x
+  pub page_all_refused :
+      (r : Refusal) (a : ℕ) → x ≡ described_as.Refused r → a ≡ refusal_place r →
+      a ∷ 0 ∷ 0 ∷ 0 ∷ 0 ∷ 0 ∷ 0 ∷ 0 ∷ 0 ∷ 0 ∷ 0 ∷ 0 ∷ 0 ∷ 0 ∷ 0 ∷ 0 ∷ 0 ∷ 0 ∷ 0 ∷ 0 ∷ 0 ∷ [] ≡ page_numbers_said y x
+  page_all_refused r a e f = rw (e, f)
+
+-- the same of an element
+module _ (x : Specified) where
+  pub element_told_lem :
+      (kind fill name n unit u : ℕ) → x ≡ specified_as.Element kind fill name n unit u → kind ∷ fill ∷ name ∷ n ∷ unit ∷ u ∷ [] ≡ element_numbers x
+  element_told_lem kind fill name n unit u e = rw e
+
+  pub element_refused : (r : Refusal) (a : ℕ) → x ≡ specified_as.Refused r → a ≡ refusal_place r → a ∷ 0 ∷ 0 ∷ 0 ∷ 0 ∷ 0 ∷ [] ≡ element_numbers x
   element_refused r a e f = rw (e, f)
+
+module _ (y : ElementSaid) (x : Specified) where
+  pub element_all_told :
+      (kind fill name n unit u : ℕ) (z : ElementSaid) → x ≡ specified_as.Element kind fill name n unit u → z ≡ y →
+      kind ∷ fill ∷ name ∷ n ∷ unit ∷ u ∷ further_in_order z ≡ element_numbers_said y x
+  element_all_told kind fill name n unit u z e f = rw (e, f)
+
+  pub element_all_refused :
+      (r : Refusal) (a : ℕ) → x ≡ specified_as.Refused r → a ≡ refusal_place r →
+      a ∷ 0 ∷ 0 ∷ 0 ∷ 0 ∷ 0 ∷ 0 ∷ 0 ∷ 0 ∷ 0 ∷ 0 ∷ 0 ∷ 0 ∷ 0 ∷ 0 ∷ 0 ∷ 0 ∷ 0 ∷ [] ≡ element_numbers_said y x
+  element_all_refused r a e f = rw (e, f)
 
 -- the number of an answer x, and its numbers in `out`
 pub list_told :

@@ -10,18 +10,33 @@ use Rattle.says.specs.declared.further.PageSaid.{PageSaid}
 use Rattle.says.specs.declared.further.ElementSaid.{ElementSaid}
 
 -- grid rows and columns, tile rows and columns, tiles down and across, elements, bytes of a tile, length of the front, tile records,
--- metadata records, time modified, checksums; behind these thirteen place and length of the product label, the UUID's place, the number of
--- methods, raster space, coordinate system, place and length of the coordinates
-abbrev pub numbers_in_order : PageNumbers → PageSaid → List ℕ
-numbers_in_order x y =
+-- metadata records, time modified, checksums
+abbrev pub numbers_in_order : PageNumbers → List ℕ
+numbers_in_order x =
+    x.shape.rows ∷ x.shape.columns ∷ x.shape.tile_rows ∷ x.shape.tile_columns ∷ x.tiles_down ∷ x.tiles_across
+    ∷ x.shape.elements ∷ x.tile_bytes ∷ x.front ∷ x.tile_records ∷ x.metadata_records ∷ x.time_modified ∷ x.checksums ∷ []
+
+abbrev pub page_numbers : Described → List ℕ
+page_numbers (described_as.Page x) = numbers_in_order x
+page_numbers (described_as.Refused r) = refusal_place r ∷ replicate 12 0
+
+-- behind these thirteen place and length of the product label, the UUID's place, the number of methods, raster space, coordinate system,
+-- place and length of the coordinates
+abbrev pub numbers_said : PageNumbers → PageSaid → List ℕ
+numbers_said x y =
     x.shape.rows ∷ x.shape.columns ∷ x.shape.tile_rows ∷ x.shape.tile_columns ∷ x.tiles_down ∷ x.tiles_across
     ∷ x.shape.elements ∷ x.tile_bytes ∷ x.front ∷ x.tile_records ∷ x.metadata_records ∷ x.time_modified ∷ x.checksums
     ∷ y.label ∷ y.label_length ∷ y.uuid ∷ y.methods ∷ y.raster_space ∷ y.coordinate_system ∷ y.coordinates
     ∷ y.coordinates_length ∷ []
 
-abbrev pub page_numbers : PageSaid → Described → List ℕ
-page_numbers y (described_as.Page x) = numbers_in_order x y
-page_numbers y (described_as.Refused r) = refusal_place r ∷ replicate 20 0
+abbrev pub page_numbers_said : PageSaid → Described → List ℕ
+page_numbers_said y (described_as.Page x) = numbers_said x y
+page_numbers_said y (described_as.Refused r) = refusal_place r ∷ replicate 20 0
+
+-- type code, bits of the fill, place and length of the name; by Req 10 those of the unit
+abbrev pub element_numbers : Specified → List ℕ
+element_numbers (specified_as.Element kind fill name n unit u) = kind ∷ fill ∷ name ∷ n ∷ unit ∷ u ∷ []
+element_numbers (specified_as.Refused r) = refusal_place r ∷ replicate 5 0
 
 -- place and length of the label and of the description, continuous, the bits of minimum and maximum, and those of the Floats of an
 -- integer-coded element: minimum, maximum, fill, scale, offset
@@ -30,7 +45,7 @@ further_in_order y =
     y.texts.label ∷ y.texts.label_length ∷ y.texts.description ∷ y.texts.description_length ∷ y.continuous ∷ y.minimum ∷ y.maximum
     ∷ y.coded.minimum ∷ y.coded.maximum ∷ y.coded.fill ∷ y.coded.scale ∷ y.coded.offset ∷ []
 
--- type code, bits of the fill, place and length of the name; by Req 10 those of the unit; behind these six the further ones
-abbrev pub element_numbers : ElementSaid → Specified → List ℕ
-element_numbers y (specified_as.Element kind fill name n unit u) = kind ∷ fill ∷ name ∷ n ∷ unit ∷ u ∷ further_in_order y
-element_numbers y (specified_as.Refused r) = refusal_place r ∷ replicate 17 0
+-- behind an element's six numbers the further ones
+abbrev pub element_numbers_said : ElementSaid → Specified → List ℕ
+element_numbers_said y (specified_as.Element kind fill name n unit u) = kind ∷ fill ∷ name ∷ n ∷ unit ∷ u ∷ further_in_order y
+element_numbers_said y (specified_as.Refused r) = refusal_place r ∷ replicate 17 0

@@ -1,4 +1,6 @@
 // Identifiers, the fixed fields of the header record, its element entries, and what follows them.
+#![tactic(auto)]
+
 pub mod entries;
 pub mod fields;
 pub mod names;
@@ -7,7 +9,7 @@ pub mod texts;
 
 // What a header says of an element: its type code, the place and the length of its name, the bit pattern of its fill
 // value, and where its entry ends. A name is a part of the file, and a struct by value holds its place and length.
-#[derive(Drop)]
+#[derive(Clone, Copy)]
 pub struct Element {
     pub kind: u32,
     pub name: usize,

@@ -7,7 +7,6 @@ use native.Mathlib.Omega.{arith}
 use native.Mathlib.Nat.{pow-suc, div-div-eq-div-mul}
 use native.Mathlib.Decide.{dec_le}
 use lib.ListN.{get_or}
-use Rattle.wire.specs.Bytes.{byte_at}
 use Rattle.wire.proofs.ByteLaws.{byte_in}
 use Rattle.huffman.specs.Bits.{bytes_in, bit_at, bits_at, octet_at}
 use Rattle.huffman.proofs.BitLaws.{bit_in, bit_there, octet_in}

@@ -1,5 +1,7 @@
 // Huffman codes: the bits of a content, the tree that is stored in them, and the symbols that the tree gives. The tree is held
 // flat, a number a node: a leaf is its symbol, a branch 256 and the number of its right child; its left child is the next node.
+#![tactic(auto)]
+
 pub mod bits;
 pub mod jumps;
 
@@ -15,14 +17,14 @@ use bits::{bit_at, octet_at};
 use jumps::child;
 
 // A tree that was read: the bit behind it, the node behind it, and how many of the symbols that it may have are left.
-#[derive(Drop)]
+#[derive(Clone, Copy)]
 pub enum Read {
     Tree { pos: usize, next: usize, left: u32 },
     Bad,
 }
 
 // A symbol and the bit behind its code, or that the content ends before.
-#[derive(Drop)]
+#[derive(Clone, Copy)]
 pub enum Next {
     Byte { y: u8, pos: usize },
     End,

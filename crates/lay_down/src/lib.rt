@@ -6,6 +6,8 @@
 //
 // The elements' sizes are worked out once, into 16 numbers, and serve every tile record, since an element's entry is found by passing
 // over those before it. A front that passes stage 4 has at most 16, so a lay-down needs no memory that grows with the page.
+#![tactic(auto)]
+
 pub mod front;
 mod page;
 pub mod sheet;

@@ -60,7 +60,7 @@ fn front_fits(front: &[u8], sheet: &[u8]) -> bool
 }
 
 // The first row and the first column of a tile.
-#[derive(Drop)]
+#[derive(Clone, Copy)]
 struct Corner {
     row: u32,
     column: u32,

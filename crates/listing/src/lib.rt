@@ -8,6 +8,8 @@
 // Tile records are counted over the chain. For the lines of the indexes the tile directory is asked, in index order: on an accepted
 // file a reference is not zero just where a tile record carries the index. So no line takes a pass over the chain, and nothing has to
 // be sorted.
+#![tactic(auto)]
+
 pub mod numbers;
 
 ghost use Rattle.std.specs.Prelude.{◌≡◌, [], ◌++◌, ◌+◌, ◌≤◌, ◌<◌, ◌*◌, length};

@@ -1,4 +1,6 @@
 // M32 codes: a 32-bit number in one to six bytes. A number is passed as the u32 of its bits.
+#![tactic(auto)]
+
 pub mod writing;
 
 ghost use Rattle.std.specs.Prelude.{◌≡◌, get_or, length};
@@ -6,7 +8,7 @@ ghost use Rattle.wire.specs.Bytes.{put};
 ghost use Rattle.m32.specs.M32.{bases, first_step, go_on, ended, further_step, bytes_next, read_code, read_codes};
 
 // What the bytes of a magnitude have given so far: its sign, how many they are, and the number of their seven bits each.
-#[derive(Drop)]
+#[derive(Clone, Copy)]
 pub struct Partial {
     pub negative: bool,
     pub digits: u32,
@@ -14,7 +16,7 @@ pub struct Partial {
 }
 
 // What a byte of a code gives: the number, a byte more to ask for, or that it is no code.
-#[derive(Drop)]
+#[derive(Clone, Copy)]
 pub enum Step {
     Number(u32),
     More(Partial),
@@ -22,14 +24,14 @@ pub enum Step {
 }
 
 // The number of a code and the position behind it, or that there is none.
-#[derive(Drop)]
+#[derive(Clone, Copy)]
 pub enum Found {
     Number { x: u32, at: usize },
     Nothing,
 }
 
 // How many numbers were read, and how many bytes their codes take.
-#[derive(Drop)]
+#[derive(Clone, Copy)]
 pub struct Taken {
     pub numbers: usize,
     pub bytes: usize,

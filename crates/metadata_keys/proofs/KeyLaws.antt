@@ -1,5 +1,5 @@
 -- No two metadata records have the same pair of name and ID, where they fall into rounds of records that ascend. Assumes nothing.
-use Prim.Native.Nat.{ℕ, zero, suc, ◌+◌, ◌*◌, ◌-◌, ◌≤◌, ◌<◌}
+use Prim.Native.Nat.{ℕ, zero, suc, ◌+◌, ◌-◌, ◌≤◌, ◌<◌}
 use mathlib.Core.Path.{◌≡◌, refl, sym, ap, ◌∙◌}
 use mathlib.Core.List.Memᴰ
 use mathlib.Core.List.{List, [], ◌∷◌, Memᴰ}
@@ -29,7 +29,7 @@ use Rattle.wire.specs.Lists.{every}
 use Rattle.wire.proofs.ListLaws.{every_member, member_every}
 use Rattle.metadata_keys.specs.Pairs.{same_key, keys_distinct}
 use Rattle.metadata_keys.specs.inner.Twins.{twin_of, has_twin, doubled}
-use Rattle.metadata_keys.specs.inner.Keys.{key_of, key_before, key_after, in_round, start_of, OneOf, Kept, Ascend, Covered}
+use Rattle.metadata_keys.specs.inner.Keys.{key_of, key_before, key_after, in_round, start_of, WordOneOf, WordKept, WordAscend, WordCovered}
 use Rattle.metadata_keys.proofs.TwinLaws.{twin_not}
 use Rattle.metadata_keys.proofs.OrderLaws.{key_self, key_through, same_pair, pair_before, pair_after, after_none, after_is, round_open, round_in}
 
@@ -87,9 +87,9 @@ distinct_yes s f p e = ap (λ (g : Found). not (is_found g)) (sym p) ∙ distinc
 
 -- of records that ascend, no two have the same pair
 
-module _ (s a : List ℕ) (n : ℕ) (up : Ascend s a n) where
+module _ (s a : List ℕ) (n : ℕ) (up : WordAscend s a n) where
   ascend_far : (i d : ℕ) → i + 1 + d < n → key_before s (start_of (get_or a i 0)) (start_of (get_or a (i + 1 + d) 0)) ≡ true
-  unfolding Ascend
+  unfolding WordAscend
   ascend_far i zero h = let e : i + 1 + 0 ≡ i + 1 = omega arith in rw e (up i (omega arith))
   ascend_far i (suc d) h =
       let e : i + 1 + suc d ≡ i + 1 + d + 1 = omega arith in
@@ -98,12 +98,12 @@ module _ (s a : List ℕ) (n : ℕ) (up : Ascend s a n) where
   ascend_less : (i j : ℕ) → i < j → j < n → key_before s (start_of (get_or a i 0)) (start_of (get_or a j 0)) ≡ true
   ascend_less i j h k = let e : j ≡ i + 1 + (j - (i + 1)) = omega arith in rw e (ascend_far i (j - (i + 1)) (omega arith))
 
-  held_less : (x y : ℕ) (u : OneOf a n x) (v : OneOf a n y) → u.place < v.place → key_of s x ≡ key_of s y → ⊥
+  held_less : (x y : ℕ) (u : WordOneOf a n x) (v : WordOneOf a n y) → u.place < v.place → key_of s x ≡ key_of s y → ⊥
   held_less x y u v h e =
       let b : key_before s x y ≡ true = rw (← u.start, ← v.start) (ascend_less u.place v.place h v.inside) in
       not_both b (key_self s x y e)
 
-  held_apart : (x y : ℕ) → OneOf a n x → OneOf a n y → (x ≡ y → ⊥) → key_of s x ≡ key_of s y → ⊥
+  held_apart : (x y : ℕ) → WordOneOf a n x → WordOneOf a n y → (x ≡ y → ⊥) → key_of s x ≡ key_of s y → ⊥
   held_apart x y u v d e =
       by_cases (dec_lt u.place v.place) (λ h. held_less x y u v h e)
       (λ h.
@@ -134,9 +134,9 @@ distinct_if s f = member_every _ (records_of s 1) (λ x m. member_every _ (recor
     go x y m n false p true q = absurd (f x y (m, (n, (eqb-false _ _ p, q))))
     go x y m n false p false q = rw (p, q)
 
-module _ (s : List ℕ) (low high : ℕ) (a : List ℕ) (n : ℕ) (g : Judged s low) (up : Ascend s a n) (all : Covered s low high a n) where
+module _ (s : List ℕ) (low high : ℕ) (a : List ℕ) (n : ℕ) (g : Judged s low) (up : WordAscend s a n) (all : WordCovered s low high a n) where
   round_apart : (x y : ℕ) → Twins s x y → in_round s low high x ≡ true → in_round s low high y ≡ true → ⊥
-  unfolding Covered
+  unfolding WordCovered
   round_apart x y t p q =
       held_apart s a n up x y (all x (of_type s 1 t.0).0 p) (all y (of_type s 1 t.1.0).0 q) t.1.1.0 (same_pair s x y t.1.1.1)
 
@@ -164,16 +164,16 @@ module _ (s : List ℕ) (low high : ℕ) (a : List ℕ) (n : ℕ) (g : Judged s 
 -- a loop over a round: each comes before the next
 
 pub record Ascending (s a : List ℕ) (i : ℕ) : Type 0 where
-  pub so_far : Ascend s a i
+  pub so_far : WordAscend s a i
   pub positive : 1 ≤ i
 
 pub ascend_begin : (s a : List ℕ) → Ascending s a 1
-unfolding Ascend
+unfolding WordAscend
 ascend_begin s a = record { so_far = λ i h. absurd (omega arith); positive = omega arith }
 
 module _ (s a : List ℕ) (i : ℕ) (g : Ascending s a i) where
   pub ascend_more : (x y : ℕ) (r : Bool) → x ≡ start_of (get_or a (i - 1) 0) → y ≡ start_of (get_or a i 0) → r ≡ key_before s x y → r ≡ true → Ascending s a (i + 1)
-  unfolding Ascend
+  unfolding WordAscend
   ascend_more x y r p q e t = record { so_far = λ j h. by_cases (dec_lt (j + 1) i) (λ k. g.so_far j k) (λ k. last j h k); positive = omega arith }
     where
       last : (j : ℕ) → j + 1 < i + 1 → (j + 1 < i → ⊥) → key_before s (start_of (get_or a j 0)) (start_of (get_or a (j + 1) 0)) ≡ true
@@ -182,8 +182,8 @@ module _ (s a : List ℕ) (i : ℕ) (g : Ascending s a i) where
           let v : j + 1 ≡ i = omega (arith, h, k) in
           rw (v, u, ← p, ← q, ← e) t
 
-  pub ascend_all : (n : ℕ) → n ≤ i → Ascend s a n
-  unfolding Ascend
+  pub ascend_all : (n : ℕ) → n ≤ i → WordAscend s a n
+  unfolding WordAscend
   ascend_all n h = λ j k. g.so_far j (omega arith)
 
 pub never : {C : Type 0} {x : ℕ} → At x ≡ Nothing → C
@@ -192,7 +192,7 @@ never e = found_not refl e
 -- a loop over the cursor that gathers a round: each record of it is still to come, or held
 
 pub record Gathered (s : List ℕ) (low high : ℕ) (a : List ℕ) (n at : ℕ) : Type 0 where
-  pub either : (x : ℕ) → Memᴰ x (records s) → in_round s low high x ≡ true → Memᴰ x (starts s at) ⊎ OneOf a n x
+  pub either : (x : ℕ) → Memᴰ x (records s) → in_round s low high x ≡ true → Memᴰ x (starts s at) ⊎ WordOneOf a n x
 
 pub gather_begin : (s : List ℕ) (low high : ℕ) (a : List ℕ) (at : ℕ) → at ≡ header_end s → Gathered s low high a 0 at
 unfolding records
@@ -200,28 +200,28 @@ gather_begin s low high a at e = record { either = λ x m h. inl (rw e m) }
 
 module _ (s : List ℕ) (low high : ℕ) (a : List ℕ) (n at : ℕ) (g : Gathered s low high a n at) (x : Step) (v : x ≡ step_at s at) where
   gather_step :
-      (k st l : ℕ) (nx : Cursor) (b : List ℕ) (m : ℕ) → x ≡ Record k st l nx → (in_round s low high st ≡ true → OneOf b m st) →
-      ((y : ℕ) → OneOf a n y → OneOf b m y) → Gathered s low high b m nx.at
+      (k st l : ℕ) (nx : Cursor) (b : List ℕ) (m : ℕ) → x ≡ Record k st l nx → (in_round s low high st ≡ true → WordOneOf b m st) →
+      ((y : ℕ) → WordOneOf a n y → WordOneOf b m y) → Gathered s low high b m nx.at
   gather_step k st l nx b m u f kept =
       let h = stepped u v in
       record { either = λ y i r. ⊎_elim (λ j. go y r (rw (starts_record s at h.ok, ← h.next) at j) h.start) (λ j. inr (kept y j)) (g.either y i r) }
     where
-      go : (y : ℕ) → in_round s low high y ≡ true → Memᴰ y (at ∷ starts s nx.at) → st ≡ at → Memᴰ y (starts s nx.at) ⊎ OneOf b m y
+      go : (y : ℕ) → in_round s low high y ≡ true → Memᴰ y (at ∷ starts s nx.at) → st ≡ at → Memᴰ y (starts s nx.at) ⊎ WordOneOf b m y
       go y r j z = ⊎_elim (λ i. let o : y ≡ st = i ∙ sym z in inr (rw o (f (rw (← o) r)))) (λ i. inl i) (Memᴰ.cases_cons j)
 
   pub gather_keep :
-      (k st l : ℕ) (nx : Cursor) (b : List ℕ) (m : ℕ) → x ≡ Record k st l nx → (m ≤ 22528 → OneOf b m st) →
-      (m ≤ 22528 → (y : ℕ) → OneOf a n y → OneOf b m y) → m ≤ 22528 → Gathered s low high b m nx.at
+      (k st l : ℕ) (nx : Cursor) (b : List ℕ) (m : ℕ) → x ≡ Record k st l nx → (m ≤ 22528 → WordOneOf b m st) →
+      (m ≤ 22528 → (y : ℕ) → WordOneOf a n y → WordOneOf b m y) → m ≤ 22528 → Gathered s low high b m nx.at
   gather_keep k st l nx b m u f kept h = gather_step k st l nx b m u (λ r. f h) (kept h)
 
   pub gather_pass : (k st l : ℕ) (nx : Cursor) (r : Bool) → x ≡ Record k st l nx → r ≡ in_round s low high st → r ≡ false → Gathered s low high a n nx.at
   gather_pass k st l nx r u q e = gather_step k st l nx a n u (λ t. not_both t (sym q ∙ e)) (λ y h. h)
 
-  pub gather_over : (tag_of the_type x ≡ 1) ⊎ (tag_of the_type x ≡ 2) → Covered s low high a n
-  unfolding Covered
+  pub gather_over : (tag_of the_type x ≡ 1) ⊎ (tag_of the_type x ≡ 2) → WordCovered s low high a n
+  unfolding WordCovered
   gather_over t = λ y m r. ⊎_elim (λ j. absurd (Memᴰ.not-nil (rw (starts_none s at (over s at x v t)) at j))) (λ j. j) (g.either y m r)
 
 -- a round that is sorted is still whole
-pub covered_kept : (s : List ℕ) (low high : ℕ) (a b : List ℕ) (n : ℕ) → Covered s low high a n → Kept a b n → length a ≡ 22528 → Covered s low high b n
-unfolding Covered Kept
+pub covered_kept : (s : List ℕ) (low high : ℕ) (a b : List ℕ) (n : ℕ) → WordCovered s low high a n → WordKept a b n → length a ≡ 22528 → WordCovered s low high b n
+unfolding WordCovered WordKept
 covered_kept s low high a b n f k l = λ x m r. (k l).1 n x (omega arith) (f x m r)

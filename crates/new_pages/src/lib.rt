@@ -1,1 +1,2 @@
 // A page from nothing: definitions and proofs, no code.
+#![tactic(auto)]

@@ -20,7 +20,6 @@ use Rattle.record.proofs.FindLaws.{none_breaks, all_keep}
 use Rattle.check_header.specs.Stages.{closed, first_two, next_two, stages, check_header}
 use Rattle.check_header.specs.Passed.{Headed}
 use Rattle.check_header.proofs.PassedLaws.{range_of, stages_passed}
-use Rattle.check_records.specs.declared.Rule.TheVariants as rule
 use Rattle.check_records.specs.Checksum.{checksum_right}
 use Rattle.check_records.specs.Faults.{body_right, right_of, checksum_fault, body_fault, first_wrong}
 use Rattle.check_records.proofs.RecordLaws.{chain_whole, whole_chain}

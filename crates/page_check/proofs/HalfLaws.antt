@@ -1,6 +1,6 @@
 -- The two halves of the check together are the check. Assumes nothing.
 use Prim.Native.Nat.{ℕ}
-use mathlib.Core.Path.{◌≡◌, sym, ap, ◌∙◌}
+use mathlib.Core.Path.{◌≡◌, sym, ◌∙◌}
 use mathlib.Core.List.{List}
 use lib.ListN.{length, take}
 use Rattle.answer.specs.declared.Refusal.{Refusal}
@@ -13,7 +13,7 @@ use Rattle.check_header.specs.Stages.{check_header}
 use Rattle.check_start.specs.Start.{check_start}
 use Rattle.check_start.proofs.StartAgrees.{whole_file, begins_so}
 use Rattle.page_check.specs.Stages.{check_from_records, check}
-use Rattle.page_check.specs.Halves.{check_rest, Together, DecidesOf, FirstDecides}
+use Rattle.page_check.specs.Halves.{check_rest, Together, FirstDecides}
 
 pub together : Together
 unfolding check_rest check

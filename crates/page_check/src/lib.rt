@@ -1,4 +1,6 @@
 // The check: stages 1 to 9, and parts of it.
+#![tactic(auto)]
+
 ghost use Rattle.std.specs.Prelude.{◌≡◌};
 ghost use Rattle.answer.specs.declared.Verdict.TheVariants.{Accepted};
 ghost use Rattle.page_check.specs.Stages.{check_records, check_to_bodies, check_directories, check_from_records, check};

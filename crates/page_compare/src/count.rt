@@ -18,14 +18,14 @@ use store::pieces::Piece;
 use store::{description, many, pieces};
 
 // How the cells of a piece differ: each in the same number of elements, or each by itself.
-#[derive(Drop)]
+#[derive(Clone, Copy)]
 pub(crate) enum Plain {
     Same(u64),
     Each,
 }
 
 // What was counted, or the first refusal.
-#[derive(Drop)]
+#[derive(Clone, Copy)]
 pub(crate) enum Seen {
     Cells(u64),
     Halted(Halt),

@@ -1,5 +1,7 @@
 // Two pages compared cell by cell: one check of each, then a pass over the tiles of both to count the cells that differ, and two more over
 // those rows of tiles whose cells are listed. An absent tile is a step.
+#![tactic(auto)]
+
 mod count;
 mod marks;
 mod place;
@@ -19,7 +21,7 @@ use store::description;
 use store::many::Rectangle;
 
 // The compressor index of each page, and the number of elements.
-#[derive(Drop)]
+#[derive(Clone, Copy)]
 pub(crate) struct Pair {
     pub first: u32,
     pub second: u32,

@@ -10,7 +10,7 @@ use store::pieces::Piece;
 use store::{description, many};
 
 // An element: what is held of it in a tile, its type code and fill, and the part of the memory that has its unpacked cells.
-#[derive(Drop)]
+#[derive(Clone, Copy)]
 pub(crate) struct Side {
     pub held: Held,
     pub kind: u32,

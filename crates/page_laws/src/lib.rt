@@ -1,1 +1,2 @@
 // Laws that the theorems on the calls share: the tiles and metadata of a page, a front with fields set: no code.
+#![tactic(auto)]

@@ -1,1 +1,2 @@
 // Samples of what a page says. It has no functions.
+#![tactic(auto)]

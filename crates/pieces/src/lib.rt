@@ -1,1 +1,2 @@
 // A page as the list of its records: definitions and proofs, no code.
+#![tactic(auto)]

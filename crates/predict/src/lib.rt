@@ -1,4 +1,6 @@
 // The predictors for integer data, a row at a time and in place: residuals become cells. A number is passed as the u32 of its bits.
+#![tactic(auto)]
+
 ghost use Rattle.std.specs.Prelude.{◌≡◌};
 ghost use Rattle.predict.specs.Predict.{plus, minus, predicted, row_of};
 

@@ -7,7 +7,7 @@ use native.Mathlib.Omega.{arith}
 use native.Mathlib.Numerals.{add-one}
 use lib.Dec.{eqb}
 use borrow.Author.Tests.{eqb-true, eqb-false, le-leb, lt-leb, eq-eqb, ne_eqb}
-use Rattle.wire.specs.Tests.{is, test, both, passes, all_below}
+use Rattle.wire.specs.Tests.{test, both, passes, all_below}
 use Rattle.wire.proofs.TestLaws.{not_both}
 use Rattle.reasons.specs.declared.Fault.{Fault}
 use Rattle.reasons.specs.declared.Reason.{Reason}

@@ -2,7 +2,6 @@
 use mathlib.Core.Path.{◌≡◌, refl, sym, ap, ◌∙◌}
 use mathlib.Core.List.{List, [], ◌∷◌}
 use mathlib.Core.Bool.{Bool, true, false}
-use Rattle.wire.specs.Tests.{both}
 use Rattle.wire.proofs.TestLaws.{not_both}
 use Rattle.answer.specs.declared.Refusal.{Refusal}
 use Rattle.answer.specs.Refusals.{gate}
@@ -11,8 +10,8 @@ use Rattle.reasons.specs.declared.Reason.{Reason}
 use Rattle.reasons.specs.declared.Reason.TheVariants.{Kept, Broken}
 use Rattle.reasons.specs.declared.Explained.{Explained}
 use Rattle.reasons.specs.declared.Explained.TheVariants.{Accepted, Refused}
-use Rattle.reasons.specs.Rows.{Row, keeps, first_failing}
-use Rattle.reasons.specs.Stages.{Stage, refused_by, explained, verdict_of, verdict_by, all_rows, NamedBy, Explains, ExplainsAll}
+use Rattle.reasons.specs.Rows.{keeps, first_failing}
+use Rattle.reasons.specs.Stages.{Stage, refused_by, explained, verdict_of, verdict_by, all_rows, NamedBy, ExplainsAll}
 use Rattle.reasons.proofs.ReasonLaws.{keeps_none, keeps_joined, keeps_by, keeps_not, named_first}
 
 pub refusal_first : (r : Refusal) (a : Reason) (behind : Explained) → a ≡ Kept → behind ≡ refused_by r a behind

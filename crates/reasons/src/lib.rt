@@ -1,4 +1,6 @@
 // Why a file is refused: the first rule that it breaks, in the order of the check.
+#![tactic(auto)]
+
 pub mod head;
 pub mod places;
 pub mod rows;
@@ -7,7 +9,7 @@ use answer::Refusal;
 
 // A rule that is broken: its code, the number of what breaks it, the position of the field, and what stands there and what it has to
 // be, where these are numbers.
-#[derive(Drop)]
+#[derive(Clone, Copy)]
 pub struct Fault {
     pub rule: u32,
     pub index: u64,
@@ -17,14 +19,14 @@ pub struct Fault {
 }
 
 // What is said of some rules: all are kept, or the first that is broken.
-#[derive(Drop)]
+#[derive(Clone, Copy)]
 pub enum Reason {
     Kept,
     Broken(Fault),
 }
 
 // What is said of a file: it is accepted, or the refusal and the rule.
-#[derive(Drop)]
+#[derive(Clone, Copy)]
 pub enum Explained {
     Accepted,
     Refused { refusal: Refusal, fault: Fault },

@@ -274,7 +274,7 @@ whole_apart s at (z ∷ zs) w {x} {y} m n =
     ⊎_elim
     (λ e. ⊎_elim (λ f. inl (e ∙ sym f)) (λ k. inr (inl (rw e (whole_extent s _ zs w.1.1 k).behind))) (Memᴰ.cases_cons n))
     (λ j.
-    ⊎_elim (λ f. inr (inr (rw f (whole_extent s _ zs w.1.1 j).behind))) (λ k. whole_apart s _ zs w.1.1 j k)
+    ⊎_elim (λ f. inr (inr (rw f (whole_extent s _ zs w.1.1 j).behind))) (λ k. whole_apart s (z + length_at s z) zs w.1.1 j k)
     (Memᴰ.cases_cons n))
     (Memᴰ.cases_cons m)
 

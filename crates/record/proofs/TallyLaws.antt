@@ -1,7 +1,7 @@
 -- A loop over the cursor that counts the records of a type. Assumes nothing.
 use Prim.Native.Nat.{ℕ, ◌+◌, ◌≤◌, ◌<◌}
 use mathlib.Core.Path.{◌≡◌, refl, sym, ap, ◌∙◌}
-use mathlib.Core.Logic.{◌⊎◌}
+use mathlib.Core.Logic.{◌⊎◌, inl, inr}
 use mathlib.Core.List.{List}
 use mathlib.Core.Bool.{true, false}
 use native.Mathlib.Omega.{arith}
@@ -12,7 +12,7 @@ use borrow.Author.Tests.{eq-eqb, ne_eqb}
 use Rattle.wire.specs.Lists.{select}
 use Rattle.record.specs.declared.Cursor.{Cursor}
 use Rattle.record.specs.declared.Step.{Step}
-use Rattle.record.specs.declared.Step.TheVariants.{Record}
+use Rattle.record.specs.declared.Step.TheVariants.{Record, Bad, End}
 use Rattle.record.specs.Record.{type_at, length_at, record_ok, step_at}
 use Rattle.record.specs.Chain.{starts, header_end, records, records_of}
 use Rattle.record.proofs.ChainLaws.{stepped, starts_none, starts_record, less}
@@ -69,5 +69,12 @@ pub tally_over :
     {s : List ℕ} {kind at found : ℕ} {x : Step} → Tally s kind at found → x ≡ step_at s at → (tag_of the_type x ≡ 1) ⊎ (tag_of the_type x ≡ 2) →
     found ≡ length (records_of s kind)
 tally_over {s} {kind} {at} {found} {x} t v w = omega (arith, t.same, ahead_none s kind at (over s at x v w))
+
+-- what stands there if it is no record
+pub tag_other :
+    (x : Step) → ((kind start length : ℕ) → (next : Cursor) → x ≡ Record kind start length next → ⊥) → (tag_of the_type x ≡ 1) ⊎ (tag_of the_type x ≡ 2)
+tag_other (Record k a b c) n = absurd (n k a b c refl)
+tag_other Bad n = inl refl
+tag_other End n = inr refl
 
 pub ruleset tally = (less, tally_begin, tally_more, tally_stay, tally_over)

@@ -1,4 +1,6 @@
 // Records and the cursor over their chain.
+#![tactic(auto)]
+
 pub mod chain;
 pub mod frame;
 
@@ -21,13 +23,13 @@ pub const TILE_DIRECTORY: u32 = 5;
 pub const HEADER: u32 = 6;
 
 // A position in a file at which a record starts, or which is its end.
-#[derive(Drop)]
+#[derive(Clone, Copy)]
 pub struct Cursor {
     pub at: usize,
 }
 
 // What stands at a cursor.
-#[derive(Drop)]
+#[derive(Clone, Copy)]
 pub enum Step {
     // A record of a type, from start on, length bytes long, and the cursor behind it.
     Record {
@@ -43,7 +45,7 @@ pub enum Step {
 }
 
 // The start of a record, or that there is none.
-#[derive(Drop)]
+#[derive(Clone, Copy)]
 pub enum Found {
     At(usize),
     Nothing,

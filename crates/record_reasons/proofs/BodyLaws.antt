@@ -24,7 +24,7 @@ use Rattle.check_records.specs.MetadataBody.{metadata_right}
 use Rattle.reasons.specs.declared.Fault.{Fault}
 use Rattle.reasons.specs.declared.Reason.{Reason}
 use Rattle.reasons.specs.declared.Reason.TheVariants.{Kept, Broken}
-use Rattle.reasons.specs.Rows.{Row, fault_of, at_most, at_least, judged, or_else, first_failing, rows_below}
+use Rattle.reasons.specs.Rows.{fault_of, at_most, at_least, judged, or_else, first_failing, rows_below}
 use Rattle.reasons.proofs.ReasonLaws.{first_none, first_more, first_joined, below_stop, below_whole, kept_by}
 use Rattle.record_reasons.specs.RecordRows.{ending_rows, section_rows, tile_body_rows, described_rows, metadata_body_rows, body_rows}
 use Rattle.record_reasons.proofs.RecordRowLaws.{tile_keeps, metadata_keeps}

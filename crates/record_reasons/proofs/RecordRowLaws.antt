@@ -2,7 +2,7 @@
 use Prim.Native.Nat.{ℕ, ◌+◌}
 use mathlib.Core.Path.{◌≡◌, refl, sym, ap, ◌∙◌}
 use mathlib.Core.List.{List, [], ◌∷◌, ◌++◌}
-use mathlib.Core.Bool.{Bool, true, false, not}
+use mathlib.Core.Bool.{Bool, true, false}
 use native.Mathlib.Omega.{arith}
 use lib.ListN.{length}
 use lib.Dec.{leb, eqb}
@@ -11,13 +11,8 @@ use Rattle.wire.specs.Pick.{pick}
 use Rattle.wire.specs.Tests.{test, both, passes, all_below}
 use Rattle.wire.specs.Bytes.{largest_integer}
 use Rattle.wire.proofs.TestLaws.{below_same}
-use Rattle.answer.specs.declared.Refusal.{Refusal}
-use Rattle.answer.specs.declared.Refusal.TheVariants.{Chain, Checksum, Body}
-use Rattle.answer.specs.declared.Verdict.{Verdict}
-use Rattle.answer.specs.Refusals.{gate}
-use Rattle.record.specs.declared.Found.TheVariants.{At}
 use Rattle.record.specs.Record.{type_at, record_ok}
-use Rattle.record.specs.Chain.{records, records_end, find, find_not}
+use Rattle.record.specs.Chain.{records, records_end}
 use Rattle.record.specs.Types.{metadata_type, tile_type}
 use Rattle.header.specs.Fields.{element_count}
 use Rattle.geometry.specs.declared.Packing.TheVariants.{Uncompressed, Compressed, Fault}
@@ -29,13 +24,12 @@ use Rattle.check_records.specs.Frame.{end_right}
 use Rattle.check_records.specs.Checksum.{checksum_right}
 use Rattle.check_records.specs.TileBody.{not_fault, section_packing, section_right, index_right, tile_right}
 use Rattle.check_records.specs.MetadataBody.{metadata_right}
-use Rattle.check_records.specs.Faults.{chain_fault, body_right, right_of, first_wrong, checksum_fault, body_fault}
+use Rattle.check_records.specs.Faults.{body_right}
 use Rattle.check_records.proofs.RecordLaws.{chain_fault_lem, chain_fault_exactly}
 use Rattle.reasons.specs.Rows.{Row, tests, keeps}
-use Rattle.reasons.specs.Stages.{Stage, verdict_by}
 use Rattle.reasons.specs.HeadRows.{text_row}
 use Rattle.reasons.proofs.ReasonLaws.{both_end, keeps_none, keeps_more, keeps_joined, keeps_below}
-use Rattle.record_reasons.specs.RecordRows.{extent_rows, type_rows, record_rows, chain_rows, checksum_rows, ending_rows, section_rows, tile_body_rows, described_rows, metadata_body_rows, body_rows, stages_of}
+use Rattle.record_reasons.specs.RecordRows.{extent_rows, type_rows, record_rows, chain_rows, checksum_rows, ending_rows, section_rows, tile_body_rows, described_rows, metadata_body_rows, body_rows}
 
 pub two_keep : (xs ys : List Row) (a b : Bool) → keeps xs ≡ a → keeps ys ≡ b → keeps (xs ++ ys) ≡ both a b
 two_keep xs ys a b p q = keeps_joined xs ys ∙ rw (p, q) refl

@@ -1,4 +1,6 @@
 // The cells of a rectangle in one call: one check, then each tile that the rectangle meets once.
+#![tactic(auto)]
+
 mod pieces;
 
 ghost use Rattle.std.specs.Prelude.{◌≡◌, length};
@@ -12,7 +14,7 @@ use store::many;
 use store::many::Rectangle;
 
 // What is said of the cells of a rectangle: how many there are.
-#[derive(Drop)]
+#[derive(Clone, Copy)]
 pub enum Given {
     Cells(u64),
     Refused(Refusal),

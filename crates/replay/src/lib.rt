@@ -1,5 +1,7 @@
 // A correction log replayed on an open page (Req 14): the page and the whole log are judged once, and then each entry is the call of Req
 // 03, made without a check of the page.
+#![tactic(auto)]
+
 ghost use Rattle.std.specs.Prelude.{◌≡◌};
 ghost use Rattle.answer.specs.declared.Verdict.TheVariants.{Accepted};
 ghost use Rattle.geometry.specs.Sizes.{tile_bytes};
@@ -14,7 +16,7 @@ use geometry::{sizes, tiles};
 
 // What a replay answers: the page's length and the number of entries, all of them, or those done before the one that was refused and
 // stopped it; or the refusal before the first.
-#[derive(Drop)]
+#[derive(Clone, Copy)]
 pub enum Replayed {
     Done {
         length: usize,

@@ -1,7 +1,7 @@
 -- A list by rows that is filled stretch by stretch. Assumes nothing.
 use Prim.Native.Nat.{ℕ, zero, suc, ◌+◌, ◌-◌, ◌≤◌, ◌<◌}
 use mathlib.Core.Path.{◌≡◌, refl, sym, ap, ◌∙◌}
-use mathlib.Core.List.{List, [], ◌∷◌, ◌++◌}
+use mathlib.Core.List.{List, [], ◌++◌}
 use mathlib.Core.Logic.{inr, by_cases}
 use native.Mathlib.Decide.{dec_le}
 use native.Mathlib.Omega.{arith}

@@ -1,1 +1,2 @@
 // A page byte by byte, for samples. It has no functions.
+#![tactic(auto)]

@@ -8,7 +8,7 @@ use header::{entries, fields, tail};
 
 // Of a page: place and length of its product label, the UUID's place, the number of methods, raster space and coordinate system, place and
 // length of the coordinates.
-#[derive(Drop)]
+#[derive(Clone, Copy)]
 pub struct PageSaid {
     pub label: usize,
     pub label_length: usize,
@@ -21,7 +21,7 @@ pub struct PageSaid {
 }
 
 // Place and length of an element's label and of its description.
-#[derive(Drop)]
+#[derive(Clone, Copy)]
 pub struct Texts {
     pub label: usize,
     pub label_length: usize,
@@ -30,7 +30,7 @@ pub struct Texts {
 }
 
 // The bits of the Floats of an integer-coded element; 0 of every other.
-#[derive(Drop)]
+#[derive(Clone, Copy)]
 pub struct Floats {
     pub minimum: u32,
     pub maximum: u32,
@@ -40,7 +40,7 @@ pub struct Floats {
 }
 
 // Of an element: its texts, whether it is continuous, the bits of its minimum and maximum, 16 of a Short, and its Floats.
-#[derive(Drop)]
+#[derive(Clone, Copy)]
 pub struct ElementSaid {
     pub texts: Texts,
     pub continuous: u32,

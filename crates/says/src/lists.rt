@@ -6,7 +6,7 @@ ghost use Rattle.says.specs.Lists.{listed_number, listed_first, listed_more, off
 use answer::Refusal;
 
 // How many items were taken, and how many there are from the first that was asked for on.
-#[derive(Drop)]
+#[derive(Clone, Copy)]
 pub enum Listed {
     Items { taken: u64, more: u64 },
     Refused(Refusal),
@@ -44,7 +44,7 @@ pub fn listed_more(x: Listed) -> u64
 
 // A list under way: how many items are still to be passed over, where the next one goes, how many were taken, and how many were seen
 // behind those passed over.
-#[derive(Drop)]
+#[derive(Clone, Copy)]
 pub struct Progress {
     pub skip: u64,
     pub at: usize,

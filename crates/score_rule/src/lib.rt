@@ -1,4 +1,6 @@
 // The score rule that a page says, by its metadata records named `score_rule`.
+#![tactic(auto)]
+
 ghost use Rattle.std.specs.Prelude.{◌≡◌};
 ghost use Rattle.answer.specs.declared.Verdict.TheVariants.{Accepted};
 ghost use Rattle.store.specs.Face.{check, name_said};
@@ -8,7 +10,7 @@ use store::named;
 use store::named::NamedIds;
 
 // The first rule, the second, or neither: the records under the name contradict themselves or name another.
-#[derive(Drop)]
+#[derive(Clone, Copy)]
 pub enum Said {
     First,
     Second,

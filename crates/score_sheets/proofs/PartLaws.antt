@@ -2,19 +2,18 @@
 use Prim.Native.Nat.{ℕ, min, ◌+◌, ◌-◌, ◌*◌, ◌/◌, ◌%◌, ◌≤◌, ◌<◌}
 use mathlib.Core.Path.{◌≡◌, refl, sym, ap, ◌∙◌}
 use mathlib.Core.List.{List, [], ◌∷◌, ◌++◌, map, flat_map}
-use mathlib.Core.Logic.{◌⊎◌, inl, inr, ⊎_elim, by_cases}
-use mathlib.Core.Bool.{Bool, true, false}
-use native.Mathlib.Decide.{dec_le}
+use mathlib.Core.Logic.{◌⊎◌, ⊎_elim}
+use mathlib.Core.Bool.{Bool, true}
 use native.Mathlib.Omega.{arith}
 use native.Mathlib.Numerals.{add-one}
 use native.Mathlib.Nat.{mul-le-mul_right}
 use lib.ListN.{length, set}
 use lib.Dec.{eqb}
-use borrow.Author.Tests.{eq-eqb, ne_eqb}
-use Rattle.wire.specs.Tests.{◌≤?◌, passes, all_below}
+use borrow.Author.Tests.{eq-eqb}
+use Rattle.wire.specs.Tests.{◌≤?◌, all_below}
 use Rattle.wire.specs.Bytes.{bytes_of, put}
 use Rattle.wire.specs.Lists.{below}
-use Rattle.wire.proofs.TestLaws.{yes, no, below_same, below_all, below_none, each_more, each_not, each_all}
+use Rattle.wire.proofs.TestLaws.{yes, no, below_same, below_all}
 use Rattle.wire.proofs.ByteLaws.{bytes_length}
 use Rattle.wire.proofs.ListLaws.{below_long}
 use Rattle.wire.proofs.PutLaws.{length_put, put_one, put_nil, put_out, first, then}

@@ -1,17 +1,17 @@
 -- Whether a sheet is right, test by test, and its first bytes as they are put. Assumes nothing.
 use Prim.Native.Nat.{ℕ, ◌+◌, ◌*◌, ◌/◌, ◌%◌, ◌≤◌, ◌<◌}
 use mathlib.Core.Path.{◌≡◌, refl, sym, ap, ◌∙◌}
-use mathlib.Core.List.{List, [], ◌∷◌, ◌++◌}
-use mathlib.Core.Bool.{Bool, true, false, ◌||◌}
+use mathlib.Core.List.{List, [], ◌∷◌}
+use mathlib.Core.Bool.{Bool, true, false}
 use native.Mathlib.Omega.{arith}
 use native.Mathlib.Nat.{mul-le-mul}
 use lib.ListN.{length}
-use lib.Dec.{leb, eqb}
+use lib.Dec.{eqb}
 use borrow.Author.Tests.{le-leb, lt-leb, eq-eqb}
-use Rattle.wire.specs.Tests.{Test, ◌≤?◌, ◌≡?◌, is, both, passes, all_below}
+use Rattle.wire.specs.Tests.{Test, ◌≤?◌, ◌≡?◌, both, passes, all_below}
 use Rattle.wire.specs.Bytes.{byte_at, put}
 use Rattle.wire.specs.Big.{big_at, big_of}
-use Rattle.wire.proofs.TestLaws.{means, yes, no, no_true, not_both, either_way}
+use Rattle.wire.proofs.TestLaws.{means, yes, no, not_both, either_way}
 use Rattle.wire.proofs.PutLaws.{put_out, first, then}
 use Rattle.wire.proofs.BigLaws.{big_length}
 use Rattle.score_sheets.specs.Sheet.{sheet_rows, sheet_columns, score_at, score_right, sheet_right, sheet_head}

@@ -3,18 +3,17 @@
 use Prim.Native.Nat.{ℕ, zero, suc, ◌+◌, ◌*◌, ◌/◌, ◌%◌, ◌^◌, ◌≤◌, ◌<◌}
 use mathlib.Core.Path.{◌≡◌, refl, sym, ap, ap₂, ◌∙◌}
 use mathlib.Core.List.{List, [], ◌∷◌, ◌++◌, map, map-append, flat_map, append_assoc}
-use mathlib.Core.Bool.{Bool, true, false, ◌||◌}
+use mathlib.Core.Bool.{Bool, true, false}
 use native.Mathlib.Omega.{arith}
-use native.Mathlib.Numerals.{add-one}
-use lib.ListN.{length, get_or, length-append}
+use lib.ListN.{length, length-append}
 use lib.Dec.{leb, eqb}
 use borrow.Author.Tests.{leb-true, eqb-true}
 use Rattle.wire.specs.Bytes.{Bytes, byte_at, part}
 use Rattle.wire.specs.Big.{big_from, big_at, big_of}
 use Rattle.wire.specs.Lists.{below}
-use Rattle.wire.specs.Tests.{◌≤?◌, ◌≡?◌, is, passes, all_below}
+use Rattle.wire.specs.Tests.{all_below}
 use Rattle.wire.proofs.TestLaws.{means, yes, not_both, below_all}
-use Rattle.wire.proofs.ByteLaws.{part_split, part_whole, part_in, byte_before, byte_behind}
+use Rattle.wire.proofs.ByteLaws.{part_split, part_whole, part_in}
 use Rattle.wire.proofs.BigLaws.{big_before, big_behind, big_of_lem, big_length, big_byte, big_one, big_small, big_part}
 use Rattle.wire.proofs.RunLaws.{run_length, run_part, run_append, run_one, below_cut}
 use Rattle.blocks.specs.Tables.{tabled}

@@ -1,5 +1,7 @@
 // Score sheets: whether one is right, its scores as a page has them, and its first bytes. A sheet is a slice, and no byte more; of one
 // that is not right each function promises its definition too.
+#![tactic(auto)]
+
 pub mod parts;
 
 ghost use Rattle.std.specs.Prelude.{◌≡◌, ◌+◌, ◌*◌, ◌≤◌, ◌<◌, length, [], ◌∷◌};

@@ -3,6 +3,8 @@
 //
 // The first pass finds the first cell by rows that is refused. The cells of a tile differ in that, so it can't stop at the first piece:
 // each such cell weighs what is left from it to the grid's end, and the greatest weight is that of the first. Its cell is then asked again.
+#![tactic(auto)]
+
 mod put;
 mod read;
 mod weigh;

@@ -1,1 +1,2 @@
 // Small pages, byte by byte: definitions, no code.
+#![tactic(auto)]

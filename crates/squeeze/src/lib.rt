@@ -3,6 +3,8 @@
 //
 // A plan that is lent to a call is its working space: while records move it holds old starts too. Whatever is answered it holds the same
 // numbers when the call returns.
+#![tactic(auto)]
+
 mod fields;
 mod finding;
 mod moving;
@@ -24,7 +26,7 @@ use plans::{checking, kept, packing, tight};
 
 // What the tight plan is answered by: the length that the page would have, or the refusal; and how many starts there are, also where the
 // plan has no room for them.
-#[derive(Drop)]
+#[derive(Clone, Copy)]
 pub struct TightPlan {
     pub answer: Laid,
     pub starts: usize,

@@ -13,7 +13,7 @@ use header::{entries, fields};
 use record::chain;
 
 // The sides of the grid and of a tile, and the number of elements.
-#[derive(Drop)]
+#[derive(Clone, Copy)]
 pub struct Shape {
     pub rows: u32,
     pub columns: u32,
@@ -24,7 +24,7 @@ pub struct Shape {
 
 // A page's numbers. `tile_bytes` is those of a tile that is stored uncompressed, all its elements together; `front` is where the
 // header ends, and the length of the identification block and the header record; `checksums` is 1 where they are on, else 0.
-#[derive(Drop)]
+#[derive(Clone, Copy)]
 pub struct PageNumbers {
     pub shape: Shape,
     pub tiles_down: u32,
@@ -38,7 +38,7 @@ pub struct PageNumbers {
 }
 
 // What is said of a page.
-#[derive(Drop)]
+#[derive(Clone, Copy)]
 pub enum Described {
     Page(PageNumbers),
     Refused(Refusal),
@@ -46,7 +46,7 @@ pub enum Described {
 
 // What is said of an element: its type code, the bit pattern of its fill value, and the places and the lengths of its name and of its
 // unit of measure.
-#[derive(Drop)]
+#[derive(Clone, Copy)]
 pub enum Specified {
     Element {
         kind: u32,

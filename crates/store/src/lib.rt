@@ -13,6 +13,8 @@
 //
 // A function that has a page in a local is proved by hand. `cell_of` and `content_of` ask the same of bytes, without a page, so that
 // no proof of a product above goes through one.
+#![tactic(auto)]
+
 pub mod description;
 mod elements;
 pub mod many;
@@ -30,7 +32,7 @@ ghost use Rattle.store.specs.Lookup.{read_element_named};
 
 use answer::{Cell, Lookup, Verdict};
 
-#[derive(Drop)]
+#[derive(Clone, Copy)]
 pub struct Page<'a> {
     pub file: &'a [u8],
     // The compressor index: compressed content is unpacked only where it has this one. None has one above 255.

@@ -17,7 +17,7 @@ use header::fields;
 use tile_routes::Route;
 
 // An element, and a rectangle's first row and column and its sides.
-#[derive(Drop)]
+#[derive(Clone, Copy)]
 pub struct Rectangle {
     pub e: u64,
     pub row: u64,

@@ -8,7 +8,7 @@ use bodies::metadata_record;
 use record::{Cursor, Found, Step, chain};
 
 // What is said of a name: no metadata record has it, one has it, by its record ID, or more than one.
-#[derive(Drop)]
+#[derive(Clone, Copy)]
 pub enum NamedIds {
     Absent,
     One(u32),

@@ -11,7 +11,7 @@ use header::fields;
 
 // A piece: its tile, the number inside that of its first cell, the rows from `top` to below `bottom` and the columns from `left` to below
 // `right`. A walk is at its end where `top` is the number of the rectangle's rows.
-#[derive(Drop)]
+#[derive(Clone, Copy)]
 pub struct Piece {
     pub tile: u64,
     pub inside: u64,

@@ -13,7 +13,7 @@ use record::{chain, frame};
 use tile_routes::Route;
 
 // What a page holds of its bytes: where the header ends, and the tile directory's reference.
-#[derive(Drop)]
+#[derive(Clone, Copy)]
 pub struct Positions {
     pub header_end: usize,
     pub directory: u64,

@@ -1,5 +1,7 @@
 // Bytes put into a lent buffer, at most k of them (Req 05). What is left of k comes back, and is what the next writer has. Writing is
 // total: what does not fit whole is not written, and is counted.
+#![tactic(auto)]
+
 ghost use Rattle.std.specs.Prelude.{◌≡◌, ◌-◌};
 ghost use Rattle.wire.specs.Bytes.{bytes_of, zeros};
 ghost use Rattle.stores.specs.Stores.{store_count, first_bytes, stopped};

@@ -2,6 +2,8 @@
 // those before it, so they are worked out once, into 16 numbers.
 //
 // They are said of a tile that keeps the ceiling on its bytes (stage 4); where it does not, nothing is counted.
+#![tactic(auto)]
+
 ghost use Rattle.std.specs.Prelude.{◌≡◌, true};
 ghost use Rattle.geometry.specs.Sizes.{plain_tile_length};
 ghost use Rattle.tile_sizes.specs.TileSizes.{tile_small, length_of_tile, with_sizes};

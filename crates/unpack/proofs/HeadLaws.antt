@@ -13,7 +13,7 @@ use Rattle.wire.specs.Tests.{Test, ◌≤?◌, ◌≡?◌, is, Holds}
 use Rattle.wire.specs.Bytes.{byte_at}
 use Rattle.wire.proofs.TestLaws.{yes, no, means, either_way, not_both}
 use Rattle.m32.specs.M32.{codes}
-use Rattle.huffman.specs.Tree.{Tree, Parsed, got, bad, leaves, tree_at}
+use Rattle.huffman.specs.Tree.{Parsed, got, bad, leaves, tree_at}
 use Rattle.huffman.specs.Symbols.{symbols_of, among, distinct}
 use Rattle.huffman.specs.Nodes.{size, Nodes, outcome, root_outcome, root_nodes, symbols_in}
 use Rattle.huffman.specs.declared.Read.{Read}

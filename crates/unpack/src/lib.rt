@@ -1,5 +1,7 @@
 // The content of a compressed element of a tile: its head, its tree, and the cells that its numbers give. A number is passed as the
 // u32 of its bits.
+#![tactic(auto)]
+
 mod head;
 mod reading;
 mod rows;
@@ -12,7 +14,7 @@ ghost use Rattle.unpack.specs.Unpack.{unpacked, cell_at, cells_in, is_whole};
 use rows::unpack_into;
 
 // A cell of a content, or that the content is malformed.
-#[derive(Drop)]
+#[derive(Clone, Copy)]
 pub enum Unpacked {
     Cell(u32),
     Malformed,

@@ -9,7 +9,7 @@ use huffman::{Next, next_symbol};
 use m32::{Found, Step};
 
 // The bit behind what was read, or that the content is malformed.
-#[derive(Drop)]
+#[derive(Clone, Copy)]
 pub enum Behind {
     At(usize),
     Bad,

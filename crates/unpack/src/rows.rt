@@ -9,25 +9,25 @@ ghost use Rattle.unpack.specs.Steps.{Lined, Rowed, Few, Tiled, Answered};
 use crate::Unpacked;
 use crate::head::{count_right, head_right, read_root};
 use crate::reading::{Behind, number_at};
-use crate::values::{cell_or, fill, fill_from, in_range, put_bits, put_of_tile};
+use crate::values::{cell_or, clear, fill_from, in_range, put_bits, put_of_tile};
 use m32::Found;
 
 // A row that was made: the bit behind its numbers, and how many bytes their codes have.
-#[derive(Drop)]
+#[derive(Clone, Copy)]
 pub enum Made {
     Row { pos: usize, bytes: usize },
     Bad,
 }
 
 // A tile whose rows were all made: how many bytes the codes of its numbers have, and the cell that was asked for.
-#[derive(Drop)]
+#[derive(Clone, Copy)]
 pub enum Tile {
     Done { bytes: usize, value: u32 },
     Bad,
 }
 
 // What is to be made: by which predictor, whether of Shorts, how many rows and cells, and which cell is asked for.
-#[derive(Drop)]
+#[derive(Clone, Copy)]
 pub struct Plan {
     pub predictor: u32,
     pub short: bool,
@@ -191,7 +191,7 @@ fn unpack_tile(
     requires shape { (length above.old ≡ length row.old) × ((plan.cells ≡ plan.rows * length row.old) × (plan.predictor ≡ predictor_of c.now)) }
     ensures { (t : Tree) → Nodes nodes.now 0 t → tree_in c.now ≡ got t start → tree_right c.now ≡ true → Answered (unpacked c.now plan.rows (length row.old) plan.short) plan.inside out.old out.new result }
 {
-    fill(above, 0);
+    clear(above);
     row[0] = wire::u32_at(c, 2);
     match all_rows(c, nodes, plan, start, above, row, out) {
         Tile::Bad => Unpacked::Malformed,

@@ -1,6 +1,7 @@
 // The numbers of cells: their range, their bits, and where they go.
 ghost use Rattle.std.specs.Prelude.{◌≡◌, List, ◌++◌, ℕ, ◌≤◌, length, get_or, replicate};
 ghost use Rattle.wire.specs.Bytes.{put};
+ghost use Rattle.predict.specs.Predict.{no_row};
 ghost use Rattle.unpack.specs.Unpack.{is_short, all_short, in_range, bits_of_cell, bits_of};
 ghost use Rattle.unpack.specs.Steps.{filled_from, fitted};
 
@@ -15,7 +16,14 @@ pub fn fill(row: &mut [u32], x: u32)
     }
 }
 
-// The same from a column on.
+// Makes a row of zeros, as it stands above the first.
+pub fn clear(row: &mut [u32])
+    ensures { row.new ≡ no_row (length row.old) }
+{
+    fill(row, 0);
+}
+
+// One number from a column on.
 pub(crate) fn fill_from(row: &mut [u32], from: usize, x: u32)
     requires { from ≤ length row.old }
     ensures { row.new ≡ filled_from row.old from x }

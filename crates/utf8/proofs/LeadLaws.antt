@@ -68,6 +68,7 @@ rising = omega arith
 above : (n : ℕ) (ds : List Lead) (d : Lead) → Rising n ds → Memᴰ d ds → n ≤ d.first
 above n (e ∷ es) d r (Memᴰ.head q) = rw q r.0
 above n (e ∷ es) d r (Memᴰ.tail m) = let h = above (suc e.last) es d r.1.1 m in omega arith
+above n [] d r x'' = elim x'' [ ]
 
 hits : (n b : ℕ) (ds : List Lead) (d : Lead) → Rising n ds → Memᴰ d ds → Within d.first d.last b → following b (map row_of ds) ≡ behind d
 unfolding following
@@ -75,6 +76,7 @@ hits n b (e ∷ es) d r (Memᴰ.head q) h = rw q (rw (octet_in e.first e.last b 
 hits n b (e ∷ es) d r (Memᴰ.tail m) h =
     let l = above (suc e.last) es d r.1.1 m in
     rw (octet_out e.first e.last b (omega arith)) (hits (suc e.last) b es d r.1.1 m h)
+hits n b [] d r x3 h = elim x3 [ ]
 
 -- at each way out of `lead`
 

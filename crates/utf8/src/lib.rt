@@ -1,10 +1,12 @@
 // RFC 3629, section 4: whether bytes are UTF-8.
+#![tactic(auto)]
+
 ghost use Rattle.std.specs.Prelude.{◌≡◌, List, ◌∷◌, ℕ};
 ghost use Rattle.utf8.specs.Utf8.{rows, following, goes_on, utf8};
 ghost use Rattle.utf8.specs.inner.Wanted.{wanted};
 
 // How many bytes are still wanted, and the lowest and the highest that the next may be.
-#[derive(Drop)]
+#[derive(Clone, Copy)]
 struct Wanted(u32, u32, u32);
 
 // What has to follow a byte that begins a character; of any other byte, a range that no byte is in.

@@ -1,4 +1,6 @@
 // Little-endian numbers in bytes. Reading is total: what does not lie whole in the slice reads as nothing, or as 0.
+#![tactic(auto)]
+
 pub mod big;
 pub mod writing;
 
@@ -124,7 +126,7 @@ pub fn part_of(s: &[u8], at: usize, n: usize) -> &[u8]
 }
 
 // What a comparison tells: whether the bytes are the same, and how many pairs of them it read.
-#[derive(Drop)]
+#[derive(Clone, Copy)]
 pub struct Compared {
     pub equal: bool,
     pub pairs: usize,

@@ -1,4 +1,6 @@
 // Whether a page is open for writing.
+#![tactic(auto)]
+
 ghost use Rattle.std.specs.Prelude.{◌≡◌, [], ◌∷◌, length};
 ghost use Rattle.wire.specs.Tests.{◌≡?◌, passes};
 ghost use Rattle.check_header.specs.Stages.{check_header};

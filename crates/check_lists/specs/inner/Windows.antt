@@ -1,10 +1,12 @@
 -- For private functions of lists.rt; no rule of stage 9 rests on it.
 -- The entries of a list, counted by the records that they are of, a window of the file at a time. A window has places, the first
 -- at its base, each eight bytes behind the one before it.
-use Rattle.std.specs.Prelude.{ℕ, zero, suc, ◌+◌, ◌-◌, ◌/◌, ◌%◌, ◌*◌, List, [], ◌∷◌, Bool, leb, length, get_or, set, replicate}
+use Rattle.std.specs.Prelude.{ℕ, zero, suc, ◌+◌, ◌-◌, ◌/◌, ◌%◌, ◌*◌, List, [], ◌∷◌, Bool, not, leb, length, get_or, set, replicate}
 use Rattle.wire.specs.Pick.{pick}
 use Rattle.wire.specs.Tests.{◌≤?◌, ◌≡?◌, ◌≢?◌, is, passes}
 use Rattle.wire.specs.Bytes.{u64_at}
+use Rattle.wire.specs.Lists.{every}
+use Rattle.record.specs.Chain.{records_of}
 use Rattle.record.specs.Record.{type_at}
 use Rattle.check_lists.specs.declared.ListKind.{ListKind}
 use Rattle.check_lists.specs.declared.ListKind.TheVariants.{FreeSpace, Metadata}
@@ -53,3 +55,7 @@ not_once_in s l base cs x = passes ((type_at s x ≡? listed_kind l) ∷ is (cou
 -- the counts of the window at base, whole
 unfoldable pub window_counts : List ℕ → ListKind → ℕ → List ℕ
 window_counts s l base = tallied s l base (replicate window_places 0) (list_count s l)
+
+-- no record of the list's type is one
+unfoldable pub window_right : List ℕ → ListKind → ℕ → Bool
+window_right s l base = every (λ x. not (count_not_one base (window_counts s l base) x)) (records_of s (listed_kind l))

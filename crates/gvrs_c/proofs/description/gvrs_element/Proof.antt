@@ -1,7 +1,6 @@
 -- `gvrs_c::description::gvrs_element` meets its contract. Assumes nothing.
 use borrow.Author.Rules.{rules}
 use Rattle.store.specs.Description.{specified_number}
-use Rattle.says.specs.Further.{said_of_element}
 use Rattle.gvrs_c.specs.Description.{element_numbers}
 use Rattle.gvrs_c.proofs.DescriptionLaws.{list_told}
 use Rattle.gvrs_c.proofs.description.gvrs_element.Statement.{statement}
@@ -17,4 +16,4 @@ gvrs_element_spec =
     (λ c κs. search rules)
     (λ c κs. search rules)
     (λ c. search rules)
-    (λ c. list_told specified_number (element_numbers (said_of_element _ _)) _ _ _ _ _ _ c.before.before.before.before.before.before.before.specify.ensures c.before.before.before.before.before.before.element-numbers.ensures c.before.before.before.report-all.ensures c.specified-number.ensures))
+    (λ c. list_told specified_number element_numbers _ _ _ _ _ _ c.before.before.before.before.before.before.before.specify.ensures c.before.before.before.before.before.before.element-numbers.ensures c.before.before.before.report-all.ensures c.specified-number.ensures))

@@ -1,7 +1,6 @@
 -- `gvrs_c::description::gvrs_page` meets its contract. Assumes nothing.
 use borrow.Author.Rules.{rules}
 use Rattle.store.specs.Description.{described_number}
-use Rattle.says.specs.Further.{said_of_page}
 use Rattle.gvrs_c.specs.Description.{page_numbers}
 use Rattle.gvrs_c.proofs.DescriptionLaws.{list_told}
 use Rattle.gvrs_c.proofs.description.gvrs_page.Statement.{statement}
@@ -17,4 +16,4 @@ gvrs_page_spec =
     (λ c κs. search rules)
     (λ c κs. search rules)
     (λ c. search rules)
-    (λ c. list_told described_number (page_numbers (said_of_page _)) _ _ _ _ _ _ c.before.before.before.before.before.before.before.describe.ensures c.before.before.before.before.before.before.page-numbers.ensures c.before.before.before.report-all.ensures c.described-number.ensures))
+    (λ c. list_told described_number page_numbers _ _ _ _ _ _ c.before.before.before.before.before.before.before.describe.ensures c.before.before.before.before.before.before.page-numbers.ensures c.before.before.before.report-all.ensures c.described-number.ensures))

@@ -16,7 +16,4 @@ in_order_spec =
     (λ c. search rules)
     (λ c. search rules)
     (λ c. record { fits = omega (arith, c.struct-known8.given) })
-    (λ c. search rules)
-    (λ c. search rules)
-    (λ c. search rules)
     (λ c. search rules))

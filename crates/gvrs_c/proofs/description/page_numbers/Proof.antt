@@ -10,8 +10,7 @@ page_numbers_spec =
     (tie.spec
     (λ c. search rules)
     (λ c κs. search rules)
-    (λ c κs. search rules)
     (λ c. search rules)
     (λ c κs. search rules)
-    (λ c. page_told _ _ _ _ _ c.before.before.before.x.given.1 c.before.of-page.ensures c.in_order.ensures)
-    (λ c. page_refused _ _ _ _ c.before.before.x2.given.1 c.refusal-place.ensures))
+    (λ c. page_told _ _ _ c.before.before.x.given.1 c.in-order.ensures)
+    (λ c. page_refused _ _ _ c.before.before.x2.given.1 c.refusal-place.ensures))

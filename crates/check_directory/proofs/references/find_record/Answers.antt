@@ -1,0 +1,31 @@
+-- `check_directory::references::find_record` meets its contract. Assumes nothing.
+use borrow.Author.Rules.{rules}
+use Rattle.record.proofs.SeekLaws.{seek}
+use Rattle.check_directory.proofs.references.find_record.Goals as goal
+
+pub header_end-requires : goal.header_end-requires
+header_end-requires c = search (rules, seek)
+
+pub loop-kind-init : goal.loop-kind-init
+loop-kind-init c = search (rules, seek)
+
+pub step-requires : goal.step-requires
+step-requires c = search (rules, seek)
+
+pub enum_known-kind : goal.enum_known-kind
+enum_known-kind c = search (rules, seek)
+
+pub returns-in_default : goal.returns-in_default
+returns-in_default c = search (rules, seek)
+
+pub is_wanted-requires : goal.is_wanted-requires
+is_wanted-requires c = search (rules, seek)
+
+pub returns-then-is_wanted : goal.returns-then-is_wanted
+returns-then-is_wanted c = search (rules, seek)
+
+pub loop-kind-smaller : goal.loop-kind-smaller
+loop-kind-smaller c = search (rules, seek)
+
+pub loop-kind-preserved : goal.loop-kind-preserved
+loop-kind-preserved c = search (rules, seek)

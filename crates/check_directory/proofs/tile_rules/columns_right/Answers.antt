@@ -1,0 +1,6 @@
+-- `check_directory::tile_rules::columns_right` meets its contract. Assumes nothing.
+
+use Rattle.check_directory.proofs.tile_rules.columns_right.Goals as goal
+
+pub returns : goal.returns
+returns c = cc

@@ -1,0 +1,18 @@
+-- `header::entries::entry_start` meets its contract. Assumes nothing.
+use Rattle.wire.proofs.ItemLaws.{items_step, items_stop, items_end}
+use Rattle.header.proofs.EntryLaws.{entries_begin}
+use borrow.Author.Rules.{rules}
+use native.Mathlib.Omega.{arith}
+use Rattle.header.proofs.entries.entry_start.Goals as goal
+
+pub loop-left-init : goal.loop-left-init
+loop-left-init c = (search (rules, entries_begin), omega arith)
+
+pub returns-then-limit-at-clause-is : goal.returns-then-limit-at-clause-is
+returns-then-limit-at-clause-is c = search (rules, items_stop)
+
+pub loop-left-preserved : goal.loop-left-preserved
+loop-left-preserved c = (search (rules, items_step), omega arith)
+
+pub returns-clause-is : goal.returns-clause-is
+returns-clause-is c = search (rules, items_end)

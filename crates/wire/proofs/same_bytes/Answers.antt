@@ -1,0 +1,6 @@
+-- `wire::same_bytes_lem` meets its contract. Assumes nothing.
+use Rattle.wire.proofs.CompareLaws.{told_equal}
+use Rattle.wire.proofs.same_bytes.Goals as goal
+
+pub returns : goal.returns
+returns c = told_equal _ _ c.compare-c.ensures
