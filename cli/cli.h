@@ -37,6 +37,8 @@ struct request {
     uint64_t time;        /* milliseconds since 1970 */
     uint64_t wait;        /* seconds; 0 where none are given */
     int quiet;
+    int all;              /* whether all that a page says of itself is shown */
+    int each;             /* whether several files are checked */
     int partial;          /* whether a replay that stops is written */
     int squeeze;          /* whether a corrected page is squeezed */
     const char *grid, *tile, *uuid, *label; /* of a new page; NULL where not given */
@@ -72,7 +74,9 @@ struct reason {
     int compared;
 };
 
-/* The reason of a refusal of 1 to 9: whether there is one; in words that go behind those of the refusal; said below the refusal. */
+/* The reason of a refusal of 1 to 9: whether there is one; in words that go behind those of the refusal; said below the refusal, where that
+   is wanted. */
+extern int why_wanted;
 int reason(const struct page *refused, uint32_t number, uint64_t place, struct reason *why);
 void say_reason(const struct reason *why, uint32_t number, char *text, size_t room);
 void explain(const struct page *refused, uint32_t number, uint64_t place);
@@ -104,6 +108,9 @@ int element_given(const char *text, uint64_t *element);
 void print_value(uint64_t type, uint32_t pattern);
 void print_marked(const char *word, uint64_t type, uint32_t pattern);
 void print_kind(uint32_t kind, uint64_t type, uint32_t pattern);
+
+/* Prints a text of a page in quotation marks. */
+void print_text(const uint8_t *text, uint64_t n);
 
 /* A field of what is shown: its name, for JSON and CSV; the words before it in text, NULL where it does not stand there; the words in its
    place where there is nothing to show, or NULL. A name that is NULL ends the fields. */

@@ -329,8 +329,6 @@ int run_store(const struct request *request) {
     char **words = request->words + 1;
     uint64_t count = (uint64_t)request->count - 1;
     int several = strchr(words[0], '=') != NULL, status = DONE;
-    if (!several && count != 2)
-        return failed("INDEX CELLS is needed behind FILE, or INDEX=CELLS for each tile; `gvrs store --help` says more");
     struct change *changes = calloc(count, sizeof *changes);
     if (changes == NULL)
         return failed("%s", strerror(errno));

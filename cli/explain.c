@@ -1,7 +1,9 @@
-/* cli/explain.c: why a page is refused: the rule that it breaks, below the refusal. */
+/* cli/explain.c: why a page is refused: the rule that it breaks, below the refusal where that is wanted. */
 #include <stdio.h>
 #include <string.h>
 #include "cli.h"
+
+int why_wanted;
 
 /* What out[] of gvrs_explain holds. */
 enum { PLACE, RULE, NUMBER, POSITION, FOUND, WANTED, NUMBERS };
@@ -79,7 +81,7 @@ void say_reason(const struct reason *why, uint32_t number, char *text, size_t ro
 void explain(const struct page *refused, uint32_t number, uint64_t place) {
     struct reason why;
     char text[300];
-    if (!reason(refused, number, place, &why))
+    if (!why_wanted || !reason(refused, number, place, &why))
         return;
     say_reason(&why, number, text, sizeof text);
     failed("%s%s", gvrs_refusal(number), text);

@@ -16,7 +16,7 @@ _gvrs() {
     fi
     usage=$("$gvrs" "$command" --help 2>/dev/null | sed -n '1s/^usage: gvrs [a-z-]* //p')
     if [[ $word == -* ]]; then
-        _gvrs_words "$word" < <(grep -o -e '--*[a-z][a-z-]*' <<<"$usage"; echo --help)
+        _gvrs_words "$word" < <(grep -o -e '--*[a-z][a-z-]*' <<<"$usage"; echo --help --why)
     elif [ "$(cut -d ' ' -f $((COMP_CWORD - 1)) <<<"$usage")" = ELEMENT ]; then
         _gvrs_words "$word" < <("$gvrs" info "${COMP_WORDS[2]}" --csv 2>/dev/null | sed -n 's/^elements\.[0-9]*\.name,//p')
     else

@@ -51,7 +51,7 @@ static int uuid_given(const char *text, uint8_t *uuid) {
         if (*text != '-' && n++ < 2 * UUID)
             digits[n - 1] = *text;
     if (n != 2 * UUID || strspn(digits, "0123456789abcdefABCDEF") != 2 * UUID)
-        return failed("--uuid wants 32 hexadecimal digits, with or without - between them");
+        return failed("--uuid wants 32 hexadecimal digits");
     for (int i = 0; i < UUID; i++) {
         char pair[3] = {digits[2 * i], digits[2 * i + 1], '\0'};
         uuid[i] = (uint8_t)strtoul(pair, NULL, 16);
@@ -186,9 +186,13 @@ static uint32_t broken_rule(uint32_t number, const struct told *t, char *note, s
     return rule != 0 ? rule : t->sides[5] > 0 ? 26 : 0;
 }
 
-/* The refusal of a front, with the rule that what was given breaks. */
+/* The refusal of a front in words that name what was given; where it is wanted, with the rule that this breaks. */
 static int refused_front(uint32_t number, uint64_t place, const struct told *t) {
     char note[200] = "";
+    if (!why_wanted)
+        return refused(number, place, number == GVRS_HEADER  ? "a side, a name, a unit or the label is at fault, two names are equal, or no element is given"
+                                    : number == GVRS_CEILING ? "of the sides, the tiles, the bytes of a tile, or the elements"
+                                                             : NULL);
     uint32_t rule = number == GVRS_HEADER || number == GVRS_CEILING ? broken_rule(number, t, note, sizeof note) : 0;
     size_t n = strlen(note);
     snprintf(note + n, sizeof note - n, "%s", gvrs_rule(rule));

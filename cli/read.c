@@ -29,12 +29,12 @@ static const struct field CHECKED[] = {
     {"wanted", NULL, NULL}, {NULL, NULL, NULL},
 };
 
-/* A row for a file. As text the reason stands behind the refusal. */
+/* A row for a file. As text the reason stands behind the refusal where it is wanted. */
 static void show_checked(uint32_t number, uint64_t place) {
     struct reason why;
     char text[300] = "";
     int refused = number != GVRS_ACCEPTED, explained = reason(&page, number, place, &why);
-    if (explained)
+    if (explained && why_wanted)
         say_reason(&why, number, text, sizeof text - 1);
     strcat(text, "\n");
     open_row();
@@ -72,7 +72,7 @@ static int check_one(const struct request *request) {
 /* The status is that of the worst: failed, refused, done. */
 int run_check(const struct request *request) {
     int worst = DONE;
-    if (request->count == 1 && request->form == TEXT)
+    if (!request->each && request->form == TEXT)
         return check_one(request);
     open_list(NULL, CHECKED);
     for (int i = 0; i < request->count; i++) {
@@ -90,6 +90,37 @@ int run_check(const struct request *request) {
     return worst;
 }
 
+static void print_element(uint64_t e) {
+    uint64_t element[6];
+    gvrs_element(page.bytes, page.n, e, element, 6);
+    printf("element %" PRIu64 ": %.*s, %s, ", e, (int)element[3], (const char *)page.bytes + element[2], TYPES[element[0]]);
+    print_marked("fill", element[0], (uint32_t)element[1]);
+    if (element[5] > 0) {
+        printf(", unit ");
+        print_text(page.bytes + element[4], element[5]);
+    }
+    printf("\n");
+}
+
+static int print_info(void) {
+    uint64_t is[13];
+    uint32_t number = gvrs_page(page.bytes, page.n, is, 13);
+    if (number != GVRS_ACCEPTED)
+        return refused(number, is[0], NULL);
+    printf("grid: %" PRIu64 " rows, %" PRIu64 " columns\n", is[0], is[1]);
+    printf("tile: %" PRIu64 " rows, %" PRIu64 " columns\n", is[2], is[3]);
+    printf("tiles: %" PRIu64 " down, %" PRIu64 " across\n", is[4], is[5]);
+    printf("tiles stored: %" PRIu64 " of %" PRIu64 "\n", is[9], is[4] * is[5]);
+    printf("bytes of a tile: %" PRIu64 "\n", is[7]);
+    printf("metadata records: %" PRIu64 "\n", is[10]);
+    printf("modified: %" PRIu64 " ms since 1970\n", is[11]);
+    printf("checksums: %s\n", is[12] == 1 ? "on" : "off");
+    for (uint64_t e = 0; e < is[6]; e++)
+        print_element(e);
+    return DONE;
+}
+
+/* What a page says further is shown with --all, and as JSON or CSV. */
 static const struct field PAGE[] = {
     {"file", NULL, NULL},
     {"length", "length: ", NULL}, {"free", " bytes, free ", NULL},
@@ -117,7 +148,7 @@ static void put_text_at(const uint64_t *text) {
 
 static void show_element(uint64_t e) {
     uint64_t element[18];
-    gvrs_element(page.bytes, page.n, e, element, 18);
+    gvrs_element_said(page.bytes, page.n, e, element, 18);
     int coded = element[0] == INTEGER_CODED;
     open_row();
     put_number(e);
@@ -175,11 +206,9 @@ static uint64_t free_bytes(uint64_t front) {
     return count;
 }
 
-int run_info(const struct request *request) {
+static int show_info(const struct request *request) {
     uint64_t is[21];
-    if (read_page(request->words[0]) != DONE)
-        return FAILED;
-    uint32_t number = gvrs_page(page.bytes, page.n, is, 21);
+    uint32_t number = gvrs_page_said(page.bytes, page.n, is, 21);
     if (number != GVRS_ACCEPTED)
         return refused(number, is[0], NULL);
     open_object(PAGE, FACTS);
@@ -208,6 +237,12 @@ int run_info(const struct request *request) {
     close_list();
     close_object("");
     return DONE;
+}
+
+int run_info(const struct request *request) {
+    if (read_page(request->words[0]) != DONE)
+        return FAILED;
+    return request->all || request->form != TEXT ? show_info(request) : print_info();
 }
 
 static const struct field CELL[] = {

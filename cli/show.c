@@ -82,7 +82,7 @@ static void print_bytes(const uint8_t *text, uint64_t n) {
     }
 }
 
-static void print_quoted(const uint8_t *text, uint64_t n) {
+void print_text(const uint8_t *text, uint64_t n) {
     printf("\"");
     print_bytes(text, n);
     printf("\"");
@@ -92,7 +92,7 @@ static void print_quoted(const uint8_t *text, uint64_t n) {
 static void print_field(const uint8_t *text, uint64_t n) {
     int quoted = n > 0 && (memchr(text, ',', n) != NULL || memchr(text, '"', n) != NULL || text[0] == ' ' || text[n - 1] == ' ');
     if (quoted)
-        print_quoted(text, n);
+        print_text(text, n);
     else
         print_bytes(text, n);
 }
@@ -229,12 +229,12 @@ void put_set(uint64_t bits) {
 
 static void put_bytes(const uint8_t *text, uint64_t n, int present, void (*as_text)(const uint8_t *text, uint64_t n)) {
     if (begin_field(present || form != TEXT))
-        (form == TEXT ? as_text : form == JSON ? print_quoted : print_field)(text, n);
+        (form == TEXT ? as_text : form == JSON ? print_text : print_field)(text, n);
     end_field();
 }
 
 void put_text(const uint8_t *text, uint64_t n) {
-    put_bytes(text, n, n > 0, print_quoted);
+    put_bytes(text, n, n > 0, print_text);
 }
 
 void put_name(const uint8_t *name, uint64_t n) {

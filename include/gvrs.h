@@ -207,24 +207,31 @@ uint32_t gvrs_check_rest(const uint8_t *file, uint64_t n, uint64_t *out, uint64_
 
 /* What a page is: 0, and out[0] to out[12] are its grid rows and grid columns, its tile rows and tile columns, its tiles down and tiles
    across, its elements, the bytes of a tile (uncompressed, all elements together), the length of the front (where the header ends),
-   the number of its tile records, that of its metadata records, the time modified, and 1 where checksums are on, else 0; out[13] and
-   out[14] place and length of its product label, in UTF-8, the place just behind the length field also where the length is 0; out[15] the
-   place of its UUID, 16 bytes; out[16] the number of its compression methods; out[17] its raster space (0 unspecified, 1 point, 2 area);
-   out[18] its coordinate system (0 unspecified, 1 Cartesian, 2 geographic); out[19] and out[20] place and length of its coordinates, eighteen
-   Doubles. Else the refusal's number, out[0] is its place, and the others are 0. The front is the first out[8] bytes of the file. An
-   `out` of more than 13 numbers took 13 before the label was told. */
+   the number of its tile records, that of its metadata records, the time modified, and 1 where checksums are on, else 0. Else the
+   refusal's number, out[0] is its place, and the others are 0. The front is the first out[8] bytes of the file. */
 uint32_t gvrs_page(const uint8_t *file, uint64_t n, uint64_t *out, uint64_t out_n);
+
+/* As gvrs_page, and what the page says of itself: out[0] to out[12] are those of gvrs_page; out[13] and out[14] place and length of its
+   product label, in UTF-8, the place just behind the length field also where the length is 0; out[15] the place of its UUID, 16 bytes;
+   out[16] the number of its compression methods; out[17] its raster space (0 unspecified, 1 point, 2 area); out[18] its coordinate system
+   (0 unspecified, 1 Cartesian, 2 geographic); out[19] and out[20] place and length of its coordinates, eighteen Doubles. Else the
+   refusal's number, out[0] is its place, and the others are 0. */
+uint32_t gvrs_page_said(const uint8_t *file, uint64_t n, uint64_t *out, uint64_t out_n);
 
 /* What an element is, by its number, counted from 0: 0, and out[0] is its type code (0 Integer, 1 integer-coded, 2 Float, 3 Short), out[1]
    the bits of its fill (16 of a Short), out[2] where its name starts in the file and out[3] the name's length, 1 to 32, out[4] and
    out[5] place and length of its unit of measure, in UTF-8: the place is just behind the unit's length field, also where the length
-   is 0; out[6] and out[7] place and length of its label, out[8] and out[9] those of its description, in the same way; out[10] whether it is
-   continuous, the byte of the header; out[11] and out[12] the bits of its minimum and maximum, of its own type (16 of a Short; of an
-   integer-coded element its integers); out[13] to out[17] the bits of the Floats of an integer-coded element: minimum, maximum, fill, scale
-   and offset, 0 of every other. Minimum, maximum and Floats are what the header holds: they are not judged, and no cell is held to them.
-   Else the refusal's number, 10 where the page has no such element, out[0] is its place, and the others are 0. An `out` of more
-   than 4 numbers took 4 before the unit was told, of more than 6 took 6 before the label was. */
+   is 0. Else the refusal's number, 10 where the page has no such element, out[0] is its place, and the others are 0. An `out` of more
+   than 4 numbers took 4 before the unit was told. */
 uint32_t gvrs_element(const uint8_t *file, uint64_t n, uint64_t element, uint64_t *out, uint64_t out_n);
+
+/* As gvrs_element, and what the page says of it: out[0] to out[5] are those of gvrs_element; out[6] and out[7] place and length of its
+   label, out[8] and out[9] those of its description, as of its unit; out[10] whether it is continuous, the byte of the header; out[11] and
+   out[12] the bits of its minimum and maximum, of its own type (16 of a Short; of an integer-coded element its integers); out[13] to
+   out[17] the bits of the Floats of an integer-coded element: minimum, maximum, fill, scale and offset, 0 of every other. Minimum, maximum
+   and Floats are what the header holds: they are not judged, and no cell is held to them. Else the refusal's number, 10 where the page has
+   no such element, out[0] is its place, and the others are 0. */
+uint32_t gvrs_element_said(const uint8_t *file, uint64_t n, uint64_t element, uint64_t *out, uint64_t out_n);
 
 /* A cell, by row, column and element number, each counted from 0: 32 stored, 33 fill, else the refusal's number. out[0] is the
    type code (0 Integer, 1 integer-coded, 2 Float, 3 Short), out[1] the bits of the value, out[2] the place of a stored cell's

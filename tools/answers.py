@@ -190,8 +190,20 @@ def projected(head, labels, rest):
     return text
 
 
+def fields_of(top):
+    """The names of the fields of the repository's records in specs/ and proofs/."""
+    out = set()
+    for folder, _, files in os.walk(os.path.join(top, "crates")):
+        for f in files:
+            if f.endswith(".antt"):
+                with open(os.path.join(folder, f), encoding="utf-8") as it:
+                    out |= set(re.findall(r"(?:^\s+(?:pub )?|[{;]\s*)([a-z][\w-]*) : ", it.read(), re.M))
+    return out
+
+
 class Function:
     labels = {}
+    records = set()
 
     def __init__(self, crate, path, names, said):
         self.crate, self.path, self.names, self.said = crate, path, names, said
@@ -270,6 +282,16 @@ class Function:
                     return f"{m[1]}.{ps[i]}" if i < len(ps) else m[0]
 
                 term = re.sub(rf"(?<![\w.'-])([a-z][\w₀-₉']*\.{re.escape(step)}\.(?:auto|new))((?:\.1)*\.0)(?![\w.'-])", named, term)
+        # fields of the repository's records that were respelled as steps are
+        term = re.sub(
+            r"(?<=[\w')])\.([a-z]\w*(?:-[a-z]\w*)+)(?![\w'-])",
+            lambda m: "." + m[1].replace("-", "_") if m[1] not in self.records and m[1].replace("-", "_") in self.records and m[1] not in self.steps.values() else m[0],
+            term,
+        )
+        # a name for a record of clauses: the record has other fields now, so the path itself
+        for m in reversed(list(re.finditer(r"let (\w+) = ([a-z][\w₀-₉']*(?:\.[^\s(){}\[\],;.]+)*\.(?:requires|ensures)(?:\.[01])*) in\s+", term))):
+            rest = re.sub(rf"(?<![\w.'-]){re.escape(m[1])}(?![\w'-])", lambda _, path=m[2]: path, term[m.end() :])
+            term = term[: m.start()] + rest
         # clauses go by name
         for step, callee in self.callee.items():
             labels = self.labels.get(callee, ((), self.fields.get(step, ())))[1]
@@ -483,6 +505,7 @@ def main(argv):
         names = json.load(f)
     said, n, ok = [], 0, 0
     Function.labels = labels_of(os.path.join(argv[1], "../.."))
+    Function.records = fields_of(os.path.join(argv[1], "../.."))
     for module, of in names.items():
         m = re.match(r"Rattle-\w+-proofs\.(.*)\.Lts$", module)
         if not m or argv[2:] and m[1] not in argv[2:]:

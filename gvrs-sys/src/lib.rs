@@ -18,7 +18,9 @@ pub mod raw {
         pub fn gvrs_check_start(first: *const u8, first_n: u64, length: u64, out: *mut u64, out_n: u64) -> u32;
         pub fn gvrs_check_rest(file: *const u8, n: u64, out: *mut u64, out_n: u64) -> u32;
         pub fn gvrs_page(file: *const u8, n: u64, out: *mut u64, out_n: u64) -> u32;
+        pub fn gvrs_page_said(file: *const u8, n: u64, out: *mut u64, out_n: u64) -> u32;
         pub fn gvrs_element(file: *const u8, n: u64, element: u64, out: *mut u64, out_n: u64) -> u32;
+        pub fn gvrs_element_said(file: *const u8, n: u64, element: u64, out: *mut u64, out_n: u64) -> u32;
         pub fn gvrs_cell(file: *const u8, n: u64, row: u64, column: u64, element: u64, route: u32, out: *mut u64, out_n: u64) -> u32;
         pub fn gvrs_cell_with(
             file: *const u8, n: u64, row: u64, column: u64, element: u64, route: u32, compressor: u32, out: *mut u64, out_n: u64,
@@ -157,14 +159,24 @@ pub fn check_rest(file: &[u8], out: &mut [u64]) -> u32 {
     unsafe { raw::gvrs_check_rest(file.as_ptr(), file.len() as u64, out.as_mut_ptr(), out.len() as u64) }
 }
 
-/// What a page is, as up to 21 numbers.
+/// What a page is, as up to 13 numbers.
 pub fn page(file: &[u8], out: &mut [u64]) -> u32 {
     unsafe { raw::gvrs_page(file.as_ptr(), file.len() as u64, out.as_mut_ptr(), out.len() as u64) }
 }
 
-/// What an element is, as up to 18 numbers.
+/// The same and what it says of itself, as up to 21 numbers.
+pub fn page_said(file: &[u8], out: &mut [u64]) -> u32 {
+    unsafe { raw::gvrs_page_said(file.as_ptr(), file.len() as u64, out.as_mut_ptr(), out.len() as u64) }
+}
+
+/// What an element is, as up to 6 numbers.
 pub fn element(file: &[u8], element: u64, out: &mut [u64]) -> u32 {
     unsafe { raw::gvrs_element(file.as_ptr(), file.len() as u64, element, out.as_mut_ptr(), out.len() as u64) }
+}
+
+/// The same and what the page says of it, as up to 18 numbers.
+pub fn element_said(file: &[u8], element: u64, out: &mut [u64]) -> u32 {
+    unsafe { raw::gvrs_element_said(file.as_ptr(), file.len() as u64, element, out.as_mut_ptr(), out.len() as u64) }
 }
 
 /// A cell: its kind; `out` takes type, bits, place, tile and the number inside the tile.

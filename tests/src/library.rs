@@ -12,9 +12,10 @@ use crate::second::start::Start;
 pub use gvrs_sys::{
     check as check_into, check_plan as check_plan_into, check_rest as check_rest_into,
     check_start as check_start_into, compare_names as compare_names_into, content as content_into,
-    element as element_into, explain as explain_into, find_element as find_element_into,
-    find_metadata as find_metadata_into, is_identifier, is_utf8, lay_down as lay_down_into,
-    list as list_into, m32_read as m32_read_into, m32_write as m32_write_into, page as page_into,
+    element as element_into, element_said as element_said_into, explain as explain_into,
+    find_element as find_element_into, find_metadata as find_metadata_into, is_identifier, is_utf8,
+    lay_down as lay_down_into, list as list_into, m32_read as m32_read_into,
+    m32_write as m32_write_into, page as page_into, page_said as page_said_into,
     replay as replay_into, sheet_in as sheet_in_into, sheet_out as sheet_out_into,
     squeeze as squeeze_into, tight_plan as tight_plan_into,
 };
@@ -146,7 +147,6 @@ pub fn compare_into(
 ) -> u32 {
     gvrs_sys::compare(first, first_compressor, second, second_compressor, memory, list, out)
 }
-
 
 /// The number. The file goes into the caller's buffer, its length or the place into `out`; both are
 /// of any length.

@@ -8,8 +8,7 @@ use native.Mathlib.Decide.{dec_le}
 use native.Mathlib.Omega.{arith}
 use lib.ListN.{length, get_or}
 use borrow.Author.Tests.{eq-eqb, ne_eqb}
-use Rattle.wire.specs.Pick.{pick}
-use Rattle.wire.specs.Tests.{◌≤?◌, passes}
+use Rattle.wire.specs.Tests.{◌≤?◌}
 use Rattle.wire.specs.Bytes.{put, number_at}
 use Rattle.wire.proofs.TestLaws.{yes, no}
 use Rattle.wire.proofs.PutLaws.{put_each_lem}

@@ -15,7 +15,7 @@ use Rattle.answer.specs.Refusals.{gate, unless_refused}
 use Rattle.answer.proofs.VerdictLaws.{refused_not, refused_is, behind_passed}
 use Rattle.record.specs.declared.Found.{Found}
 use Rattle.record.specs.declared.Found.TheVariants.{At, Nothing}
-use Rattle.record.specs.Chain.{find, find_not, header_end, records, Whole}
+use Rattle.record.specs.Chain.{find, find_not, header_end, records}
 use Rattle.record.proofs.FindLaws.{found_not, at_is, none_breaks, all_keep}
 use Rattle.check_header.specs.Identification.{identified, version_right}
 use Rattle.check_header.specs.HeaderRecord.{header_right}
@@ -29,7 +29,7 @@ use Rattle.check_records.proofs.RecordLaws.{chain_whole, whole_chain, chain_faul
 use Rattle.check_lists.specs.Stage.{directories_right}
 use Rattle.page_check.specs.Stages.{unless, check, check_records, check_to_bodies, check_directories, check_from_records}
 use Rattle.page_check.proofs.StageLaws.{bodies_then}
-use Rattle.exact_checks.specs.Refused.{Closed, Chained, Summed, Bodied, FirstWrong, Reason, RefusedExactly, WithoutNine, ToBodiesExactly}
+use Rattle.exact_checks.specs.Refused.{Closed, Chained, Summed, Bodied, FirstWrong, Reason, RefusedExactly, ToBodiesExactly}
 
 -- the first record of which a rule does not hold
 

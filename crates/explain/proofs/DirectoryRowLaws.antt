@@ -8,7 +8,7 @@ use lib.Dec.{leb, eqb}
 use borrow.Author.Tests.{eqb-true, eq-eqb}
 use Rattle.wire.specs.Pick.{pick}
 use Rattle.wire.specs.Lists.{every, count_below}
-use Rattle.wire.specs.Tests.{is, test, both, passes}
+use Rattle.wire.specs.Tests.{both, passes}
 use Rattle.wire.specs.Bytes.{largest_integer}
 use Rattle.wire.proofs.TestLaws.{not_both, iff, below_same}
 use Rattle.record.specs.Record.{content_at, padded}
@@ -17,7 +17,7 @@ use Rattle.record.specs.Types.{free_type, metadata_type, tile_type, tile_directo
 use Rattle.header.specs.Fields.{tile_directory_reference, metadata_reference, file_space_reference}
 use Rattle.geometry.specs.Tiles.{tile_count}
 use Rattle.bodies.specs.TileRecord.{tile_index}
-use Rattle.bodies.specs.TileDirectory.{tile_directory_at, listed_rows, references_end, tile_reference}
+use Rattle.bodies.specs.TileDirectory.{tile_directory_at, references_end, tile_reference}
 use Rattle.bodies.specs.ListDirectories.{file_space_at, free_count, free_entry_at, metadata_at, metadata_count, metadata_entry_at}
 use Rattle.check_directory.specs.References.{refers_to, refers_or_zero, no_other}
 use Rattle.check_directory.specs.TileRules.{form_right, span_right, rectangle_right, tiles_listed, gives_tile, tiles_only, tile_directory_right}

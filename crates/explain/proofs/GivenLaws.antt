@@ -1,14 +1,12 @@
 -- Stage 9: a reference and the tile record that it is of. Assumes nothing.
 use Prim.Native.Nat.{ℕ, ◌+◌, ◌-◌, ◌*◌, ◌/◌, ◌%◌, ◌≤◌, ◌<◌}
-use mathlib.Core.Path.{◌≡◌, refl, sym, ap, ◌∙◌}
+use mathlib.Core.Path.{◌≡◌, refl, sym, ◌∙◌}
 use mathlib.Core.List.{List, [], ◌∷◌}
-use mathlib.Core.Bool.{Bool, true, false, ◌||◌}
+use mathlib.Core.Bool.{Bool, true, false}
 use native.Mathlib.Omega.{arith}
-use lib.Dec.{eqb}
 use borrow.Author.Tests.{eqb-true, eq-eqb, ne_eqb}
 use Rattle.wire.specs.Bytes.{u32_at}
-use Rattle.wire.specs.Lists.{some}
-use Rattle.wire.specs.Tests.{◌≡?◌, passes}
+use Rattle.wire.specs.Tests.{◌≡?◌}
 use Rattle.wire.proofs.TestLaws.{means, yes, not_both}
 use Rattle.wire.proofs.ListLaws.{some_member, member_some}
 use Rattle.record.specs.Record.{content_at}

@@ -6,14 +6,14 @@ use mathlib.Core.Bool.{Bool, true, false}
 use lib.ListN.{length}
 use Rattle.wire.proofs.TestLaws.{means, not_both}
 use Rattle.answer.specs.declared.Refusal.{Refusal}
-use Rattle.answer.specs.declared.Refusal.TheVariants.{Chain, Checksum, Body, Directory}
+use Rattle.answer.specs.declared.Refusal.TheVariants.{Chain, Checksum, Body}
 use Rattle.record.specs.Types.{tile_directory_type, metadata_directory_type, file_space_directory_type}
 use Rattle.record.specs.Chain.{records_of, records, records_end}
 use Rattle.header.specs.Fields.{tile_directory_reference, metadata_reference, file_space_reference}
 use Rattle.geometry.specs.Tiles.{tile_count}
 use Rattle.bodies.specs.TileDirectory.{tile_directory_at, references_end}
 use Rattle.check_header.specs.Ceilings.{within_ceilings}
-use Rattle.check_directory.specs.References.{refers_to, refers_or_zero, no_other}
+use Rattle.check_directory.specs.References.{refers_or_zero, no_other}
 use Rattle.check_lists.specs.FileSpace.{free_fits}
 use Rattle.check_lists.specs.Metadata.{metadata_fits}
 use Rattle.check_lists.specs.Stage.{directories_right}
@@ -22,7 +22,7 @@ use Rattle.reasons.specs.declared.Reason.{Reason}
 use Rattle.reasons.specs.declared.Reason.TheVariants.{Kept, Broken}
 use Rattle.reasons.specs.declared.Explained.{Explained}
 use Rattle.reasons.specs.declared.Explained.TheVariants.{Accepted, Refused}
-use Rattle.reasons.specs.Rows.{Row, equal, keeps, judged, or_else, first_failing}
+use Rattle.reasons.specs.Rows.{Row, equal, judged, or_else, first_failing}
 use Rattle.reasons.specs.Stages.{Stage, refused_by, explained}
 use Rattle.reasons.specs.HeadRows.{ceiling_rows, head_stages}
 use Rattle.reasons.proofs.ReasonLaws.{or_kept, or_broken, first_more, first_joined, keeps_by, kept_by}

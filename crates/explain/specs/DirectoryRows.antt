@@ -1,5 +1,5 @@
 -- Document 01, stage 9, as rows.
-use Rattle.std.specs.Prelude.{ℕ, ◌+◌, ◌*◌, ◌-◌, ◌/◌, ◌%◌, min, List, [], ◌∷◌, ◌++◌, Bool, true, ◌||◌, length, leb, eqb}
+use Rattle.std.specs.Prelude.{ℕ, ◌+◌, ◌*◌, ◌/◌, ◌%◌, min, List, [], ◌∷◌, ◌++◌, Bool, true, ◌||◌, length, leb, eqb}
 use Rattle.wire.specs.Pick.{pick}
 use Rattle.wire.specs.Lists.{count_below}
 use Rattle.wire.specs.Tests.{◌≤?◌}

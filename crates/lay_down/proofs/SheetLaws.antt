@@ -1,7 +1,7 @@
 -- A score sheet against a front: what fits, the tiles that are kept, and their bytes. Assumes nothing.
-use Prim.Native.Nat.{ℕ, min, ◌+◌, ◌*◌, ◌/◌, ◌%◌, ◌-◌, ◌≤◌, ◌<◌}
+use Prim.Native.Nat.{ℕ, min, ◌+◌, ◌*◌, ◌/◌, ◌%◌, ◌≤◌, ◌<◌}
 use mathlib.Core.Path.{◌≡◌, refl, sym, ap, ◌∙◌}
-use mathlib.Core.List.{List, [], ◌∷◌, ◌++◌, flat_map, Memᴰ}
+use mathlib.Core.List.{List, [], ◌∷◌, ◌++◌, Memᴰ}
 use mathlib.Core.Bool.{Bool, true, false, not}
 use native.Mathlib.Omega.{arith}
 use native.Mathlib.Numerals.{add-one}
@@ -9,25 +9,22 @@ use native.Mathlib.Nat.{mul-le-mul}
 use lib.ListN.{length, get_or, take, set, length-set}
 use lib.Seq.{take-suc-set}
 use lib.Dec.{eqb}
-use borrow.Author.Tests.{eq-eqb}
 use Rattle.wire.specs.Pick.{pick}
-use Rattle.wire.specs.Tests.{◌≡?◌, is, both, passes, sum_below}
-use Rattle.wire.specs.Bytes.{part, bytes_of}
+use Rattle.wire.specs.Tests.{both, passes}
+use Rattle.wire.specs.Bytes.{part}
 use Rattle.wire.specs.Lists.{select, below}
 use Rattle.wire.proofs.TestLaws.{means, yes, no, not_both, either_way, sum_none, sum_more}
 use Rattle.wire.proofs.ByteLaws.{part_whole}
 use Rattle.wire.proofs.ListLaws.{Behind, behind_select, select_member}
 use Rattle.wire.proofs.RunLaws.{run_length, run_part, select_more, select_stay, member_below, below_behind}
-use Rattle.score_sheets.specs.Sheet.{sheet_rows, sheet_columns, sheet_right}
+use Rattle.score_sheets.specs.Sheet.{sheet_rows, sheet_columns}
 use Rattle.score_sheets.specs.Parts.{part_unread}
 use Rattle.score_sheets.proofs.PartLaws.{part_long}
-use Rattle.answer.specs.declared.Verdict.TheVariants.{Accepted}
 use Rattle.header.specs.declared.Element.{Element}
 use Rattle.header.specs.Fields.{grid_rows, grid_columns, tile_rows, tile_columns, element_count}
 use Rattle.header.specs.Element.{element, entries_read, cell_size}
 use Rattle.geometry.specs.Tiles.{tiles_across, tile_count}
 use Rattle.geometry.specs.Sizes.{uncompressed, element_bytes, tile_bytes}
-use Rattle.check_header.specs.Stages.{check_front}
 use Rattle.lay_down.specs.Answer.{ascending}
 use Rattle.lay_down.specs.Sheet.{score_element, front_fits, tile_top, tile_left, tile_scores, tile_unread, kept_tiles, tile_cells, sheet_cells}
 use Rattle.lay_down.proofs.FrontLaws.{Front}

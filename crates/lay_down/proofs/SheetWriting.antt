@@ -1,13 +1,12 @@
 -- A tile's scores as they are put into its record, and what a move of a sheet answers. Assumes nothing.
 use Prim.Native.Nat.{ℕ, ◌+◌, ◌*◌, ◌-◌, ◌≤◌, ◌<◌}
 use mathlib.Core.Path.{◌≡◌, refl, sym, ap, ◌∙◌}
-use mathlib.Core.List.{List, [], ◌++◌, flat_map}
+use mathlib.Core.List.{List, flat_map}
 use mathlib.Core.Bool.{Bool, true, false}
 use native.Mathlib.Omega.{arith}
 use lib.ListN.{length, get_or}
 use Rattle.wire.specs.Pick.{round_up}
-use Rattle.wire.specs.Tests.{passes, sum_below}
-use Rattle.wire.specs.Bytes.{part, bytes_of, put, zeros}
+use Rattle.wire.specs.Bytes.{bytes_of, put, zeros}
 use Rattle.wire.proofs.TestLaws.{yes, sum_none, sum_more}
 use Rattle.wire.proofs.ByteLaws.{bytes_length, zeros_length, part_whole}
 use Rattle.wire.proofs.PutLaws.{first, then}
@@ -29,7 +28,7 @@ use Rattle.written_records.specs.Pieces.{section}
 use Rattle.written_records.specs.Tile.{sections, sections_of, tile_record}
 use Rattle.written_records.proofs.TileLaws.{stored_before}
 use Rattle.lay_down.specs.Page.{directory_start, file_length, laid_file}
-use Rattle.lay_down.specs.Answer.{ascending, input_right, input_verdict, lay_down_verdict, length_verdict, laid, laid_out}
+use Rattle.lay_down.specs.Answer.{ascending, input_right, lay_down_verdict, length_verdict, laid, laid_out}
 use Rattle.lay_down.specs.Sheet.{score_element, front_fits, tile_top, tile_left, tile_scores, tile_cells, kept_tiles, sheet_cells, sheet_verdict, sheet_laid, sheet_file}
 use Rattle.lay_down.proofs.FrontLaws.{Front}
 use Rattle.lay_down.proofs.JudgeLaws.{judged_input, judged_length, judged_behind, input_timeless}

@@ -1,5 +1,5 @@
 -- Req 13, the way in: a score sheet d, and the page that it becomes with a front f, at a time t.
-use Rattle.std.specs.Prelude.{ℕ, ◌*◌, ◌/◌, ◌%◌, ◌+◌, ◌≤◌, ◌<◌, ◌≡◌, Bool, true, not}
+use Rattle.std.specs.Prelude.{ℕ, ◌*◌, ◌/◌, ◌%◌, ◌≤◌, ◌<◌, ◌≡◌, Bool, true, not}
 use mathlib.Core.List.{List, [], ◌∷◌, flat_map}
 use Rattle.wire.specs.Tests.{◌≡?◌, is, passes}
 use Rattle.wire.specs.Bytes.{bytes_of}
@@ -15,7 +15,6 @@ use Rattle.answer.specs.Refusals.{gate, unless_refused}
 use Rattle.header.specs.Fields.{grid_rows, grid_columns, tile_rows, tile_columns, element_count}
 use Rattle.header.specs.Element.{element, short_kind}
 use Rattle.geometry.specs.Tiles.{tiles_across, tile_count}
-use Rattle.geometry.specs.Sizes.{plain_tile_length, stored_size, element_bytes}
 use Rattle.check_header.specs.Stages.{check_front}
 use Rattle.check_header.specs.Ceilings.{most_tiles}
 use Rattle.lay_down.specs.Page.{file_length, laid_file}

@@ -105,6 +105,8 @@ impl Run {
             Function::new("gvrs_compare", self.comparisons.answers()),
             Function::new("gvrs_page", self.face.page_answers()),
             Function::new("gvrs_element", self.face.element_answers()),
+            Function::new("gvrs_page_said", self.face.page_said_answers()),
+            Function::new("gvrs_element_said", self.face.element_said_answers()),
             Function::new("gvrs_m32_write", [(0, self.packed.written)].into_iter()),
             Function::new("gvrs_m32_read", [(0, self.packed.read)].into_iter()),
         ];

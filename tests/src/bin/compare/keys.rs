@@ -16,7 +16,7 @@ const REFUSED: Answer = (9, 16);
 
 pub fn section(run: &mut Run, random: &mut Prng) {
     near_equal(run, random);
-    for count in [1, 2, 4_096, 22_528, 22_529, 70_000] {
+    for count in [1, 2, 4_096, 22_528, 22_529, 32_768, 32_769, 70_000] {
         let count = run.times(count);
         many(run, random, count);
     }
@@ -70,10 +70,16 @@ fn many(run: &mut Run, random: &mut Prng, count: usize) {
     let ids: Vec<Key> = (0..count).map(|id| (name.clone(), id as u32)).collect();
     distinct(run, random, ids.clone());
     distinct(run, random, ids.iter().rev().cloned().collect());
-    let kinds: [fn(usize, usize) -> Vec<u8>; 5] =
-        [alike, alike_reversed, clustered, stepped, |length, number| grouped(3, length, number)];
-    for name_of in kinds {
-        let length = random.between(6, 32);
+    type NameOf = fn(usize, usize) -> Vec<u8>;
+    let kinds: [(usize, NameOf); 5] = [
+        (5, alike),
+        (5, alike_reversed),
+        (6, clustered),
+        (6, stepped),
+        (6, |length, number| grouped(3, length, number)),
+    ];
+    for (least, name_of) in kinds {
+        let length = random.between(least, 32);
         let mut names: Vec<Key> = (0..count).map(|number| (name_of(length, number), 7)).collect();
         random.shuffle(&mut names);
         distinct(run, random, names);

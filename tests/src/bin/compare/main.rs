@@ -1,9 +1,9 @@
 //! Compares the library with the second implementation on many files.
 //!
-//!     compare [--small | --whole] [SEED]
+//!     compare [--small | --half] [SEED]
 //!
-//! The same seed gives the same files. `--whole` takes twice as many, `--small` about a fiftieth, also
-//! with `--whole` behind it.
+//! The same seed gives the same files. `--small` takes about a hundredth of them, also with `--half`
+//! behind it, and `--half` half of them.
 
 mod aimed;
 mod aims;
@@ -50,15 +50,15 @@ const SEED: u64 = 20_240_614;
 
 fn main() -> ExitCode {
     let mut seed = SEED;
-    let mut size = Size::Usual;
+    let mut size = Size::Whole;
     for argument in env::args().skip(1) {
         match (argument.parse(), argument.as_str()) {
             (Ok(number), _) => seed = number,
             (_, "--small") => size = Size::Small,
-            (_, "--whole") if size == Size::Small => (),
-            (_, "--whole") => size = Size::Whole,
+            (_, "--half") if size == Size::Small => (),
+            (_, "--half") => size = Size::Half,
             _ => {
-                eprintln!("usage: compare [--small | --whole] [SEED]");
+                eprintln!("usage: compare [--small | --half] [SEED]");
                 return ExitCode::from(2);
             }
         }

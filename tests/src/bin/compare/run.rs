@@ -25,12 +25,12 @@ use crate::starts;
 /// Faults printed in full and files kept; the rest is only counted.
 const MOST_SHOWN: usize = 20;
 
-/// How many files are made: a small part of them for a run under valgrind, half of them behind the
-/// proofs, all of them where it is asked for.
+/// How many files are made: all of them, or half of them where that is asked for, or a small part of
+/// them for a run under valgrind.
 #[derive(Clone, Copy, PartialEq)]
 pub enum Size {
     Small,
-    Usual,
+    Half,
     Whole,
 }
 
@@ -117,11 +117,11 @@ impl Run {
         }
     }
 
-    /// `full` in a whole run, half of them usually, a few in a small one.
+    /// `full` in a whole run, half of them in a half one, a few in a small one.
     pub fn times(&self, full: usize) -> usize {
         match self.size {
             Size::Small => full.div_ceil(100),
-            Size::Usual => full.div_ceil(2),
+            Size::Half => full.div_ceil(2),
             Size::Whole => full,
         }
     }

@@ -182,8 +182,10 @@ fn ask(file: &[u8], other: &[u8], given: &Given) -> u32 {
     deed_of(file, Spot { row: 0, column: 0, element: 0 }, compressor, &mut [0; 64]);
     let [first, second] = [file, other].map(|file| (file, compressor));
     library::compare_into(first, second, &mut [0; 64], &mut [0; 300], &mut [0; 2]);
-    library::page_into(file, &mut [0; 21]);
-    library::element_into(file, 0, &mut [0; 18]);
+    library::page_into(file, &mut [0; 13]);
+    library::element_into(file, 0, &mut [0; 4]);
+    library::page_said_into(file, &mut [0; 21]);
+    library::element_said_into(file, 0, &mut [0; 18]);
     library::m32_write_into(&[u32::MAX, 1 << 31, 1 << 30], &mut [0; 18]);
     library::m32_read_into(&[127, 0x86, 0xfe, 0xfe, 0xfe, 0], &mut [0; 2], &mut [0]);
     library::front_into(&fronts::sample::given(), &mut [0; 400], &mut [0]);

@@ -1,8 +1,10 @@
 //! Asks both for the cells of a rectangle, and for what a page and its elements are.
 
-use gvrs_tests::library::{self, cells_into, element_into, page_into, Lent, DIRECTORY};
+use gvrs_tests::library::{
+    self, cells_into, element_into, element_said_into, page_into, page_said_into, Lent, DIRECTORY,
+};
 use gvrs_tests::second::cells::Cell;
-use gvrs_tests::second::facts::{ELEMENT, PAGE};
+use gvrs_tests::second::facts::{ELEMENT_SAID, PAGE_SAID};
 use gvrs_tests::second::rectangles::{Area, Rectangle, Rooms};
 
 use crate::guarded::{turns, Guarded};
@@ -172,9 +174,9 @@ impl Run {
         }
     }
 
-    /// Asks what a page is, with an `out` for all numbers and, in turn, of none to two more. The
-    /// answer, if both give the same.
-    pub fn page(&mut self, sort: &str, asked: &Asked) -> Option<(u32, [u64; PAGE])> {
+    /// Asks what a page is, with an `out` of 13 and, in turn, of 0 to 15. The answer, if both give
+    /// the same.
+    pub fn page(&mut self, sort: &str, asked: &Asked) -> Option<(u32, [u64; 13])> {
         let answer = asked.checked.page();
         self.face.asked(sort);
         let asked_for = |out: &mut [u64]| page_into(&asked.lent, out);
@@ -185,20 +187,45 @@ impl Run {
         same.then_some(answer)
     }
 
-    /// Asks what an element is, with an `out` for all numbers and, in turn, of none to two more. The
-    /// answer, if both give the same.
-    pub fn element(
-        &mut self,
-        sort: &str,
-        asked: &Asked,
-        number: u64,
-    ) -> Option<(u32, [u64; ELEMENT])> {
+    /// The same with what it says of itself, and an `out` of 21 and, in turn, of 0 to 23.
+    pub fn page_said(&mut self, sort: &str, asked: &Asked) -> Option<(u32, [u64; PAGE_SAID])> {
+        let answer = asked.checked.page_said();
+        self.face.asked(sort);
+        let asked_for = |out: &mut [u64]| page_said_into(&asked.lent, out);
+        let same = self.told(sort, asked, "what the page says", &answer, asked_for);
+        if same {
+            self.face.pages_said[answer.0 as usize] += 1;
+        }
+        same.then_some(answer)
+    }
+
+    /// Asks what an element is, with an `out` of 6 and, in turn, of 0 to 8. The answer, if both
+    /// give the same.
+    pub fn element(&mut self, sort: &str, asked: &Asked, number: u64) -> Option<(u32, [u64; 6])> {
         let answer = asked.checked.element(number);
         self.face.asked(sort);
         let asked_for = |out: &mut [u64]| element_into(&asked.lent, number, out);
         let same = self.told(sort, asked, &format!("element {number}"), &answer, asked_for);
         if same {
             self.face.elements[answer.0 as usize] += 1;
+        }
+        same.then_some(answer)
+    }
+
+    /// The same with what the page says of it, and an `out` of 18 and, in turn, of 0 to 20.
+    pub fn element_said(
+        &mut self,
+        sort: &str,
+        asked: &Asked,
+        number: u64,
+    ) -> Option<(u32, [u64; ELEMENT_SAID])> {
+        let answer = asked.checked.element_said(number);
+        self.face.asked(sort);
+        let asked_for = |out: &mut [u64]| element_said_into(&asked.lent, number, out);
+        let what = format!("what the page says of element {number}");
+        let same = self.told(sort, asked, &what, &answer, asked_for);
+        if same {
+            self.face.elements_said[answer.0 as usize] += 1;
         }
         same.then_some(answer)
     }

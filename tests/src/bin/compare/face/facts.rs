@@ -1,12 +1,12 @@
 //! What pages and their elements are, as their descriptions have them.
 
 use gvrs_tests::build::{build, Built};
-use gvrs_tests::library::{element_into, page_into};
+use gvrs_tests::library::{element_into, element_said_into, page_into, page_said_into};
 use gvrs_tests::page::{Element, Page, Record, INTEGER_CODED, SHORT};
 use gvrs_tests::prng::Prng;
 use gvrs_tests::random_page::{random_page, text_of};
 use gvrs_tests::second::chain;
-use gvrs_tests::second::facts::{ELEMENT, PAGE};
+use gvrs_tests::second::facts::{ELEMENT_SAID, PAGE_SAID};
 
 use crate::reads::ask::Asked;
 use crate::reads::described::fill;
@@ -98,14 +98,46 @@ pub fn of_page(run: &mut Run, page: &Page, random: &mut Prng) {
             run.fault(&format!("{SORT}: {answer:x?}, expected {numbers:x?}"), asked.file);
         }
     }
+    said_of_page(run, page, &built, &asked);
     lacking(run, &asked, page.elements.len() as u64, random);
     if random.one_in(8) {
         at_any_address(run, &asked, random.below(page.elements.len() + 1) as u64);
     }
 }
 
+fn said_of_page(run: &mut Run, page: &Page, built: &Built, asked: &Asked) {
+    let expected = (0, numbers_said(page, built));
+    let answer = run.page_said(SORT, asked);
+    if answer == Some(expected) {
+        note_further(run, page);
+    } else if answer.is_some() {
+        run.fault(&format!("{SORT}: {answer:x?}, expected {expected:x?}"), asked.file);
+    }
+    for (number, element) in page.elements.iter().enumerate() {
+        let numbers = element_numbers_said(built, element, number);
+        let answer = run.element_said(SORT, asked, number as u64);
+        if answer == Some((0, numbers)) {
+            note_further_element(run, element);
+        } else if answer.is_some() {
+            run.fault(&format!("{SORT}: {answer:x?}, expected {numbers:x?}"), asked.file);
+        }
+    }
+}
+
 /// The description's own account of an element.
-fn element_numbers(built: &Built, element: &Element, number: usize) -> [u64; ELEMENT] {
+fn element_numbers(built: &Built, element: &Element, number: usize) -> [u64; 6] {
+    [
+        u64::from(element.type_code),
+        u64::from(fill(element)),
+        built.named("element name")[number].at as u64,
+        element.name.len() as u64,
+        built.named("element unit length")[number].at as u64 + 2,
+        element.unit.len() as u64,
+    ]
+}
+
+/// And with what the page says of it.
+fn element_numbers_said(built: &Built, element: &Element, number: usize) -> [u64; ELEMENT_SAID] {
     let behind = |length: &str| built.named(length)[number].at as u64 + 2;
     let bits = |at: usize, width: usize| {
         let mut four = [0; 4];
@@ -116,13 +148,7 @@ fn element_numbers(built: &Built, element: &Element, number: usize) -> [u64; ELE
     let coded = element.type_code == INTEGER_CODED;
     let first = if coded { 20 } else { 0 };
     let float = |number: usize| if coded { bits(4 * number, 4) } else { 0 };
-    [
-        u64::from(element.type_code),
-        u64::from(fill(element)),
-        built.named("element name")[number].at as u64,
-        element.name.len() as u64,
-        behind("element unit length"),
-        element.unit.len() as u64,
+    let further = [
         behind("element label length"),
         element.label.len() as u64,
         behind("element description length"),
@@ -135,11 +161,13 @@ fn element_numbers(built: &Built, element: &Element, number: usize) -> [u64; ELE
         float(2),
         float(3),
         float(4),
-    ]
+    ];
+    let numbers = [&element_numbers(built, element, number)[..], &further].concat();
+    numbers.try_into().expect("eighteen numbers")
 }
 
 /// And of a page.
-fn numbers_of(page: &Page, built: &Built) -> [u64; PAGE] {
+fn numbers_of(page: &Page, built: &Built) -> [u64; 13] {
     let tile_bytes: usize = (0..page.elements.len()).map(|e| page.uncompressed_size(e)).sum();
     [
         u64::from(page.grid_rows),
@@ -155,6 +183,12 @@ fn numbers_of(page: &Page, built: &Built) -> [u64; PAGE] {
         page.of_type(chain::METADATA).len() as u64,
         page.time_modified,
         u64::from(page.checksums),
+    ]
+}
+
+/// And with what it says of itself.
+fn numbers_said(page: &Page, built: &Built) -> [u64; PAGE_SAID] {
+    let further = [
         built.only("product label length").at as u64 + 2,
         page.label.len() as u64,
         built.only("UUID").at as u64,
@@ -163,7 +197,9 @@ fn numbers_of(page: &Page, built: &Built) -> [u64; PAGE] {
         u64::from(page.coordinate_system),
         built.named("coordinate")[0].at as u64,
         8 * page.coordinates.len() as u64,
-    ]
+    ];
+    let numbers = [&numbers_of(page, built)[..], &further].concat();
+    numbers.try_into().expect("twenty-one numbers")
 }
 
 fn note(run: &mut Run, page: &Page) {
@@ -189,7 +225,6 @@ fn note(run: &mut Run, page: &Page) {
     for (thing, _) in true_of_it.iter().filter(|(_, holds)| *holds) {
         run.face.reached(thing);
     }
-    note_further(run, page);
 }
 
 fn note_further(run: &mut Run, page: &Page) {
@@ -214,7 +249,6 @@ fn note_element(run: &mut Run, element: &Element, number: usize) {
     if let Some((_, what)) = UNITS.iter().find(|(unit, _)| *unit == element.unit.len()) {
         run.face.reached(&unit_thing(what, element.name.len() % 4));
     }
-    note_further_element(run, element);
 }
 
 fn note_further_element(run: &mut Run, element: &Element) {
@@ -272,8 +306,7 @@ fn sample_units(run: &mut Run, random: &mut Prng) {
         page.elements[0].unit = unit.into();
         of_page(run, &page, random);
         let file = build(&page).bytes;
-        let answer = run.element(SORT, &Asked::new(&file), 0);
-        if answer.is_some_and(|(_, numbers)| numbers[..6] == [3, 0, 294, 2, place, length]) {
+        if run.element(SORT, &Asked::new(&file), 0) == Some((0, [3, 0, 294, 2, place, length])) {
             run.face.reached(thing);
         }
     }
@@ -283,9 +316,13 @@ fn lacking(run: &mut Run, asked: &Asked, elements: u64, random: &mut Prng) {
     let name = random.pick(&OUTSIDE);
     let good = random.long() % elements;
     let answer = run.element(ELEMENT_SORT, asked, outside(name, elements, good));
-    if answer == Some((10, [0; ELEMENT])) {
+    if answer == Some((10, [0; 6])) {
         run.face.reached(&format!("element: {name}"));
     } else if answer.is_some() {
+        run.fault(&format!("{ELEMENT_SORT}: {name}: {answer:?}"), asked.file);
+    }
+    let answer = run.element_said(ELEMENT_SORT, asked, outside(name, elements, good));
+    if answer.is_some_and(|answer| answer != (10, [0; ELEMENT_SAID])) {
         run.fault(&format!("{ELEMENT_SORT}: {name}: {answer:?}"), asked.file);
     }
 }
@@ -310,15 +347,21 @@ fn sixteen_elements(run: &mut Run, random: &mut Prng) {
 /// The answers do not depend on where the file lies in memory, nor on what surrounds it.
 fn at_any_address(run: &mut Run, asked: &Asked, element: u64) {
     let (page, of_element) = (asked.checked.page(), asked.checked.element(element));
+    let said = (asked.checked.page_said(), asked.checked.element_said(element));
     let same = (0..8).all(|before| {
         let mut memory = vec![0xff; before];
         memory.extend(asked.file);
         memory.extend([0xff; 16]);
         let moved = &memory[before..before + asked.file.len()];
-        let (mut numbers, mut element_numbers) = ([0; PAGE], [0; ELEMENT]);
+        let (mut numbers, mut element_numbers) = ([0; 13], [0; 6]);
         let number = page_into(moved, &mut numbers);
         let element_number = element_into(moved, element, &mut element_numbers);
-        (number, numbers) == page && (element_number, element_numbers) == of_element
+        let (mut numbers_said, mut element_said) = ([0; PAGE_SAID], [0; ELEMENT_SAID]);
+        let page_said = (page_said_into(moved, &mut numbers_said), numbers_said);
+        let number_said = element_said_into(moved, element, &mut element_said);
+        (number, numbers) == page
+            && (element_number, element_numbers) == of_element
+            && (page_said, (number_said, element_said)) == said
     });
     if same {
         run.face.reached(ADDRESSES);

@@ -2,10 +2,9 @@
 //! for 2^32 cells; all of 65,536 tiles; and the largest tiles, which a memory of as many numbers
 //! lets a call unpack just once.
 
-use std::time::Duration;
+use std::time::{Duration, Instant};
 
 use gvrs_tests::build::bytes_of;
-use gvrs_tests::clock::processor_time;
 use gvrs_tests::page::{Body, Element, Page, Tile, INTEGER, SHORT};
 use gvrs_tests::prng::Prng;
 use gvrs_tests::second::predict::Predictor;
@@ -53,12 +52,12 @@ fn in_time(
         return;
     };
     let mut memory = vec![0; memories.last().copied().unwrap_or(0)];
-    // The shortest of three calls, in processor time.
+    // The shortest of three calls, as other work may come between.
     let mut shortest = Duration::MAX;
     for _ in 0..3 {
-        let begin = processor_time();
+        let begin = Instant::now();
         let same = is_the_answer(&asked.lent, rectangle, compressor, &mut memory, &answer);
-        shortest = shortest.min(processor_time() - begin);
+        shortest = shortest.min(begin.elapsed());
         if !same {
             run.fault(&format!("{thing}: another answer to the same call"), asked.file);
         }
@@ -99,7 +98,9 @@ fn strips(run: &mut Run, random: &mut Prng) {
     let file = bytes_of(&page);
     let asked = Asked::new(&file);
     run.page(SORT, &asked);
+    run.page_said(SORT, &asked);
     run.element(SORT, &asked, 0);
+    run.element_said(SORT, &asked, 0);
     for row in [0, 252, SIDE - 8] {
         let strip = Rectangle { element: 0, row, column: 0, rows: 8, columns: SIDE };
         in_time(run, &asked, strip, compressor, &[ALWAYS_ENOUGH, SIDE as usize], ROWS);
@@ -135,6 +136,7 @@ fn many_tiles(run: &mut Run, random: &mut Prng) {
     let file = bytes_of(&page_of_many_tiles(random));
     let asked = Asked::new(&file);
     run.page(SORT, &asked);
+    run.page_said(SORT, &asked);
     let whole = Rectangle { element: 0, row: 0, column: 0, rows: 256, columns: 256 };
     in_time(run, &asked, whole, 256, &[0], MANY_TILES);
 }

@@ -65,8 +65,10 @@ fn refused(run: &mut Run, page: &Page, file: &[u8], refusal: Answer, random: &mu
     }
     let (number, place) = refusal;
     let mut all = run.page(SORT, &asked) == Some((number, first_of(place)));
+    all &= run.page_said(SORT, &asked) == Some((number, first_of(place)));
     for element in [good.element, u64::MAX] {
         all &= run.element(SORT, &asked, element) == Some((number, first_of(place)));
+        all &= run.element_said(SORT, &asked, element) == Some((number, first_of(place)));
     }
     if all {
         run.face.reached(FACTS);
@@ -90,6 +92,8 @@ fn changed(run: &mut Run, page: &Page, random: &mut Prng) {
         let asked = Asked::new(&file);
         run.area(sort, &asked, good, u32::from(random.byte()));
         run.page(sort, &asked);
+        run.page_said(sort, &asked);
         run.element(sort, &asked, good.element);
+        run.element_said(sort, &asked, good.element);
     }
 }

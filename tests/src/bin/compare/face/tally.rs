@@ -7,7 +7,7 @@ use gvrs_tests::second::rectangles::Area;
 
 use crate::reads::tally::count;
 
-/// One more than the greatest number that one of the three functions answers.
+/// One more than the greatest number that one of the functions answers.
 const NUMBERS: usize = 14;
 
 /// What each of them answers.
@@ -29,10 +29,12 @@ pub struct Tally {
     sorts: Vec<(String, usize)>,
     /// Calls that differ in a buffer or an `out` too.
     calls: usize,
-    /// Answers by number: of rectangles, of pages and of elements.
+    /// Answers by number: of rectangles, of pages and of elements, and of what these say.
     areas: [usize; NUMBERS],
     pub pages: [usize; NUMBERS],
     pub elements: [usize; NUMBERS],
+    pub pages_said: [usize; NUMBERS],
+    pub elements_said: [usize; NUMBERS],
     /// Cells in rectangles, by type and by kind.
     kinds: [[usize; KINDS.len()]; TYPES.len()],
     /// Things that have to come about, and how often they did.
@@ -47,6 +49,8 @@ impl Tally {
             areas: [0; NUMBERS],
             pages: [0; NUMBERS],
             elements: [0; NUMBERS],
+            pages_said: [0; NUMBERS],
+            elements_said: [0; NUMBERS],
             kinds: [[0; KINDS.len()]; TYPES.len()],
             things: Vec::new(),
         }
@@ -98,18 +102,30 @@ impl Tally {
         (0..).zip(self.elements)
     }
 
+    pub fn page_said_answers(&self) -> impl Iterator<Item = (u32, usize)> + '_ {
+        (0..).zip(self.pages_said)
+    }
+
+    pub fn element_said_answers(&self) -> impl Iterator<Item = (u32, usize)> + '_ {
+        (0..).zip(self.elements_said)
+    }
+
     pub fn report(&self) {
         println!("Rectangles, pages and elements, questions by sort");
         for (sort, number) in &self.sorts {
             println!("  {number:8}  {sort}");
         }
         println!("  {:8}  asked in all, in {} calls", self.questions(), self.calls);
-        println!("Answers: {:>7} {:>10} {:>10}", "cells", "page", "element");
+        println!(
+            "Answers: {:>7} {:>10} {:>10} {:>10} {:>13}",
+            "cells", "page", "element", "page_said", "element_said"
+        );
         for number in AREAS {
             let at = number as usize;
             let [areas, pages, elements] = [self.areas[at], self.pages[at], self.elements[at]];
+            let said = format!("{:>10} {:>13}", self.pages_said[at], self.elements_said[at]);
             let meaning = if number == 0 { "accepted" } else { "refused" };
-            println!("  {areas:>14} {pages:>10} {elements:>10}  {meaning} {number}");
+            println!("  {areas:>14} {pages:>10} {elements:>10} {said}  {meaning} {number}");
         }
         println!("Cells in rectangles, by type");
         for (type_name, kinds) in TYPES.iter().zip(self.kinds) {
@@ -130,6 +146,8 @@ impl Tally {
             ("cells", &AREAS[..], &self.areas),
             ("page", &PAGES, &self.pages),
             ("element", &ELEMENTS, &self.elements),
+            ("page_said", &PAGES, &self.pages_said),
+            ("element_said", &ELEMENTS, &self.elements_said),
         ];
         for (name, wanted, answers) in functions {
             for (number, times) in (0..).zip(answers) {

@@ -2,10 +2,10 @@
 
 use std::thread;
 
-use gvrs_tests::library::{element_into, page_into};
+use gvrs_tests::library::{element_into, element_said_into, page_into, page_said_into};
 use gvrs_tests::prng::Prng;
 use gvrs_tests::second::cells::Opened;
-use gvrs_tests::second::facts::{ELEMENT, PAGE};
+use gvrs_tests::second::facts::{ELEMENT_SAID, PAGE_SAID};
 use gvrs_tests::second::rectangles::{Area, Rectangle, Rooms};
 
 use super::made::{inside, is_the_answer};
@@ -24,8 +24,10 @@ struct Question {
     rectangle: Rectangle,
     compressor: u32,
     area: Area,
-    page: (u32, [u64; PAGE]),
-    element: (u32, [u64; ELEMENT]),
+    page: (u32, [u64; 13]),
+    element: (u32, [u64; 6]),
+    page_said: (u32, [u64; PAGE_SAID]),
+    element_said: (u32, [u64; ELEMENT_SAID]),
 }
 
 pub fn section(run: &mut Run, random: &mut Prng) {
@@ -54,7 +56,8 @@ fn question(random: &mut Prng) -> Question {
     let (compressor, opened) = (mixed.compressor, Opened::checked(&file));
     let area = opened.area(rectangle, compressor, Rooms::of(u64::MAX));
     let (page, element) = (opened.page(), opened.element(rectangle.element));
-    Question { rectangle, compressor, area, page, element, file }
+    let (page_said, element_said) = (opened.page_said(), opened.element_said(rectangle.element));
+    Question { rectangle, compressor, area, page, element, page_said, element_said, file }
 }
 
 /// Asks them all, each thread beginning with another, until one is answered otherwise.
@@ -67,11 +70,20 @@ fn first_fault(questions: &[Question], number: usize) -> Option<usize> {
 }
 
 fn is_answered(question: &Question, memory: &mut [u32]) -> bool {
-    let Question { file, rectangle, compressor, area, page, element } = question;
-    let (mut of_page, mut of_element) = ([0; PAGE], [0; ELEMENT]);
+    let Question { file, rectangle, compressor, area, page, element, .. } = question;
+    let (mut of_page, mut of_element) = ([0; 13], [0; 6]);
     let page_number = page_into(file, &mut of_page);
     let element_number = element_into(file, rectangle.element, &mut of_element);
     is_the_answer(file, *rectangle, *compressor, memory, area)
         && (page_number, of_page) == *page
         && (element_number, of_element) == *element
+        && is_said(question)
+}
+
+fn is_said(question: &Question) -> bool {
+    let Question { file, rectangle, page_said, element_said, .. } = question;
+    let (mut of_page, mut of_element) = ([0; PAGE_SAID], [0; ELEMENT_SAID]);
+    let page_number = page_said_into(file, &mut of_page);
+    let element_number = element_said_into(file, rectangle.element, &mut of_element);
+    (page_number, of_page) == *page_said && (element_number, of_element) == *element_said
 }

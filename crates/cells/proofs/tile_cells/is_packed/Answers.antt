@@ -1,0 +1,10 @@
+-- `cells::tile_cells::is_packed` meets its contract. Assumes nothing.
+use native.Mathlib.Omega.{arith}
+use Rattle.cells.proofs.CellLaws.{packed_yes, packed_no}
+use Rattle.cells.proofs.tile_cells.is_packed.Goals as goal
+
+pub returns-then-l-element_bytes : goal.returns-then-l-element_bytes
+returns-then-l-element_bytes c = packed_yes _ _ _ _ _ _ c.section.ensures.is c.u32_at-l.ensures c.element_bytes.ensures (omega arith)
+
+pub returns : goal.returns
+returns c = packed_no _ _ _ _ _ _ c.section.ensures.is c.u32_at-l.ensures c.element_bytes.ensures (omega arith) (omega arith)

@@ -1,0 +1,10 @@
+-- `lay_down::sheet::lay_down_sheet` meets its contract. Assumes nothing.
+use mathlib.Core.Path.{sym, ◌∙◌}
+use Rattle.lay_down.proofs.SheetWriting.{sheet_front}
+use Rattle.lay_down.proofs.sheet.lay_down_sheet.Goals as goal
+
+pub lay_sheet-requires : goal.lay_sheet-requires
+lay_sheet-requires c = sym c.check_front.ensures ∙ c.in-Accepted.is
+
+pub returns-in-Refused-clause-answer : goal.returns-in-Refused-clause-answer
+returns-in-Refused-clause-answer c = sheet_front _ _ _ _ _ _ c.check_front.ensures c.in-Refused.is
