@@ -1,6 +1,6 @@
 /* examples/correct_page.c: stores one tile of a page, whose bytes a second file has, and writes the corrected page beside it.
 
-       gcc -std=c11 -Wall -Wextra -Werror -Iinclude examples/correct_page.c target/staticlib/libgvrs_c.a -o correct_page
+       gcc -std=c11 -Wall -Wextra -Werror -Iinclude examples/correct_page.c crates/gvrs_c/out/libgvrs_c.a -o correct_page
        ./correct_page PAGE TILE CELLS NEW */
 #include <errno.h>
 #include <inttypes.h>

@@ -1,6 +1,6 @@
 // examples/lay_down.rs: lays down a new page that keeps one tile of a page.
 //
-//     rustc -O examples/lay_down.rs -L target/staticlib -l static=gvrs_c -o lay_down
+//     rustc -O examples/lay_down.rs -L crates/gvrs_c/out -l static=gvrs_c -o lay_down
 //     ./lay_down PAGE TILE NEW
 use std::{env, fs, process};
 

@@ -1,6 +1,6 @@
 /* examples/new_page.c: makes a page from nothing, with one tile, reads a cell of it, and judges the scores of the tile and of the page.
 
-       gcc -std=c11 -Wall -Wextra -Werror -Iinclude examples/new_page.c target/staticlib/libgvrs_c.a -o new_page
+       gcc -std=c11 -Wall -Wextra -Werror -Iinclude examples/new_page.c crates/gvrs_c/out/libgvrs_c.a -o new_page
        ./new_page NEW */
 #include <inttypes.h>
 #include <stdio.h>

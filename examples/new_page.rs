@@ -1,6 +1,6 @@
 // examples/new_page.rs: makes a page from nothing, with one tile, reads a cell of it, and judges the scores of the tile and of the page.
 //
-//     rustc -O examples/new_page.rs -L target/staticlib -l static=gvrs_c -o new_page
+//     rustc -O examples/new_page.rs -L crates/gvrs_c/out -l static=gvrs_c -o new_page
 //     ./new_page NEW
 use std::{env, fs, process};
 

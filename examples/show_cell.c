@@ -1,6 +1,6 @@
 /* examples/show_cell.c: prints one cell of a page.
 
-       gcc -std=c11 -Wall -Wextra -Werror -Iinclude examples/show_cell.c target/staticlib/libgvrs_c.a -o show_cell
+       gcc -std=c11 -Wall -Wextra -Werror -Iinclude examples/show_cell.c crates/gvrs_c/out/libgvrs_c.a -o show_cell
        ./show_cell FILE ROW COLUMN ELEMENT */
 #include <errno.h>
 #include <inttypes.h>

@@ -1,6 +1,6 @@
 /* examples/show_page.c: prints a page: the name, type and fill of each element, and the kind and value of each of its cells, by rows.
 
-       gcc -std=c11 -Wall -Wextra -Werror -Iinclude examples/show_page.c target/staticlib/libgvrs_c.a -o show_page
+       gcc -std=c11 -Wall -Wextra -Werror -Iinclude examples/show_page.c crates/gvrs_c/out/libgvrs_c.a -o show_page
        ./show_page FILE COMPRESSOR */
 #include <inttypes.h>
 #include <stdio.h>

@@ -1,4 +1,4 @@
-//! Links `libgvrs_c.a`, which `rt staticlib gvrs_c` writes under the root's target/.
+//! Links `libgvrs_c.a`, which `tools/library` writes in crates/gvrs_c/out.
 //! GVRS_LIB_DIR names another folder that holds one.
 
 use std::env;
@@ -8,7 +8,7 @@ fn main() {
     let here = PathBuf::from(env::var("CARGO_MANIFEST_DIR").expect("cargo names the package folder"));
     let folder = match env::var("GVRS_LIB_DIR") {
         Ok(folder) => PathBuf::from(folder),
-        Err(_) => here.join("../target/staticlib"),
+        Err(_) => here.join("../crates/gvrs_c/out"),
     };
     println!("cargo:rerun-if-env-changed=GVRS_LIB_DIR");
     println!("cargo:rerun-if-changed={}", folder.join("libgvrs_c.a").display());

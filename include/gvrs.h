@@ -3,7 +3,7 @@
    tiles, metadata and methods, the front of a new one from a description, the laying down of it, score sheets moved in and out, the
    correcting and squeezing of one where it lies, and the listing of a file.
 
-   Link with libgvrs_c.a, which `rt staticlib gvrs_c` writes to target/staticlib/. A file is the bytes of the whole file, n of
+   Link with libgvrs_c.a, which tools/library writes to crates/gvrs_c/out/. A file is the bytes of the whole file, n of
    them, but for gvrs_check_start. `out` takes the numbers that a function names, in their order; a shorter one takes those that
    fit, and the answer is the same. A lay-down also writes the buffer that it is given for the file, and so does a move of a score sheet,
    out of a page that for the sheet; gvrs_front that for the front; a correction the one that the page lies in, gvrs_tight_plan the plan
@@ -29,7 +29,7 @@ extern "C" {
 #define GVRS_LIBRARY_VERSION "1.1.0"
 
 /* The version of the library that is linked: that of the header with which tools/install installed it. It is no function of the library as
-   `rt staticlib gvrs_c` writes it: tools/install adds it, to the static library and to the shared one. */
+   tools/library writes it: tools/install adds it, to the static library and to the shared one. */
 const char *gvrs_version(void);
 
 /* What a function answers: a refusal's number, or what it found. */

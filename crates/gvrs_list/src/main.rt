@@ -35,14 +35,18 @@ fn print_listing(rt: &impl Print, file: &[u8]) -> io::Result<()> {
     rt.write_all(&text[..n])
 }
 
-// Says why the file cannot be read, in the system's words without their number.
+// The system's words for an error, without the number behind them.
+fn words_of(said: &str) -> &str {
+    match said.split_once(" (os error ") {
+        Some((words, _)) => words,
+        None => said,
+    }
+}
+
+// Says why the file cannot be read.
 fn complain<R: Eprint + AllocGlobal>(rt: &R, path: &str, error: io::Error) -> io::Result<()> {
     let said = format!(in rt.alloc(); "{error}")?;
-    let words = match said.as_str().split_once(" (os error ") {
-        Some((words, _)) => words,
-        None => said.as_str(),
-    };
-    eprintln!(rt; "{path}: {words}")
+    eprintln!(rt; "{path}: {}", words_of(said.as_str()))
 }
 
 fn main(rt: HostRuntime) -> io::Result<()> {
