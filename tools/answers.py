@@ -313,15 +313,15 @@ class Function:
             labels = self.labels.get(callee, ((), self.fields.get(step, ())))[1]
             if labels and (len(labels) > 1 or labels[0]):
                 term = re.sub(
-                    rf"(?<![\w.'-])([a-z][\w₀-₉']*\.{re.escape(step)}\.ensures)((?:\.[01])*)(?![\w.'-])",
-                    lambda m, labels=labels: projected(m[1], labels, m[2]),
+                    rf"(?<![\w.'-])([a-z][\w₀-₉']*\.{re.escape(step)}\.ensures)((?:\.[01])*)(?![\w'-])(?!\.[01](?!\w))",
+                    lambda m, labels=labels: m[0] if not m[2] and m.string.startswith(".", m.end()) else projected(m[1], labels, m[2]),
                     term,
                 )
         # no record, in a chain's step
         term = re.sub(r"(?<![\w.'-])(c\.in_default[\w-]*)\.keys\d*", r"(tag_other _ \1.not-Record)", term)
         labels = self.labels.get(f"{self.name}::" + self.path.replace(".", "::"), ((), ()))[0]
         if labels and (len(labels) > 1 or labels[0]):
-            term = re.sub(r"(?<![\w.'-])(c\.requires)((?:\.[01])*)(?![\w.'-])", lambda m: projected(m[1], labels, m[2]), term)
+            term = re.sub(r"(?<![\w.'-])(c\.requires)((?:\.[01])*)(?![\w'-])(?!\.[01](?!\w))", lambda m: m[0] if not m[2] and m.string.startswith(".", m.end()) else projected(m[1], labels, m[2]), term)
         return term
 
     def turn(self):
