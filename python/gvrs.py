@@ -2,7 +2,7 @@
 Score sheets and correction logs too.
 
 >>> import gvrs
->>> page = gvrs.Page("page.gvrs")        # raises Refused where the check refuses the file
+>>> page = gvrs.Page("page.gvrs", check=True)  # raises Refused where the check refuses the file
 >>> page
 <gvrs.Page 'page.gvrs': 3 by 3 cells in tiles of 2 by 2, 1 of 4 stored: z>
 >>> page["z"][2, 0:2]                    # numbers, which are stored
@@ -27,8 +27,9 @@ from 0. An element is named by its number or its name, to pack by its name. What
 fit the C type of its argument raises ValueError before anything is called; a file that cannot be read, locked or written raises OSError.
 
 The library is the file that GVRS_LIBRARY names, or libgvrs.so beside this module, in the folder above it, or in `lib` of Python's own
-prefix, or libgvrs.so.1 where the system's loader finds it. Any number of threads may call at once; each has to have 320 KiB of stack left,
-which is less than Python gives one by itself. The examples here are run in a folder that has the sample page as page.gvrs.
+prefix. A name without a folder, as GVRS_LIBRARY=libgvrs.so.1, is one for the system's loader. Any number of threads may call at once; each
+has to have 320 KiB of stack left, which is less than Python gives one by itself. The examples here are run in a folder that has the sample
+page as page.gvrs.
 """
 
 from __future__ import annotations
@@ -52,7 +53,11 @@ from typing import TYPE_CHECKING, Any, Callable, Dict, Iterable, Iterator, Mappi
 from uuid import uuid4
 
 if TYPE_CHECKING:
+    from types import EllipsisType as Dots
+
     import numpy
+else:
+    Dots = type(...)  # `...` stands for an argument that is not given, where None is none
 
 __version__ = "1.1.0"
 
@@ -66,6 +71,7 @@ __all__ = [
     "Element",
     "FILL",
     "Fill",
+    "Further",
     "MALFORMED",
     "Metadata",
     "NewElement",
@@ -118,8 +124,8 @@ _LIST32, _LIST64 = ctypes.POINTER(_U32), ctypes.POINTER(_U64)
 _FILE = [_BYTES, _U64]
 _FUNCTIONS = {
     "gvrs_explain": _FILE,
-    "gvrs_page": _FILE,
-    "gvrs_element": _FILE + [_U64],
+    "gvrs_page_said": _FILE,
+    "gvrs_element_said": _FILE + [_U64],
     "gvrs_find_element": _FILE + [_BYTES, _U64],
     "gvrs_tiles": _FILE + [_U64, _LIST64, _U64],
     "gvrs_metadata": _FILE + [_U64, _LIST64, _U64],
@@ -145,17 +151,17 @@ _FUNCTIONS = {
 
 
 def _find() -> ctypes.CDLL:
-    """The library where it is named, where it is installed, or where the system's loader finds it."""
+    """The library where it is named, or where it is installed."""
     named, here = os.environ.get("GVRS_LIBRARY"), os.path.dirname(os.path.abspath(__file__))
     places = [os.path.join(folder, "libgvrs.so") for folder in (here, os.path.dirname(here), os.path.join(sys.prefix, "lib"))]
     found = [named] if named else [place for place in places if os.path.exists(place)]
+    if not found:
+        installs = "which `tools/install PREFIX` installs: GVRS_LIBRARY is not set"
+        raise ImportError(f"no library of the page store, {installs}, no {', '.join(places)}")
     try:
-        return ctypes.CDLL(found[0] if found else "libgvrs.so.1")
+        return ctypes.CDLL(found[0])
     except OSError as error:
-        if found:
-            raise ImportError(f"{found[0]} is no library of the page store: {error}") from None
-    installs = "which `tools/install PREFIX` installs: GVRS_LIBRARY is not set, the system's loader finds no libgvrs.so.1"
-    raise ImportError(f"no library of the page store, {installs}, no {', '.join(places)}")
+        raise ImportError(f"{found[0]} is no library of the page store: {error}") from None
 
 
 def _load() -> ctypes.CDLL:
@@ -193,7 +199,7 @@ class Why(NamedTuple):
     tile; the position of its field in the file; what is found there and what is wanted; and what is broken in words. docs/LAYOUT.md has the
     rules, and what the numbers of each are. As text it says all of it.
 
-    >>> why = gvrs.Page("refused-8.gvrs", check=False).explain()
+    >>> why = gvrs.Page("refused-8.gvrs").explain()
     >>> why
     Why(rule=40, number=0, position=344, found=5, wanted=4, words='a tile index is not below the tiles')
     >>> print(why)
@@ -211,7 +217,7 @@ class Why(NamedTuple):
     def what(self) -> str:
         """What breaks the rule; empty where the rule is of one thing only.
 
-        >>> gvrs.Page("refused-8.gvrs", check=False).explain().what
+        >>> gvrs.Page("refused-8.gvrs").explain().what
         'record 0 behind the header'
         """
         return next((name(self.number) for rules, name in _COUNTED if self.rule in rules), "")
@@ -241,7 +247,7 @@ class Refused(Exception):
     is the file's, where the number is 1 to 9 and the page was read from one.
 
     >>> try:
-    ...     gvrs.Page("refused-7.gvrs")
+    ...     gvrs.Page("refused-7.gvrs").check()
     ... except gvrs.Refused as refused:
     ...     print(refused.number, refused.place, refused.words, refused.why.rule)
     7 376 a record's checksum is wrong 38
@@ -254,8 +260,21 @@ class Refused(Exception):
 
     def __str__(self) -> str:
         place = "" if self.place is None else f" at {self.place}"
-        more = (f": {self.note}" if self.note else "") + (self.why._behind(self.words) if self.why else "")
-        return ("" if self.path is None else f"{self.path}: ") + f"refused {self.number}{place}: {self.words}{more}"
+        return f"refused {self.number}{place}: {self.words}" + (f": {self.note}" if self.note else "")
+
+    @property
+    def in_full(self) -> str:
+        """The text of it, with the path in front and the rule behind, where there are any.
+
+        >>> try:
+        ...     gvrs.Page("refused-8.gvrs").check()
+        ... except gvrs.Refused as refused:
+        ...     print(refused)
+        ...     print(refused.in_full)
+        refused 8 at 336: what a tile or metadata record holds is at fault
+        refused-8.gvrs: refused 8 at 336: what a tile or metadata record holds is at fault: record 0 behind the header: ...
+        """
+        return ("" if self.path is None else f"{self.path}: ") + str(self) + (self.why._behind(self.words) if self.why else "")
 
     def __repr__(self) -> str:
         return f"refused({self.number})"
@@ -365,21 +384,15 @@ class Shape(NamedTuple):
     checksums: bool
 
 
-class Element(NamedTuple):
-    """An element of a page: its name, its type (Integer, integer-coded, Float or Short), its fill, a Fill, its unit of measure, its label
-    and its description, which may be empty; the least and the greatest value that the header states, which the store carries and does not
-    hold cells to; and whether it is continuous. Of an integer-coded element least, greatest and fill are integers, and `scale` and `offset`
-    say what each stands for: itself divided by the scale, plus the offset. Of every other these two are None.
+class Further(NamedTuple):
+    """What a page says further of an element: its label and its description, which may be empty; the least and the greatest value that the
+    header states, which the store carries and does not hold cells to; scale and offset of an integer-coded element, None of every other;
+    and whether it is continuous.
 
-    >>> z, = gvrs.Page("page.gvrs").elements
-    >>> z.name, z.type, z.fill, z.unit, z.range
-    ('z', 'Short', fill(7), '', (0, 0))
+    >>> gvrs.Page("page.gvrs")["z"].element.further
+    Further(label='', description='', least=0, greatest=0, scale=None, offset=None, continuous=False)
     """
 
-    name: str
-    type: str
-    fill: Fill
-    unit: str = ""
     label: str = ""
     description: str = ""
     least: Number | None = None
@@ -387,6 +400,75 @@ class Element(NamedTuple):
     scale: float | None = None
     offset: float | None = None
     continuous: bool = False
+
+
+class _Stays:
+    """A tuple with more to it than it has in it: that stays too."""
+
+    def __setattr__(self, name: str, value: object) -> NoReturn:
+        raise AttributeError(f"{name} cannot be set")
+
+    def __delattr__(self, name: str) -> NoReturn:
+        raise AttributeError(f"{name} cannot be deleted")
+
+
+class _Element(NamedTuple):
+    name: str
+    type: str
+    fill: Fill
+    unit: str = ""
+
+
+class Element(_Stays, _Element):
+    """An element of a page, a tuple: its name, its type (Integer, integer-coded, Float or Short), its fill, a Fill, and its unit of measure,
+    which may be empty. Not in the tuple, so that two elements may be equal that differ in it, is what the page says further: `label`,
+    `description`, `least` and `greatest`, `scale`, `offset` and `continuous`, together in `further`, a Further. Of an integer-coded element
+    least, greatest and fill are integers, and `scale` and `offset` say what each stands for: itself divided by the scale, plus the offset.
+
+    >>> z, = gvrs.Page("page.gvrs").elements
+    >>> z
+    Element(name='z', type='Short', fill=fill(7), unit='')
+    >>> z.label, z.range, z == ("z", "Short", gvrs.Fill(7), "")
+    ('', (0, 0), True)
+    """
+
+    label: str = ""
+    description: str = ""
+    least: Number | None = None
+    greatest: Number | None = None
+    scale: float | None = None
+    offset: float | None = None
+    continuous: bool = False
+
+    def __new__(
+        cls,
+        name: str,
+        type: str,
+        fill: Fill,
+        unit: str = "",
+        label: str = "",
+        description: str = "",
+        least: Number | None = None,
+        greatest: Number | None = None,
+        scale: float | None = None,
+        offset: float | None = None,
+        continuous: bool = False,
+    ) -> Element:
+        element = super().__new__(cls, name, type, fill, unit)
+        element.__dict__.update(Further(label, description, least, greatest, scale, offset, continuous)._asdict())
+        return element
+
+    @property
+    def further(self) -> Further:
+        """What is not in the tuple, a Further.
+
+        >>> gvrs.Element("score", "Short", gvrs.Fill(-1), "", "Score").further.label
+        'Score'
+        """
+        return Further(*(getattr(self, name) for name in Further._fields))
+
+    def _replace(self, **named: Any) -> Element:
+        return Element(**{**self._asdict(), **self.further._asdict(), **named})
 
     @property
     def range(self) -> Tuple[Number | None, Number | None]:
@@ -439,23 +521,40 @@ class Metadata(NamedTuple):
     start: int
 
 
-class Cell(NamedTuple):
-    """A cell: its kind (stored, unpacked or fill); its value, a number or a Fill; the value's bits, which tell one NaN from another; the
-    place of its first byte in the file, of an unpacked one that of its content; the index of its tile, and its number inside the tile, by
-    rows. Bits and place of a fill are None. `scaled` is what the integer of an integer-coded cell stands for, as Element.scaled computes it
-    in Python: the store carries the integer. It is None of a fill and of every other type.
-
-    >>> gvrs.Page("page.gvrs").cell(2, 1, "z")
-    Cell(kind='stored', value=12, bits=12, place=354, tile=2, inside=1, scaled=None)
-    """
-
+class _Cell(NamedTuple):
     kind: str
     value: Union[int, float, Fill]
     bits: int | None
     place: int | None
     tile: int
     inside: int
+
+
+class Cell(_Stays, _Cell):
+    """A cell, a tuple: its kind (stored, unpacked or fill); its value, a number or a Fill; the value's bits, which tell one NaN from another;
+    the place of its first byte in the file, of an unpacked one that of its content; the index of its tile, and its number inside the tile,
+    by rows. Bits and place of a fill are None. Not in the tuple is `scaled`, what the integer of an integer-coded cell stands for, as
+    Element.scaled computes it in Python: the store carries the integer. It is None of a fill and of every other type.
+
+    >>> gvrs.Page("page.gvrs").cell(2, 1, "z")
+    Cell(kind='stored', value=12, bits=12, place=354, tile=2, inside=1)
+    """
+
     scaled: float | None = None
+
+    def __new__(
+        cls,
+        kind: str,
+        value: Union[int, float, Fill],
+        bits: int | None,
+        place: int | None,
+        tile: int,
+        inside: int,
+        scaled: float | None = None,
+    ) -> Cell:
+        cell = super().__new__(cls, kind, value, bits, place, tile, inside)
+        cell.__dict__["scaled"] = scaled
+        return cell
 
 
 class Deed(NamedTuple):
@@ -540,9 +639,9 @@ def _now() -> int:
     return clocks.time_ns() // 1_000_000
 
 
-def _time(time: int | None) -> int:
+def _time(time: int | Dots) -> int:
     """A time that is given, or the clock's."""
-    return _now() if time is None else _number64(time, "time")
+    return _now() if time is ... else _number64(time, "time")
 
 
 def _bytes(value: Any, what: str) -> bytes:
@@ -601,27 +700,28 @@ def _numpy() -> Any:
 
 
 class Page(Mapping[str, "Raster"]):
-    """A page: the bytes of a file, read once and whole, and checked: what the check refuses raises Refused. With `check=False` it is opened
-    all the same, for `explain` and `file`, and every other question raises that refusal. What is told of the page as a whole is asked once,
-    since its bytes never change. `compressor` is the compressor index, 0 to 255, of the content that is to be unpacked, or the name of the
-    page's compression method with that index; without it compressed cells are refused (11), and the refusal names the methods.
+    """A page: the bytes of a file, read once and whole. Nothing is judged until something is asked: then every question but `explain` and
+    `file` raises Refused where the check refuses the page. With `check=True` that is raised when it is opened. What is told of the page as a
+    whole is asked once, since its bytes never change. `compressor` is the compressor index, 0 to 255, of the content that is to be unpacked,
+    or the name of the page's compression method with that index, which is looked up at once; without it compressed cells are refused (11),
+    and the refusal names the methods.
 
     A page is also a mapping from its elements' names to their cells, each a Raster, and a context manager, which closes it.
 
     >>> with gvrs.Page("page.gvrs") as page:
     ...     list(page), page["z"][2]
     (['z'], [11, 12, fill(7)])
-    >>> gvrs.Page("refused-7.gvrs")
+    >>> gvrs.Page("refused-7.gvrs", check=True)
     Traceback (most recent call last):
-    gvrs.Refused: refused-7.gvrs: refused 7 at 376: a record's checksum is wrong: ...
+    gvrs.Refused: refused 7 at 376: a record's checksum is wrong
     """
 
-    def __init__(self, path: Path, compressor: int | str | None = None, check: bool = True) -> None:
+    def __init__(self, path: Path, compressor: int | str | None = None, check: bool = False) -> None:
         with open(path, "rb") as stream:
             self._keep(stream.read(LONGEST + 1), compressor, check, None if isinstance(path, int) else os.fsdecode(path))
 
     @classmethod
-    def of_bytes(cls, file: Octets, compressor: int | str | None = None, check: bool = True) -> Page:
+    def of_bytes(cls, file: Octets, compressor: int | str | None = None, check: bool = False) -> Page:
         """A page of bytes that are in memory, as lay_down gives them.
 
         >>> gvrs.Page.of_bytes(gvrs.Page("page.gvrs").squeeze())["z"][2]
@@ -714,7 +814,7 @@ class Page(Mapping[str, "Raster"]):
 
     def _told(self) -> list:
         """The numbers of the page, behind the one check that is made; or raises its refusal."""
-        number, out = self._once("page", lambda: _ask("gvrs_page", 21, self.file, len(self.file)))
+        number, out = self._once("page", lambda: _ask("gvrs_page_said", 21, self.file, len(self.file)))
         if number != _DONE:
             raise self._refusal(number, out[0])
         return out
@@ -738,16 +838,16 @@ class Page(Mapping[str, "Raster"]):
         """Nothing, where the file is accepted; else raises Refused, as any other question would.
 
         >>> gvrs.Page("page.gvrs").check()
-        >>> gvrs.Page("refused-8.gvrs", check=False).check()
+        >>> gvrs.Page("refused-8.gvrs").check()
         Traceback (most recent call last):
-        gvrs.Refused: refused-8.gvrs: refused 8 at 336: what a tile or metadata record holds is at fault: record 0 behind the header: ...
+        gvrs.Refused: refused 8 at 336: what a tile or metadata record holds is at fault
         """
         self._told()
 
     def explain(self) -> Why | None:
         """Why the file is refused, a Why: the first rule that it breaks. None where it is accepted.
 
-        >>> print(gvrs.Page("refused-8.gvrs", check=False).explain())
+        >>> print(gvrs.Page("refused-8.gvrs").explain())
         record 0 behind the header: a tile index is not below the tiles, at 344: found 5, wanted 4
         >>> gvrs.Page("page.gvrs").explain() is None
         True
@@ -799,7 +899,7 @@ class Page(Mapping[str, "Raster"]):
         return self._once(("element", number), lambda: self._read_element(number))
 
     def _read_element(self, number: int) -> Element:
-        _, [code, fill, *out] = self._ask("gvrs_element", 18, number)
+        _, [code, fill, *out] = self._ask("gvrs_element_said", 18, number)
         type_, coded = _TYPES[code], code == _TYPES.index("integer-coded")
         name, unit, label, description = (self._part(*out[at : at + 2]).decode() for at in range(0, 8, 2))
         least, greatest = (_value(type_, bits) for bits in out[9:11])
@@ -880,7 +980,7 @@ class Page(Mapping[str, "Raster"]):
         name = element.encode(errors="surrogatepass")
         kind, [number] = self._ask("gvrs_find_element", 1, name, len(name))
         if kind == FILL:
-            raise Refused(_OUTSIDE, 0, f"no element has the name {element!r}: there are {', '.join(self)}")
+            raise Refused(_OUTSIDE, 0, f"no element has the name {element!r}")
         return number
 
     def __getitem__(self, element: Name) -> Raster:
@@ -947,11 +1047,11 @@ class Page(Mapping[str, "Raster"]):
 
         return _by_rows([value(i) for i in range(count)], shape.tile_columns)
 
-    def _rectangle(self, row: int, column: int, rows: int | None, columns: int | None) -> list:
+    def _rectangle(self, row: int, column: int, rows: int | Dots, columns: int | Dots) -> list:
         """The sides of a rectangle; those that are not given reach to the grid's edge."""
         shape, row, column = self.shape, _number64(row, "row"), _number64(column, "column")
-        rows = max(shape.rows - row, 0) if rows is None else _number64(rows, "rows")
-        columns = max(shape.columns - column, 0) if columns is None else _number64(columns, "columns")
+        rows = max(shape.rows - row, 0) if rows is ... else _number64(rows, "rows")
+        columns = max(shape.columns - column, 0) if columns is ... else _number64(columns, "columns")
         return [row, column, rows, columns]
 
     def _into(self, e: int, sides: list, kinds: Any, bits: Any, room: int) -> None:
@@ -970,7 +1070,7 @@ class Page(Mapping[str, "Raster"]):
         instead = f"ask for at most {most // columns} rows of {columns} columns, or go through page[{name!r}].parts()"
         raise ValueError(f"{count} cells are too many at once, since they would take more than 1 GiB: {instead}")
 
-    def cells(self, element: Name, row: int = 0, column: int = 0, rows: int | None = None, columns: int | None = None) -> list[list[Value]]:
+    def cells(self, element: Name, row: int = 0, column: int = 0, rows: int | Dots = ..., columns: int | Dots = ...) -> list[list[Value]]:
         """An element's cells in a rectangle, `rows` rows from `row` on and `columns` columns from `column` on, or up to the grid's edge, as
         a list of rows. Each is a number, a Fill, or, where it cannot be read, the Refused (11 or 14) that cell would raise. Raises Refused,
         10 where the rectangle is not in the grid, and ValueError where it has more than MOST_CELLS cells.
@@ -990,7 +1090,7 @@ class Page(Mapping[str, "Raster"]):
         return _by_rows(values, sides[3])
 
     def arrays(
-        self, element: Name, row: int = 0, column: int = 0, rows: int | None = None, columns: int | None = None, under: Number | None = None
+        self, element: Name, row: int = 0, column: int = 0, rows: int | Dots = ..., columns: int | Dots = ..., under: Number | None = None
     ) -> Arrays:
         """An element's cells in a rectangle, given as for cells, as two arrays of NumPy, Arrays: numbers, and kinds. Where a cell has no
         number `under` stands, which cannot be the fill: unless it is given the least number of a Short, an Integer or an integer-coded
@@ -1022,7 +1122,7 @@ class Page(Mapping[str, "Raster"]):
         return Arrays(cells.reshape(sides[2:]), kinds.reshape(sides[2:])), none.reshape(sides[2:])
 
     def array(
-        self, element: Name, row: int = 0, column: int = 0, rows: int | None = None, columns: int | None = None, under: Number | None = None
+        self, element: Name, row: int = 0, column: int = 0, rows: int | Dots = ..., columns: int | Dots = ..., under: Number | None = None
     ) -> numpy.ma.MaskedArray:
         """An element's cells in a rectangle, given as for cells, as a masked array of NumPy in which fills are masked. Under the mask, and
         where `filled()` fills it, stands a number that is no score and not the fill: `under`, as for arrays. What does not look at the mask,
@@ -1040,7 +1140,7 @@ class Page(Mapping[str, "Raster"]):
         (cells, _), none = self._arrays(e, sides, under, raises=True)
         return _numpy().ma.MaskedArray(cells, none, fill_value=under)
 
-    def deed(self, element: Name, row: int = 0, column: int = 0, rows: int | None = None, columns: int | None = None) -> Deed:
+    def deed(self, element: Name, row: int = 0, column: int = 0, rows: int | Dots = ..., columns: int | Dots = ...) -> Deed:
         """Whether the scores of a Short element in a rectangle, given as for cells, are certain, doubtful or unread, a Deed. Raises
         Refused, 10 where the rectangle is not in the grid; 12 where it has no cell, where the element is no Short, or where the page's
         metadata records named score_rule do not say one rule; 11 or 14 of the first cell by rows that cannot be read.
@@ -1068,7 +1168,7 @@ class Page(Mapping[str, "Raster"]):
         than a sheet can have; then 11 or 14, or 12 of a number that is neither -1 nor from 0 to 1000, of the first such cell by rows.
 
         >>> sheet = bytes.fromhex("00000009 01 0001 0002 0384 ffff")
-        >>> gvrs.Page.of_bytes(gvrs.from_sheet(None, sheet)).sheet() == sheet
+        >>> gvrs.Page.of_bytes(gvrs.from_sheet(..., sheet)).sheet() == sheet
         True
         """
         memory = self._memory()
@@ -1091,7 +1191,7 @@ class Page(Mapping[str, "Raster"]):
             return "the page has not one element only, a Short with the fill -1"
         return "a cell is neither -1 nor from 0 to 1000, or the metadata records named score_rule do not say the first rule"
 
-    def squeeze(self, time: int | None = None) -> bytes:
+    def squeeze(self, time: int | Dots = ...) -> bytes:
         """The bytes of a new file: the page with its records moved together, so that no free space is left, opened, squeezed and closed.
         What is stored stays. `time` is the time modified, in milliseconds since 1970, the clock's unless it is given. Raises Refused: the
         check's, 12 where the time is 0.
@@ -1103,7 +1203,7 @@ class Page(Mapping[str, "Raster"]):
         correction.squeeze()
         return correction.close()
 
-    def replay(self, log: Octets, time: int | None = None, squeeze: bool = False) -> bytes:
+    def replay(self, log: Octets, time: int | Dots = ..., squeeze: bool = False) -> bytes:
         """The bytes of a new file: the page with a correction log replayed on it, opened, corrected and closed. `log` is bytes, each number
         with its highest byte first: a length of all that follows in four bytes, a version byte 1, then entries: a byte 1, a tile's index in
         four and the tile's bytes, as pack makes them, to store it, or a byte 2 and an index to remove it. `time` is the time modified, in
@@ -1394,7 +1494,7 @@ class Correction:
     [[1, 2, fill(7)], [3, 4, fill(7)], [fill(7), fill(7), fill(7)]]
     """
 
-    def __init__(self, page: Page, time: int | None = None) -> None:
+    def __init__(self, page: Page, time: int | Dots = ...) -> None:
         page.check()
         self.before, self.changed, self._time = page, False, _time(time)
         self._file, self._length = ctypes.create_string_buffer(LONGEST), len(page.file)
@@ -1646,7 +1746,7 @@ def _lock(name: Path, wait: float) -> _Original:
 
 
 @contextmanager
-def correcting(path: Path, time: int | None = None, wait: float = 0, squeeze: bool = False) -> Iterator[Correction]:
+def correcting(path: Path, time: int | Dots = ..., wait: float = 0, squeeze: bool = False) -> Iterator[Correction]:
     """Corrects the page of a file, as the command `gvrs` does: the file is locked and read, and the block has a Correction, which stores and
     removes tiles, replays logs and squeezes. When the block ends the page is closed, written to a copy beside the file, with its owner and
     mode, and the copy takes the file's name when all of it is on the disk. Where the block raises, or anything else, nothing is written, and
@@ -1721,7 +1821,7 @@ def _page(page: Page | Path, caller: str) -> Page:
     if isinstance(page, Page):
         return page
     if isinstance(page, (str, os.PathLike)):
-        return Page(page)
+        return Page(page, check=True)
     raise TypeError(f"{caller} or names of files, and not {type(page).__name__}")
 
 
@@ -1836,7 +1936,7 @@ def _block(element: NewElement) -> list:
 def _told(element: Any) -> Tuple[list, list]:
     """An element's fourteen numbers for gvrs_front, and its texts: name, label, description and unit."""
     try:
-        element = NewElement(*element)
+        element = NewElement(*element, *element.further) if isinstance(element, Element) else NewElement(*element)
         texts = [text.encode() for text in (element.name, element.label, element.description, element.unit)]
     except (TypeError, ValueError, AttributeError):
         raise TypeError(f"an element is (name, type, fill), (name, type, fill, unit), an Element or a NewElement, and not {element!r}") from None
@@ -2044,7 +2144,7 @@ def _tile_bytes(index: int, cells: Any, wanted: int) -> bytes:
     return bytes(cells)
 
 
-def lay_down(front: Page | Octets, tiles: Dict[int, Octets], time: int | None = None) -> bytes:
+def lay_down(front: Page | Octets, tiles: Dict[int, Octets], time: int | Dots = ...) -> bytes:
     """A new page, as the bytes of its file. `front` is the page's, as front makes it, or a Page, of which the front is taken. `tiles` is a
     dict from a tile's index to its bytes, all elements in order, as pack makes it: bytes, a bytearray or a memoryview of format B, and
     nothing else. Every other tile is not stored, and its cells are fills. `time` is the time modified, in milliseconds since 1970, the
@@ -2069,20 +2169,20 @@ def _score_front(sheet: bytes) -> bytes:
     return front(rows, columns, min(rows, 256), min(columns, 256), [("score", "Short", -1)])
 
 
-def from_sheet(front: Page | Octets | None, sheet: Octets, time: int | None = None) -> bytes:
+def from_sheet(front: Page | Octets | Dots, sheet: Octets, time: int | Dots = ...) -> bytes:
     """A new page of a score sheet, as the bytes of its file. `front` is bytes, or a Page, of which the front is taken: the grid is the
-    sheet's and the one element a Short with the fill -1; where it is None one is made, with an element `score` and tiles of at most 256 by
+    sheet's and the one element a Short with the fill -1; where it is `...` one is made, with an element `score` and tiles of at most 256 by
     256. `sheet` is bytes, each number with its highest byte first: a length of all that follows in four bytes, a version byte 1, rows and
     columns in two each, then each score by rows in two, -1 for unread, else 0 to 1000. A tile all -1 is not stored. `time` is the time
     modified, in milliseconds since 1970, the clock's unless it is given. Raises Refused: 1 to 4 of the front, 12 where the sheet or the
     front is not so, or the time is 0, 4 where the file would be too long.
 
     >>> sheet = bytes.fromhex("00000009 01 0001 0002 0384 ffff")
-    >>> gvrs.Page.of_bytes(gvrs.from_sheet(None, sheet))["score"][:]
+    >>> gvrs.Page.of_bytes(gvrs.from_sheet(..., sheet))["score"][:]
     [[900, -1]]
     """
     sheet, time = _bytes(sheet, "sheet"), _time(time)
-    octets = _score_front(sheet) if front is None else _front(front)
+    octets = _score_front(sheet) if front is ... else _front(front)
     file = ctypes.create_string_buffer(LONGEST)
     number, [out] = _ask("gvrs_sheet_in", 1, octets, len(octets), time, sheet, len(sheet), file, LONGEST)
     if number == _INPUT:

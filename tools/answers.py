@@ -136,6 +136,22 @@ def inlined(term):
         pos = m.start()
 
 
+def fitted(args, goals):
+    """The arguments that fit the goals in their order, without those that only search, or None."""
+    if len(args) == len(goals) and not args:
+        return []
+    if len(args) < len(goals):
+        return None
+    kept = re.match(r"\(λ \S+ κs\.", args[0])
+    if goals and bool(kept) == ("-requires" in goals[0]):
+        rest = fitted(args[1:], goals[1:])
+        if rest is not None:
+            return [args[0]] + rest
+    if re.fullmatch(r"\(λ \S+\. (search rules|refl)\)", args[0]):
+        return fitted(args[1:], goals)
+    return None
+
+
 def dashed(name):
     return name.replace("_", "-")
 
@@ -297,13 +313,15 @@ class Function:
             labels = self.labels.get(callee, ((), self.fields.get(step, ())))[1]
             if labels and (len(labels) > 1 or labels[0]):
                 term = re.sub(
-                    rf"(?<![\w.'-])([a-z][\w₀-₉']*\.{re.escape(step)}\.ensures)((?:\.[01])*)(?![\w.'-])",
-                    lambda m, labels=labels: projected(m[1], labels, m[2]),
+                    rf"(?<![\w.'-])([a-z][\w₀-₉']*\.{re.escape(step)}\.ensures)((?:\.[01])*)(?![\w'-])(?!\.[01](?!\w))",
+                    lambda m, labels=labels: m[0] if not m[2] and m.string.startswith(".", m.end()) else projected(m[1], labels, m[2]),
                     term,
                 )
+        # no record, in a chain's step
+        term = re.sub(r"(?<![\w.'-])(c\.in_default[\w-]*)\.keys\d*", r"(tag_other _ \1.not-Record)", term)
         labels = self.labels.get(f"{self.name}::" + self.path.replace(".", "::"), ((), ()))[0]
         if labels and (len(labels) > 1 or labels[0]):
-            term = re.sub(r"(?<![\w.'-])(c\.requires)((?:\.[01])*)(?![\w.'-])", lambda m: projected(m[1], labels, m[2]), term)
+            term = re.sub(r"(?<![\w.'-])(c\.requires)((?:\.[01])*)(?![\w'-])(?!\.[01](?!\w))", lambda m: m[0] if not m[2] and m.string.startswith(".", m.end()) else projected(m[1], labels, m[2]), term)
         return term
 
     def turn(self):
@@ -330,6 +348,9 @@ class Function:
             if m:
                 local[m[1]] = b
         want = 2 * len(loops) + len(self.goals)
+        if len(args) > want:
+            # the goal of a byte literal is gone: an argument that only searches, and takes no κs
+            args = args[: 2 * len(loops)] + (fitted(args[2 * len(loops) :], [goal for _, goal in self.goals]) or args[2 * len(loops) :])
         if len(args) != want:
             return self.fail(f"{len(args)} arguments, and {len(loops)} loops with {len(self.goals)} goals")
         out_inv, out_ans = [], []
@@ -461,6 +482,8 @@ class Function:
             nots = [it for it in ("not_from_true", "not_from_false") if f"({it} _" in body]
             if nots:
                 out.append(f"use Rattle.std.proofs.lemmas.Bool.{{{', '.join(nots)}}}")
+            if "(tag_other _" in body:
+                out.append("use Rattle.record.proofs.TallyLaws.{tag_other}")
             for u in uses:
                 m = re.match(r"use (\S+?)\.\{(.*)\}$", u)
                 if not m:

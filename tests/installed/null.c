@@ -31,6 +31,8 @@ static int ask(struct none no, uint64_t n, uint64_t front_n, uint64_t *answer) {
     *at++ = gvrs_check_rest(no.bytes, 0, no.out, 0);
     *at++ = gvrs_page(no.bytes, 0, no.out, 0);
     *at++ = gvrs_element(no.bytes, 0, 0, no.out, 0);
+    *at++ = gvrs_page_said(no.bytes, 0, no.out, 0);
+    *at++ = gvrs_element_said(no.bytes, 0, 0, no.out, 0);
     *at++ = gvrs_cell(no.bytes, 0, 0, 0, 0, GVRS_BY_WALK, no.out, 0);
     *at++ = gvrs_cell_with(no.bytes, 0, 0, 0, 0, GVRS_BY_DIRECTORY, 256, no.out, 0);
     *at++ = gvrs_unpack(no.bytes, 0, 0, 0, 256, no.numbers, 0, no.out, 0);
@@ -73,6 +75,8 @@ static int ask(struct none no, uint64_t n, uint64_t front_n, uint64_t *answer) {
     *at++ = gvrs_check_rest(file, n, no.out, 0);
     *at++ = gvrs_page(file, n, no.out, 0);
     *at++ = gvrs_element(file, n, 0, no.out, 0);
+    *at++ = gvrs_page_said(file, n, no.out, 0);
+    *at++ = gvrs_element_said(file, n, 0, no.out, 0);
     *at++ = gvrs_cell(file, n, 2, 1, 0, GVRS_BY_RECORDS, no.out, 0);
     *at++ = gvrs_cell_with(file, n, 2, 1, 0, GVRS_BY_DIRECTORY, 256, no.out, 0);
     *at++ = gvrs_unpack(file, n, 2, 0, 256, no.numbers, 0, out, 2);

@@ -1,5 +1,5 @@
-"""Tests of the Python module gvrs, which is found by PYTHONPATH, on the pages of the folder that GVRS_PAGES names: what it reads, judges,
-compares and makes. tests/installed/run runs them, and those of the other files here. Those of Arrays are left out where NumPy is missing."""
+"""Tests of the Python module gvrs, which is found by PYTHONPATH, on the pages of the folder that GVRS_PAGES names. tests/installed/run
+runs them. Those of Arrays are left out where NumPy is missing."""
 
 import array
 import copy
@@ -20,7 +20,7 @@ import unittest
 from pathlib import Path
 
 import gvrs
-from gvrs import Cell, Comparison, Deed, Fill, Metadata, Outside, Page, Refused, Spot, Tile, Why
+from gvrs import Cell, Comparison, Deed, Fill, Outside, Page, Refused, Spot
 
 try:
     import numpy
@@ -34,33 +34,7 @@ LETTERS = dict(zip(TYPES, "iifh"))
 
 
 def page(name, compressor=None):
-    """A stored page, also one that the check refuses."""
-    return Page(PAGES / f"{name}.gvrs", compressor, check=False)
-
-
-def with_methods(file, names):
-    """The front of the sample page, of one element, with these compression methods."""
-    at = 316  # the number of methods
-    front = file[:at] + struct.pack("<I", len(names)) + b"".join(struct.pack("<H", len(name)) + name for name in names) + bytes(2 + 8)
-    length = (len(front) - 16 + 4 + 7) // 8 * 8
-    return front[:16] + struct.pack("<I", length) + front[20:] + bytes(16 + length - len(front))
-
-
-def with_texts(scale):
-    """A front with a product label, and with an integer-coded element that has every text, a range, a scale and the offset 0.5."""
-
-    def text(value):
-        return struct.pack("<H", len(value.encode())) + value.encode()
-
-    def padded(part, size):
-        return part + bytes(-len(part) % size)
-
-    coded = b"\1\1" + bytes(6) + text("h") + struct.pack("<5f3i", -1.5, 20.25, -9.0, scale, 0.5, -8, 79, -38)
-    short = b"\3\0" + bytes(6) + text("q") + struct.pack("<h2xh2xh2x", -5, 900, -1)
-    entries = padded(padded(coded, 4) + text("Höhe") + text("above the sea") + text("m"), 4) + padded(padded(short, 4) + 3 * text(""), 4)
-    fixed = struct.pack("<16s64x4i8x3B149xi", bytes(range(16)), 2, 2, 2, 2, 1, 1, 2, 2)
-    record = padded(bytes(8) + fixed + entries + bytes(4) + text("Blatt 7") + bytes(8 + 4), 8)
-    return b"gvrs raster\0\1\4\0\0" + struct.pack("<IB3x", len(record), 6) + record[8:]
+    return Page(PAGES / f"{name}.gvrs", compressor)
 
 
 class Tests(unittest.TestCase):
@@ -80,37 +54,6 @@ class Tests(unittest.TestCase):
 class StoredPages(Tests):
     """What the module reads of the stored pages."""
 
-    def test_texts(self):
-        cells = {0: struct.pack("<4i4h", 905, -38, 0, 1, 1, 2, 3, 4)}
-        said = Page.of_bytes(gvrs.lay_down(with_texts(4), cells, time=1))
-        self.assertEqual((said.label, said.uuid), ("Blatt 7", bytes(range(16))))
-        height, other = said.elements
-        self.assertEqual(height, ("h", "integer-coded", Fill(-38), "m", "Höhe", "above the sea", -8, 79, 4.0, 0.5, True))
-        self.assertEqual(other, ("q", "Short", Fill(-1), "", "", "", -5, 900, None, None, False))
-        self.assertEqual((height.range, other.range), ((-8, 79), (-5, 900)))
-        self.assertEqual([said.cell(*spot, "h").scaled for spot in ((0, 0), (0, 1), (1, 0), (1, 1))], [226.75, -9.0, 0.5, 0.75])
-        self.assertEqual((said.cell(0, 0, "h").value, said.cell(0, 0, "q").scaled), (905, None))
-        self.assertEqual((page("page").label, page("page").elements[0].range), ("", (0, 0)))
-        fills = Page.of_bytes(gvrs.lay_down(with_texts(4), {}, time=1))
-        self.assertEqual((fills.cell(0, 0, "h").value, fills.cell(0, 0, "h").scaled), (Fill(-38), None))
-        for scale in (0, math.inf, math.nan):
-            self.assertIsNone(Page.of_bytes(gvrs.lay_down(with_texts(scale), cells, time=1)).cell(0, 0, "h").scaled)
-        again = gvrs.front(2, 2, 2, 2, said.elements, label=said.label, uuid=said.uuid)
-        self.assertEqual(Page.of_bytes(gvrs.lay_down(again, cells, time=1)).elements, said.elements)
-
-    def test_room_for_numbers(self):
-        for file, place in ((page("page").file, None), (page("refused-7").file, 376)):
-            for name, arguments, most in (("gvrs_page", (), 21), ("gvrs_element", (0,), 18)):
-                outs = []
-                for room in range(most + 3):
-                    out = (ctypes.c_uint64 * room)(*[99] * room)
-                    getattr(gvrs._library, name)(file, len(file), *arguments, out, room)
-                    outs.append(list(out))
-                self.assertEqual(outs[-1][most:], [99, 99])
-                self.assertEqual(outs, [outs[-1][:room] for room in range(most + 3)])
-                if place is not None:
-                    self.assertEqual(outs[-1][:most], [place] + [0] * (most - 1))
-
     def test_shape(self):
         self.assertEqual(tuple(page("page").shape), (3, 3, 2, 2, 2, 2, 1, 8, 336, 1, 0, 1, True))
         self.assertEqual(tuple(page("packed").shape)[:8], (2, 15, 2, 4, 1, 4, 1, 16))
@@ -118,14 +61,9 @@ class StoredPages(Tests):
         self.assertIs(page("packed").shape.checksums, False)
 
     def test_elements(self):
-        self.assertEqual(page("page").elements, (("z", "Short", Fill(7), "", "", "", 0, 0, None, None, False),))
+        self.assertEqual(page("page").elements, (("z", "Short", Fill(7), ""),))
         fills = (Fill(-1), Fill(0), Fill(-1.5), Fill(-32768))
-        self.assertEqual([element[:4] for element in page("four-types").elements], list(zip("abcd", TYPES, fills, [""] * 4)))
-        self.assertEqual([element.scale for element in page("four-types").elements], [None, 0, None, None])
-        score, height = page("said").elements
-        self.assertEqual(score, ("score", "Short", Fill(-1), "", "Score", "", 0, 1000, None, None, False))
-        self.assertEqual(height, ("height", "integer-coded", Fill(-38), "m", "H\xf6he", "above the sea\n", -8, 79, 4, 0.5, True))
-        self.assertEqual((page("said").label, page("page").label), ('Blatt "7"', ""))
+        self.assertEqual(page("four-types").elements, tuple(zip("abcd", TYPES, fills, [""] * 4)))
         self.assertEqual([element.unit for element in page("units").elements], ["m", "", "\xb5m \"\\\n\x1b[31m\x7f\x85\xa0"])
 
     def test_cell(self):
@@ -149,54 +87,6 @@ class StoredPages(Tests):
         self.assertEqual(page("packed", 3).tile(0, 0), [[900, 901, 902, 903], [901, 902, 903, 904]])
         self.assertRefused(11, 472, lambda: page("packed").tile(0, 0))
         self.assertRefused(14, 512, lambda: page("packed", 3).tile(1, 0))
-
-    def test_stored_tiles(self):
-        self.assertEqual(page("page").tiles(), [Tile(2, 336, (), None)])
-        self.assertEqual(page("packed").tiles(), [Tile(0, 472, (0,), 3), Tile(1, 512, (0,), 3), Tile(2, 552, (0,), 4)])
-        self.assertEqual(page("four-types").tiles()[1], Tile(1, 592, (2,), None), "a Float has no compressor index")
-        for name in ("page", "packed", "four-types", "wide"):
-            self.assertEqual(len(page(name).tiles()), page(name).shape.stored_tiles)
-        self.assertEqual([tile.index for tile in page("wide").tiles()], [0, 108, 109])
-
-    def test_metadata(self):
-        self.assertEqual(page("page").metadata, ())
-        self.assertEqual(page("packed").metadata, (Metadata("scanner", 1, 8, b"", "", 384),))
-        both = page("no-rule").metadata
-        self.assertEqual([(record.name, record.id, record.start) for record in both], [("score_rule", 2, 440), ("score_rule", 1, 480)])
-        self.assertEqual(page("no-rule").find_metadata("score_rule", 1), both[1])
-        self.assertIsNone(page("no-rule").find_metadata("score_rule", 3))
-        self.assertIsNone(page("no-rule").find_metadata("score_rul", 1))
-        self.assertSays(ValueError, "id is -1", page("no-rule").find_metadata, "score_rule", -1)
-
-    def test_methods(self):
-        self.assertEqual(page("page").methods, ())
-        long, many = [b"x" * 65535, b"y"], [b"m%d" % i for i in range(300)]
-        for names in ([b"GvrsHuffman"], [b"a", b"", b"a", b'\xff"\\\x1b'], long, many):
-            file = gvrs.lay_down(with_methods(page("page").file, names), {2: bytes(8)}, time=1)
-            self.assertEqual(Page.of_bytes(file).methods, tuple(names))
-        file = gvrs.lay_down(with_methods(page("page").file, [b"a", b"GvrsHuffman", b"GvrsHuffman"]), {2: bytes(8)}, time=1)
-        self.assertEqual(Page.of_bytes(file, "GvrsHuffman")._compressor, 1)
-        self.assertSays(ValueError, "no compression method of the page has that name", Page.of_bytes, file, "gvrsHuffman")
-
-    def test_a_compressor_by_its_name(self):
-        named, unnamed = page("said", "GvrsHuffman"), page("said")
-        self.assertEqual(named.cells("score", 0, 0, 2, 4), [[900, 901, 902, 903], [901, 902, 903, 904]])
-        self.assertEqual(named.cells("score", 0, 0, 2, 4), page("said", 3).cells("score", 0, 0, 2, 4))
-        methods = "the page names the methods 0 b'GvrsDeflate', 1 b'two words', 2 b'GvrsFloat', 3 b'GvrsHuffman' and more"
-        start = unnamed.tiles()[0].start
-        for ask in (lambda: unnamed.cell(0, 0, "score"), lambda: unnamed.tile(0, "score"), lambda: unnamed.deed("score", 0, 0, 2, 4)):
-            self.assertRefused(11, start, ask, methods)
-        self.assertRefused(11, start, lambda: gvrs.compare(named, unnamed), "the second page: " + methods)
-        for other, place in ((page("packed"), 472), (page("said", "GvrsDeflate"), start)):
-            self.assertIsNone(self.assertRefused(11, place, lambda: other.cell(0, 0, 0)).note)
-        self.assertSays(ValueError, methods, page, "said", "gvrsHuffman")
-        self.assertSays(ValueError, "the page names no method", page, "packed", "GvrsHuffman")
-        self.assertRefused(7, 376, lambda: page("refused-7", "GvrsHuffman"))
-
-    def test_lists_of_refused_pages(self):
-        damaged = page("page").file[:-1]
-        for ask in (Page.tiles, Page.metadata.fget, Page.methods.fget, lambda is_: is_.find_metadata("a", 1)):
-            self.assertRefused(6, 368, lambda: ask(Page.of_bytes(damaged)))
 
     def test_cells(self):
         fill = Fill(7)
@@ -229,7 +119,7 @@ class StoredPages(Tests):
         try:
             is_ = asked.shape
         except Refused as refused:
-            return f"refused {refused.number} at {refused.place}: {refused.words}\nexit status 1\n"
+            return f"{refused}\nexit status 1\n"
 
         def value(kind, element, number):
             text = struct.pack(">f", number).hex() if element.type == "Float" else str(number)
@@ -263,32 +153,6 @@ class StoredPages(Tests):
                     self.assertRefused(number, place, ask)
                 for ask in (lambda: bad.tile(0, 0), lambda: bad.cells(0, 0, 0, 1, 1), lambda: bad.cells(0, 0, 0, 2**64 - 1, 2)):
                     self.assertRefused(number, place, ask)
-
-    def test_explain(self):
-        whys = {
-            1: (2, 0, 0, 0, 0, "no GVRS mark"),
-            2: (4, 0, 13, 3, 4, "second version number is not 4"),
-            3: (12, 0, 129, 3, 2, "raster space code is above 2"),
-            4: (28, 0, 104, 65537, 65536, "a side is more than this store takes"),
-            5: (32, 0, 48, 1, 0, "opened for writing and not closed"),
-            8: (40, 0, 344, 5, 4, "a tile index is not below the tiles"),
-            9: (49, 0, 80, 0, 0, "the reference to the tile directory is of no such record"),
-        }
-        for number in range(1, 10):
-            with self.subTest(number):
-                bad = page(f"refused-{number}")
-                why = bad.explain()
-                self.assertEqual(why, Why(*whys.get(number, why)))
-                with self.assertRaises(Refused) as caught:
-                    bad.check()
-                self.assertEqual(caught.exception.why, why)
-                with self.assertRaises(Refused) as caught:
-                    gvrs.compare(page("page"), bad)
-                self.assertEqual(caught.exception.why, why)
-        self.assertEqual(page("refused-6").explain()[:3], (36, 1, 376))
-        self.assertEqual(page("refused-7").explain()[:2], (38, 2))
-        self.assertIsNone(page("page").explain())
-        self.assertIsNone(self.assertRefused(10, 0, lambda: page("page").cell(9, 9, 0)).why)
 
     def test_files_that_cannot_be_read(self):
         self.assertRaises(FileNotFoundError, page, "missing")
@@ -332,8 +196,7 @@ class Deeds(Tests):
         z = page("page")
         for position in range(5):
             for wrong, error in ((-1, ValueError), (2**64, ValueError), (1.0, TypeError), (None, TypeError)):
-                if wrong is not None or position < 3:  # sides that are not given reach to the grid's edge
-                    self.assertRaises(error, z.deed, *[wrong if i == position else 0 for i in range(5)])
+                self.assertRaises(error, z.deed, *[wrong if i == position else 0 for i in range(5)])
 
 
 class Comparisons(Tests):
@@ -447,9 +310,7 @@ class Numbers(Tests):
             self.assertRaises(TypeError, z.cell, wrong, 0, 0)
             self.assertRaises(TypeError, z.cell, 0, 0, wrong)
             self.assertRaises(TypeError, z.tile, wrong, 0)
-            self.assertRaises(TypeError, z.cells, 0, 0, wrong, 1, 1)
-            if wrong is not None:
-                self.assertRaises(TypeError, z.cells, 0, 0, 0, wrong, 1)
+            self.assertRaises(TypeError, z.cells, 0, 0, 0, wrong, 1)
         self.assertRaises(TypeError, z.cell, "2", 1, 0)
 
     def test_what_is_kept_stays(self):
@@ -487,12 +348,10 @@ class Marks(Tests):
 
     def test_refused(self):
         refused = self.assertRefused(7, 376, page("refused-7").check)
-        said = f"{PAGES / 'refused-7.gvrs'}: refused 7 at 376: a record's checksum is wrong: record 1 behind the header, at 428: found "
-        self.assertEqual(str(refused)[: len(said)], said)
-        self.assertEqual(str(refused.why).split(":")[:2], ["record 1 behind the header", " a record's checksum is wrong, at 428"])
+        self.assertEqual(str(refused), "refused 7 at 376: a record's checksum is wrong")
         self.assertEqual(refused.words, "a record's checksum is wrong")
         again = pickle.loads(pickle.dumps(refused))
-        self.assertEqual((again.number, again.place, str(again), again.why), (7, 376, str(refused), refused.why))
+        self.assertEqual((again.number, again.place, str(again)), (7, 376, str(refused)))
 
 
 class LayDown(Tests):
@@ -517,7 +376,7 @@ class LayDown(Tests):
                 made = self.laid((2, 6, 2, 3), [(name, type_, values[1])], {1: {name: values}}, checksums=checksums)
                 made.check()
                 fill = Fill(values[1])
-                self.assertEqual([element[:4] for element in made.elements], [(name, type_, fill, "")])
+                self.assertEqual(made.elements, ((name, type_, fill, ""),))
                 self.assertIs(made.shape.checksums, checksums)
                 self.assertEqual(made.cells(name, 0, 0, 2, 6), [[fill] * 3 + values[:3], [fill] * 3 + values[3:]])
                 self.assertEqual(made.tile(1, 0), [values[:3], values[3:]])
@@ -538,7 +397,7 @@ class LayDown(Tests):
         for units in itertools.product(("", "m", "mm", "\xb5m", "m\0s", "m" * 65535), repeat=2):
             with self.subTest(lengths=[len(unit) for unit in units]):
                 elements = [("first", "Short", Fill(7), units[0]), ("second", "Float", Fill(0.5), units[1])]
-                self.assertEqual([element[:4] for element in self.laid((1, 1, 1, 1), elements, {}).elements], elements)
+                self.assertEqual(self.laid((1, 1, 1, 1), elements, {}).elements, tuple(elements))
         self.assertEqual(self.laid((1, 1, 1, 1), [("z", "Short", 7)], {}).elements[0].unit, "")
         self.assertRaises(ValueError, gvrs.front, 1, 1, 1, 1, [("z", "Short", 7, "m" * 65536)])
         self.assertRaises(TypeError, gvrs.front, 1, 1, 1, 1, [("z", "Short", 7, b"m")])
@@ -577,14 +436,13 @@ class LayDown(Tests):
         behind = struct.pack("<IH11sH11sH7s8x", 2, 11, b"GvrsHuffman", 11, b"GvrsDeflate", 7, b"product")
         self.assertIn(behind, front)
         made = Page.of_bytes(gvrs.lay_down(front, {}, 1))
-        self.assertEqual(made.elements, (element._replace(fill=Fill(-4)),))
-        self.assertEqual((made.label, made.methods, made.uuid), ("product", (b"GvrsHuffman", b"GvrsDeflate"), bytes(16)))
+        self.assertEqual(made.elements, (("s", "integer-coded", Fill(-4), "m"),))
         self.assertRefused(3, 0, lambda: gvrs.front(3, 3, 0, 2, [element]))
         self.assertRaises(ValueError, gvrs.front, 3, 3, 2, 2, [element], label="m" * 65536)
         self.assertRaises(ValueError, gvrs.front, 3, 3, 2, 2, [element], methods=["m" * 65536])
 
     def test_page_laid_down_again(self):
-        for name in ("four-types", "units", "said"):
+        for name in ("four-types", "units"):
             old = page(name)
             again = Page.of_bytes(gvrs.lay_down(gvrs.front(*old.shape[:4], old.elements), {}, 1))
             self.assertEqual(again.elements, old.elements)
@@ -619,13 +477,8 @@ class LayDown(Tests):
             self.assertRefused(12, 0, lambda: gvrs.lay_down(front, {index: bytes(8)}, 1), f"tile {index}: there are tiles 0 to 3")
         for count in (7, 9, 0, 16):
             self.assertRefused(12, 0, lambda: gvrs.lay_down(front, {3: bytes(count)}, 1), f"tile 3: {count} bytes, and its cells take 8")
-        refused = self.assertRefused(1, 0, lambda: gvrs.lay_down(b"", {}, 1))
-        self.assertEqual(refused.why, Why(1, 0, 0, 0, 16, "fewer than 16 bytes"))
-        old = front[:13] + b"\3" + front[14:]
-        for ask in (lambda: gvrs.lay_down(old, {}, 1), lambda: gvrs.from_sheet(old, bytes.fromhex("00000007 01 0001 0001 0000"), 1)):
-            self.assertEqual(self.assertRefused(2, 0, ask).why, Why(4, 0, 13, 3, 4, "second version number is not 4"))
-        too_long = self.assertRefused(3, 0, lambda: gvrs.lay_down(front + b"\0", {}, 1))
-        self.assertIsNone(too_long.why)
+        self.assertRefused(1, 0, lambda: gvrs.lay_down(b"", {}, 1))
+        self.assertRefused(3, 0, lambda: gvrs.lay_down(front + b"\0", {}, 1))
         long = gvrs.front(100, 100, 1, 1, [(f"z{number}", "Integer", 7) for number in range(16)])
         self.assertEqual(len(gvrs.lay_down(long, {i: bytes(64) for i in range(10000)}, 1)) % 8, 0)
         large = gvrs.front(4096, 4096, 512, 512, [("z", "Integer", 7)])
@@ -715,7 +568,7 @@ class Sheets(Tests):
 
     def test_arguments(self):
         sheet = self.of(2, 3, self.SCORES)
-        for arguments in (("front", sheet, 1), (self.FRONT, "sheet", 1), (self.FRONT, None, 1), (self.FRONT, sheet, "1"), (self.FRONT, sheet, 1.0)):
+        for arguments in ((None, sheet, 1), (self.FRONT, "sheet", 1), (self.FRONT, None, 1), (self.FRONT, sheet, None), (self.FRONT, sheet, 1.0)):
             self.assertRaises(TypeError, gvrs.from_sheet, *arguments)
         for time in (-1, 2**64):
             self.assertRaises(ValueError, gvrs.from_sheet, self.FRONT, sheet, time)
@@ -1158,25 +1011,13 @@ class Library(Tests):
         done = subprocess.run([sys.executable, "-c", text], env=environment, capture_output=True, text=True)
         return (done.stdout or done.stderr).strip().split("\n")[-1]
 
-    @staticmethod
-    def loader_finds():
-        """Whether the library is installed where every program finds it."""
-        try:
-            return bool(ctypes.CDLL("libgvrs.so.1"))
-        except OSError:
-            return False
-
     def test_places(self):
         with tempfile.TemporaryDirectory() as name:
             folder = Path(name).resolve()
             (folder / "lib/python3").mkdir(parents=True)
             module = folder / "lib/python3"
             shutil.copy(gvrs.__file__, module)
-            if not self.loader_finds():
-                self.assertRegex(self.imported(module), "ImportError: no library of the page store, .*: GVRS_LIBRARY is not set, .*/libgvrs.so")
-            (folder / "loader").mkdir()
-            shutil.copy(self.LIBRARY, folder / "loader/libgvrs.so.1")
-            self.assertEqual(self.imported(module, LD_LIBRARY_PATH=str(folder / "loader")), "libgvrs.so.1")
+            self.assertRegex(self.imported(module), "ImportError: no library of the page store, .*: GVRS_LIBRARY is not set, .*/libgvrs.so")
             self.assertEqual(self.imported(module, GVRS_LIBRARY=self.LIBRARY), self.LIBRARY)
             shutil.copy(self.LIBRARY, folder / "lib/libgvrs.so")
             self.assertEqual(self.imported(module), str(folder / "lib/libgvrs.so"))

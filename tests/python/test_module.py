@@ -166,10 +166,10 @@ class Rules(Tests):
     @unittest.skipUnless(COMMAND.exists(), "the command is not installed beside the library")
     def test_as_the_command_says_it(self):
         for number in range(1, 10):
-            said = subprocess.run([self.COMMAND, "check", PAGES / f"refused-{number}.gvrs"], capture_output=True, text=True)
+            said = subprocess.run([self.COMMAND, "check", "--why", PAGES / f"refused-{number}.gvrs"], capture_output=True, text=True)
             with self.assertRaises(gvrs.Refused) as caught:
-                gvrs.Page(PAGES / f"refused-{number}.gvrs")
-            self.assertIn(str(caught.exception).split(": ", 2)[2] + "\n", said.stdout + said.stderr)
+                gvrs.Page(PAGES / f"refused-{number}.gvrs", check=True)
+            self.assertIn(caught.exception.in_full.split(": ", 2)[2] + "\n", said.stdout + said.stderr)
 
 
 class Pip(Tests):

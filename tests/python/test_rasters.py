@@ -34,19 +34,21 @@ class Opening(Tests):
     def test_refused_on_opening(self):
         for number in range(1, 10):
             path = PAGES / f"refused-{number}.gvrs"
-            looked_at = Page(path, check=False)
+            looked_at = Page(path)
             place = self.assertRaisesRefused(looked_at.check).place
             for given in (path, str(path), os.fsencode(path)):
-                refused = self.assertRefused(number, place, lambda: Page(given), f"{path}: refused {number} at {place}: ")
+                refused = self.assertRefused(number, place, lambda: Page(given, check=True), f"refused {number} at {place}: ")
                 self.assertEqual((refused.why, refused.path), (looked_at.explain(), str(path)))
-            refused = self.assertRefused(number, place, lambda: Page.of_bytes(looked_at.file))
+                self.assertTrue(refused.in_full.startswith(f"{path}: {refused}"))
+            refused = self.assertRefused(number, place, lambda: Page.of_bytes(looked_at.file, check=True))
             self.assertIsNone(refused.path)
-            self.assertRefused(number, place, lambda: Page(path, 3))
+            self.assertRefused(number, place, lambda: Page(path, 3, check=True))
             self.assertRefused(number, place, lambda: Page(path, "GvrsHuffman"))
+            self.assertRefused(number, place, lambda: gvrs.compare(path, PAGES / "page.gvrs"))
         for name in ("too-long", "longer"):
-            self.assertRefused(4, 0, lambda: Page(PAGES / f"{name}.gvrs"))
+            self.assertRefused(4, 0, lambda: Page(PAGES / f"{name}.gvrs", check=True))
         for name in NAMES:
-            self.assertIsNone(Page(PAGES / f"{name}.gvrs").check())
+            self.assertIsNone(Page(PAGES / f"{name}.gvrs", check=True).check())
         self.assertRaises(FileNotFoundError, Page, PAGES / "missing.gvrs")
 
     def assertRaisesRefused(self, ask):

@@ -6,7 +6,6 @@ use mathlib.Core.Bool.{Bool, true, false, not}
 use native.Mathlib.Omega.{arith}
 use lib.Dec.{eqb}
 use borrow.Author.Tests.{eqb-true, eqb-false, eq-eqb, ne_eqb}
-use Rattle.wire.specs.Pick.{pick}
 use Rattle.wire.specs.Tests.{◌≡?◌, passes}
 use Rattle.wire.proofs.TestLaws.{not_both, means, yes, no}
 use Rattle.answer.specs.declared.Refusal.{Refusal}

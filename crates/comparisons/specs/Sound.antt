@@ -1,13 +1,13 @@
 -- What an answer tells: each differing cell once and no other, the same cells for swapped pages, no cell for a page against itself; and the
 -- refusals in their order.
-use Rattle.std.specs.Prelude.{ℕ, ◌<◌, ◌≡◌, List, true, false, length}
+use Rattle.std.specs.Prelude.{ℕ, ◌<◌, ◌≡◌, List, length}
 use Rattle.answer.specs.declared.Refusal.{Refusal}
 use Rattle.answer.specs.declared.Verdict.TheVariants.{Accepted, Refused}
 use Rattle.answer.specs.Answers.{cell_verdict}
 use Rattle.store.specs.Face.{grid_rows, grid_columns, tile_rows, tile_columns, element_count, element, check, meaning}
 use Rattle.row_lists.specs.Entries.{EachOnce}
 use Rattle.comparisons.specs.declared.Comparison.TheVariants.{Count, First, Second, Unlike}
-use Rattle.comparisons.specs.Comparisons.{alike, differ, differ_at, comparison, differing_cells, written}
+use Rattle.comparisons.specs.Comparisons.{differ_at, comparison, differing_cells, written}
 
 -- "each cell differing in kind or bits once, no other, by row, then column, then element, and the full number of them"
 pub record CellsOnce (s : List ℕ) (k : ℕ) (t : List ℕ) (j n : ℕ) : Type 0 where

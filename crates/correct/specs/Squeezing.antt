@@ -1,5 +1,5 @@
 -- Req 11: what an accepted plan makes of a page. s is the page, ps the plan.
-use Rattle.std.specs.Prelude.{ℕ, ◌+◌, ◌-◌, List, [], ◌∷◌, ◌++◌, length, take}
+use Rattle.std.specs.Prelude.{ℕ, ◌+◌, ◌-◌, List, [], ◌∷◌, ◌++◌, take}
 use Rattle.wire.specs.Bytes.{bytes_of, put}
 use Rattle.record.specs.Record.{length_at}
 use Rattle.record.specs.Chain.{header_end, joined}

@@ -37,7 +37,7 @@ use Rattle.blocks.proofs.FoldLaws.{sums}
 use Rattle.blocks.proofs.InsideLaws.{inside_each, inside_found, inside_none, inside_both, inside_absorbs, inside_ones, inside_some, inside_first_at}
 use Rattle.deeds.specs.declared.Rule.{Rule}
 use Rattle.deeds.specs.declared.Grade.{Grade}
-use Rattle.deeds.specs.declared.Grade.TheVariants.{Certain, Doubtful, Unread}
+use Rattle.deeds.specs.declared.Grade.TheVariants.{Certain, Unread}
 use Rattle.deeds.specs.declared.Lowest.{Lowest}
 use Rattle.deeds.specs.declared.Lowest.TheVariants.{Score, None}
 use Rattle.deeds.specs.declared.Deed.{Deed}

@@ -33,7 +33,7 @@ use Rattle.geometry.specs.declared.Packing.TheVariants.{Uncompressed, Compressed
 use Rattle.geometry.proofs.GridLaws.{inside_less}
 use Rattle.check_records.specs.TileBody.{not_fault, section_packing, section_right, tile_right}
 use Rattle.bodies.specs.TileRecord.{section_length, element_content_at}
-use Rattle.unpack.specs.Unpack.{Cells, cells, malformed, unpacked, cell_at, cells_in, is_whole}
+use Rattle.unpack.specs.Unpack.{Cells, cells, malformed, cell_at, cells_in, is_whole}
 use Rattle.unpack.proofs.AnswerLaws.{whole_long}
 use Rattle.page_check.specs.Accepted.{Sound}
 use Rattle.page_check.proofs.AcceptedLaws.{accepted_sound}

@@ -33,7 +33,6 @@ use Rattle.correct.specs.Opening.{opened_page, opened_length}
 use Rattle.correct.specs.Storing.{stored_over, stored_at, stored_page, stored_length, plain_contents}
 use Rattle.correct.specs.Removing.{removed_page}
 use Rattle.correct.specs.Closing.{closed_page, closed_length}
-use Rattle.correct.specs.Plan.{planned_end}
 use Rattle.correct.specs.Squeezing.{squeezed_page}
 use Rattle.correct.specs.Answers.{tile_then, cells_then, time_then, plan_then, room_left}
 use Rattle.correct.specs.Calls.{Call, line_of}

@@ -1,6 +1,5 @@
 -- The sample page is what a lay-down of its front and cells gives.
 use Rattle.std.specs.Prelude.{◌≡◌, [], ◌∷◌}
-use Rattle.answer.specs.declared.Cell.TheVariants as cell
 use Rattle.answer.specs.declared.Laid.TheVariants.{Length}
 use Rattle.lay_down.specs.Page.{laid_file}
 use Rattle.lay_down.specs.Answer.{laid}

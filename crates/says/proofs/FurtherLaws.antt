@@ -1,8 +1,7 @@
 -- What the header says of a page and of an element, from its parts. Assumes nothing.
-use Prim.Native.Nat.{ℕ, ◌+◌, ◌<◌, ◌≤◌}
+use Prim.Native.Nat.{ℕ, ◌+◌}
 use mathlib.Core.Path.{◌≡◌, ◌∙◌}
 use mathlib.Core.List.{List}
-use native.Mathlib.Omega.{arith}
 use borrow.Author.Tests.{ne_eqb}
 use Rattle.wire.specs.Bytes.{byte_at, number_at, u16_at}
 use Rattle.header.specs.Fields.{raster_space, coordinate_system}

@@ -1,7 +1,7 @@
 -- What lies in an accepted file of the texts that a page says. Assumes nothing.
 use Prim.Native.Nat.{ℕ, ◌+◌, ◌-◌, ◌≤◌, ◌<◌}
 use mathlib.Core.Path.{◌≡◌, refl, ◌∙◌}
-use mathlib.Core.List.{List, Memᴰ}
+use mathlib.Core.List.{List}
 use mathlib.Core.Bool.{true}
 use native.Mathlib.Omega.{arith}
 use lib.ListN.{length}
@@ -11,7 +11,7 @@ use Rattle.wire.proofs.TestLaws.{means}
 use Rattle.wire.proofs.ItemLaws.{advance_grows, advance_more, advance_mono}
 use Rattle.answer.specs.declared.Verdict.TheVariants.{Accepted}
 use Rattle.record.specs.Chain.{records}
-use Rattle.header.specs.Fields.{element_count, header_limit, raster_space, coordinate_system}
+use Rattle.header.specs.Fields.{element_count, header_limit}
 use Rattle.header.specs.Element.{string_size, string_end, most_elements, label_at, description_at, unit_at, entry_start, unit_place, unit_length}
 use Rattle.header.specs.Tail.{methods_at, method_count, product_label_at, fields_end}
 use Rattle.header.specs.Texts.{string_text, text_right, entry_texts}

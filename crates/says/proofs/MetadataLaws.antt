@@ -6,10 +6,9 @@ use mathlib.Core.Bool.{Bool, true, false}
 use mathlib.Core.Logic.{◌⊎◌}
 use native.Mathlib.Omega.{arith}
 use lib.ListN.{length}
-use lib.Dec.{eqb}
 use denote.Enum.Declared.{tag_of}
 use borrow.Author.Tests.{lt-leb, eq-eqb, ne_eqb}
-use Rattle.wire.specs.Tests.{◌≡?◌, is, passes}
+use Rattle.wire.specs.Tests.{◌≡?◌, is}
 use Rattle.wire.specs.Bytes.{byte_at, u16_at, u32_at, same_bytes, put}
 use Rattle.wire.specs.Lists.{select}
 use Rattle.wire.proofs.TestLaws.{no, either_way, not_both}
@@ -19,7 +18,6 @@ use Rattle.record.specs.declared.Cursor.{Cursor}
 use Rattle.record.specs.declared.Step.{Step}
 use Rattle.record.specs.declared.Step.TheVariants.{Record}
 use Rattle.record.specs.Record.{type_at, length_at, record_ok, step_at}
-use Rattle.record.specs.Types.{metadata_type}
 use Rattle.record.specs.Chain.{starts, header_end, records, records_of}
 use Rattle.record.proofs.ChainLaws.{stepped, starts_none, starts_record}
 use Rattle.record.proofs.SeekLaws.{over}

@@ -1,7 +1,7 @@
 -- What the lists and the look-up say of an accepted file. Assumes nothing.
-use Prim.Native.Nat.{ℕ, zero, suc, ◌+◌, ◌-◌, ◌*◌, ◌/◌, ◌%◌, ◌≤◌, ◌<◌}
+use Prim.Native.Nat.{ℕ, zero, suc, ◌+◌, ◌-◌, ◌*◌, ◌/◌, ◌≤◌, ◌<◌}
 use mathlib.Core.Path.{◌≡◌, refl, sym, ap, ◌∙◌}
-use mathlib.Core.List.{List, [], ◌∷◌, ◌++◌, Memᴰ}
+use mathlib.Core.List.{List, [], ◌∷◌, Memᴰ}
 use mathlib.Core.Bool.{Bool, true, false, not, ◌||◌}
 use native.Mathlib.Omega.{arith}
 use lib.ListN.{length, get_or, length-append}
@@ -20,17 +20,17 @@ use Rattle.answer.specs.declared.Verdict.TheVariants.{Accepted}
 use Rattle.answer.specs.declared.Refusal.TheVariants.{Compressed}
 use Rattle.answer.specs.declared.Location.{Location}
 use Rattle.answer.specs.declared.Cell.TheVariants as cell
-use Rattle.answer.specs.declared.Lookup.TheVariants.{Number, Absent}
+use Rattle.answer.specs.declared.Lookup.TheVariants.{Number}
 use Rattle.answer.specs.Refusals.{unless_refused}
 use Rattle.answer.specs.Answers.{cell_kind}
 use Rattle.record.specs.declared.Found.{Found}
 use Rattle.record.specs.declared.Found.TheVariants.{At, Nothing}
 use Rattle.record.specs.Chain.{records, records_of}
 use Rattle.record.proofs.FindLaws.{at_is, found_not, first_holds, records_behind}
-use Rattle.header.specs.Element.{element, float_kind, entries_read}
+use Rattle.header.specs.Element.{entries_read}
 use Rattle.geometry.specs.Tiles.{tile_count, cell_tile}
 use Rattle.bodies.specs.TileRecord.{tile_index, element_content_at}
-use Rattle.bodies.specs.TileDirectory.{tile_reference, tile_directory_at}
+use Rattle.bodies.specs.TileDirectory.{tile_reference}
 use Rattle.bodies.specs.MetadataRecord.{metadata_name, record_id}
 use Rattle.check_directory.specs.Correspondence.{OneToOne}
 use Rattle.metadata_keys.specs.Pairs.{same_key, keys_distinct}
@@ -39,7 +39,7 @@ use Rattle.page_check.specs.Stages.{check}
 use Rattle.page_check.proofs.AcceptedLaws.{accepted_sound, accepted_obeys}
 use Rattle.page_check.proofs.GivenLaws.{sound_range, obeys_one}
 use Rattle.cells.specs.Asked.{in_grid}
-use Rattle.cells.specs.TileCells.{packed, unpackable, stored_at, location_of, place_in, cell_in}
+use Rattle.cells.specs.TileCells.{packed, unpackable, stored_at, location_of, place_in}
 use Rattle.tile_routes.specs.Ways.{meant, referred_to, carries}
 use Rattle.cells.specs.Routes.{cell_by}
 use Rattle.cells.specs.Meaning.{meaning}
@@ -49,7 +49,7 @@ use Rattle.listing.specs.Listing.{written}
 use Rattle.listing.proofs.IndexLaws.{carried, not_carried, line_each}
 use Rattle.store.specs.Lookup.{lookup_of}
 use Rattle.says.specs.Metadata.{metadata_records, has_key, number_from, metadata_number, read_metadata, MetadataSaid}
-use Rattle.says.specs.Tiles.{stored, stored_tiles, tile_record_at, bit, bit_if, mask_of, packed_mask, packed_coded, first_packed, index_of, compressor_of, bit_of, TilesSaid, PackedSaid}
+use Rattle.says.specs.Tiles.{stored, stored_tiles, tile_record_at, bit, bit_if, mask_of, packed_mask, packed_coded, first_packed, compressor_of, bit_of, TilesSaid, PackedSaid}
 
 -- lists that increase, by place
 

@@ -6,14 +6,13 @@ use mathlib.Core.Bool.{Bool, true, false, not}
 use native.Mathlib.Omega.{arith}
 use native.Mathlib.Numerals.{add-one}
 use lib.ListN.{length, drop}
-use lib.Dec.{eqb}
 use borrow.Author.Tests.{lt-leb, eq-eqb, ne_eqb}
-use Rattle.wire.specs.Tests.{◌≢?◌, is, passes}
+use Rattle.wire.specs.Tests.{◌≢?◌, is}
 use Rattle.wire.specs.Bytes.{byte_at, u32_at, put}
 use Rattle.wire.specs.Lists.{select, below}
 use Rattle.wire.proofs.TestLaws.{yes, no, either_way, not_both, sum_none, sum_more}
 use Rattle.wire.proofs.ByteLaws.{byte_out, number_out}
-use Rattle.record.specs.declared.Found.TheVariants.{At, Nothing}
+use Rattle.record.specs.declared.Found.TheVariants.{Nothing}
 use Rattle.record.specs.Chain.{find}
 use Rattle.record.proofs.FindLaws.{first_start, first_on, first_at}
 use Rattle.header.specs.Element.{element, float_kind, entries_read}

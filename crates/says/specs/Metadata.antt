@@ -6,7 +6,7 @@ use Rattle.wire.specs.Tests.{◌≡?◌, is, passes}
 use Rattle.wire.specs.Bytes.{u16_at, same_bytes}
 use Rattle.answer.specs.declared.Verdict.TheVariants.{Accepted}
 use Rattle.answer.specs.declared.Lookup.{Lookup}
-use Rattle.answer.specs.declared.Lookup.TheVariants.{Number, Absent, Refused}
+use Rattle.answer.specs.declared.Lookup.TheVariants.{Number, Refused}
 use Rattle.answer.specs.Refusals.{unless_refused}
 use Rattle.record.specs.declared.Found.{Found}
 use Rattle.record.specs.declared.Found.TheVariants.{At, Nothing}

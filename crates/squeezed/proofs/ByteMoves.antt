@@ -1,11 +1,10 @@
 -- What is squeezed is bytes where the page is. Assumes nothing.
-use Prim.Native.Nat.{ℕ, ◌+◌, ◌-◌, ◌*◌}
+use Prim.Native.Nat.{ℕ, ◌+◌, ◌-◌}
 use mathlib.Core.List.{List, [], ◌∷◌, ◌++◌}
 use mathlib.Core.Bool.{Bool, true, false}
-use lib.ListN.{length}
 use lib.Dec.{eqb}
 use Rattle.wire.specs.Pick.{pick}
-use Rattle.wire.specs.Bytes.{Bytes, bytes_of}
+use Rattle.wire.specs.Bytes.{Bytes}
 use Rattle.wire.proofs.ByteLaws.{bytes_none, bytes_append, bytes_part, bytes_take, bytes_of_lem}
 use Rattle.wire.proofs.PutLaws.{bytes_put}
 use Rattle.record.specs.Record.{length_at, type_at}

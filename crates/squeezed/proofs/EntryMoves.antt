@@ -1,19 +1,18 @@
 -- A metadata directory that has moved, with its entries' positions changed. Assumes nothing.
-use Prim.Native.Nat.{ℕ, zero, suc, ◌+◌, ◌*◌, ◌-◌, ◌≤◌, ◌<◌}
-use mathlib.Core.Path.{◌≡◌, refl, sym, ap, ap₂, ◌∙◌}
+use Prim.Native.Nat.{ℕ, zero, suc, ◌+◌, ◌-◌, ◌≤◌, ◌<◌}
+use mathlib.Core.Path.{◌≡◌, refl, sym, ap, ◌∙◌}
 use mathlib.Core.Logic.{◌⊎◌, inl, inr, by_cases}
 use mathlib.Core.List.{List, [], ◌∷◌, map}
-use mathlib.Core.Bool.{true, false}
+use mathlib.Core.Bool.{true}
 use native.Mathlib.Decide.{dec_le}
 use native.Mathlib.Omega.{arith}
 use native.Mathlib.Numerals.{add-one}
 use lib.ListN.{length}
 use borrow.Author.Tests.{ne_eqb, le-leb}
-use Rattle.wire.specs.Bytes.{byte_at, number, number_at, part, u16_at, u32_at, u64_at, bytes_of, Same, largest_integer}
-use Rattle.wire.specs.Items.{advance}
+use Rattle.wire.specs.Bytes.{number, number_at, part, u16_at, u32_at, u64_at, Same, largest_integer}
 use Rattle.wire.specs.Lists.{below}
 use Rattle.wire.proofs.TestLaws.{means, yes}
-use Rattle.wire.proofs.ByteLaws.{part_same, number_same, same_trans, same_part, bytes_length, number_bytes, number_one}
+use Rattle.wire.proofs.ByteLaws.{part_same, number_same, same_trans, bytes_length, number_bytes, number_one}
 use Rattle.wire.proofs.ItemLaws.{advance_more, advance_mono, advance_none}
 use Rattle.wire.proofs.PlaceLaws.{Placed, placed_inside, placed_part, placed_number}
 use Rattle.record.specs.Record.{length_at, content_at, record_limit, padded}
@@ -22,7 +21,7 @@ use Rattle.header.specs.Element.{string_size, string_end}
 use Rattle.bodies.specs.MetadataRecord.{metadata_name, record_id_at, record_id, data_type}
 use Rattle.bodies.specs.ListDirectories.{entry_count, metadata_at, metadata_count, metadata_entry_size, metadata_entry_end, metadata_entry_at}
 use Rattle.check_lists.specs.Metadata.{metadata_fits}
-use Rattle.check_lists.specs.Rearranged.{Described, metadata_entry, metadata_entries}
+use Rattle.check_lists.specs.Rearranged.{metadata_entry, metadata_entries}
 use Rattle.check_lists.proofs.MetadataLaws.{end_grows, first_behind}
 use Rattle.pieces.specs.Edits.{resealed}
 use Rattle.alone.specs.Alone.{Moved}

@@ -1,15 +1,15 @@
 -- A tile directory that has moved, with its references changed. Assumes nothing.
-use Prim.Native.Nat.{ℕ, zero, suc, ◌+◌, ◌*◌, ◌-◌, ◌/◌, ◌%◌, ◌≤◌, ◌<◌}
+use Prim.Native.Nat.{ℕ, ◌+◌, ◌*◌, ◌-◌, ◌/◌, ◌%◌, ◌≤◌, ◌<◌}
 use mathlib.Core.Path.{◌≡◌, refl, sym, ap, ◌∙◌}
 use mathlib.Core.Logic.{◌⊎◌, inl, inr}
-use mathlib.Core.List.{List, [], ◌∷◌, map, Memᴰ}
+use mathlib.Core.List.{List, map}
 use mathlib.Core.Bool.{Bool, true, false}
 use native.Mathlib.Omega.{arith}
 use lib.ListN.{length}
 use lib.Dec.{eqb}
 use borrow.Author.Tests.{eqb-true, eq-eqb}
 use Rattle.wire.specs.Pick.{pick}
-use Rattle.wire.specs.Bytes.{Same, number_at, number, byte_at, part, u32_at, u64_at, bytes_of}
+use Rattle.wire.specs.Bytes.{Same, number_at, number, byte_at, part, bytes_of}
 use Rattle.wire.proofs.TestLaws.{means, yes}
 use Rattle.wire.proofs.ByteLaws.{number_same, number_bytes, number_one, part_same, same_trans, bytes_length}
 use Rattle.wire.proofs.ListLaws.{every_member, member_every, some_member, member_some}

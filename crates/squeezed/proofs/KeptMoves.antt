@@ -1,23 +1,21 @@
 -- A kept record of an open page, with its references changed, behind the new front. Assumes nothing.
-use Prim.Native.Nat.{ℕ, zero, suc, ◌+◌, ◌*◌, ◌-◌, ◌%◌, ◌≤◌, ◌<◌}
+use Prim.Native.Nat.{ℕ, ◌≤◌}
 use mathlib.Core.Path.{◌≡◌, refl, sym, ap, ◌∙◌}
-use mathlib.Core.Logic.{◌⊎◌, inl, inr, ⊎_elim}
+use mathlib.Core.Logic.{inl, inr, ⊎_elim}
 use mathlib.Core.List.Memᴰ
-use mathlib.Core.List.{List, [], ◌∷◌, ◌++◌, map, Memᴰ}
-use mathlib.Core.Bool.{Bool, true, false, not}
+use mathlib.Core.List.{List, [], ◌∷◌, Memᴰ}
+use mathlib.Core.Bool.{Bool, true, false}
 use native.Mathlib.Omega.{arith}
 use lib.ListN.{length, take}
 use lib.Dec.{eqb}
-use borrow.Author.Tests.{eqb-true, eqb-false}
-use Rattle.wire.specs.Pick.{pick}
-use Rattle.wire.specs.Bytes.{Bytes, u64_at, bytes_of, put, Same}
+use borrow.Author.Tests.{eqb-true}
+use Rattle.wire.specs.Bytes.{Bytes, u64_at, Same}
 use Rattle.wire.proofs.ByteLaws.{bytes_part, bytes_of_lem, bytes_length, byte_same, number_same, bytes_take}
 use Rattle.wire.proofs.PutLaws.{bytes_put}
-use Rattle.wire.proofs.ListLaws.{select_member}
 use Rattle.record.specs.Record.{length_at, type_at, record_ok}
-use Rattle.record.specs.Chain.{header_end, records, joined}
+use Rattle.record.specs.Chain.{header_end, records}
 use Rattle.record.proofs.ChainLaws.{ok_means, starts_ok}
-use Rattle.header.specs.Fields.{checksum_enabled, metadata_reference, tile_directory_reference}
+use Rattle.header.specs.Fields.{checksum_enabled}
 use Rattle.check_records.specs.declared.Rule.{Rule}
 use Rattle.check_records.specs.declared.Rule.TheVariants.{Checksum, Body}
 use Rattle.bodies.specs.ListDirectories.{metadata_entry_at}
@@ -26,7 +24,7 @@ use Rattle.page_check.proofs.GivenLaws.{sound_range}
 use Rattle.pieces.specs.Pieces.{piece_at, pieces_of, pieces}
 use Rattle.pieces.specs.Edits.{resealed, reference_bytes}
 use Rattle.pieces.proofs.SplitLaws.{piece_long, piece_length, piece_type, piece_ok}
-use Rattle.alone.specs.Alone.{Front, SameHeader, alone, AllAlone}
+use Rattle.alone.specs.Alone.{Front, SameHeader, alone}
 use Rattle.alone.specs.Edited.{Piece}
 use Rattle.alone.proofs.HeaderLaws.{front_long}
 use Rattle.alone.proofs.FreeLaws.{body_unasked}
@@ -38,7 +36,6 @@ use Rattle.writable.specs.Parts.{Parted}
 use Rattle.writable.proofs.PartLaws.{sound_parted}
 use Rattle.correct.specs.Front.{sealed_front}
 use Rattle.page_laws.proofs.PageLaws.{parted_alone}
-use Rattle.correct.specs.Plan.{is_kept, kept_starts}
 use Rattle.correct.specs.Renamed.{put_each, reference_in, reference_then, tiles_renamed, entry_in, position_then, metadata_renamed, renamed_in}
 use Rattle.correct.specs.Squeezing.{moved_to, squeezed_fields}
 use Rattle.squeezed.proofs.PutLaws.{each_length, each_bytes, each_beside}

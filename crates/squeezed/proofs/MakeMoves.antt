@@ -1,7 +1,7 @@
 -- The byte stores of squeezing make the page that it is to make. Assumes nothing.
-use Prim.Native.Nat.{ℕ, ◌+◌, ◌-◌, ◌≤◌, ◌<◌}
-use mathlib.Core.Path.{◌≡◌, refl, sym, ap, ap₂, ◌∙◌}
-use mathlib.Core.List.{List, [], ◌∷◌, ◌++◌, append_assoc}
+use Prim.Native.Nat.{ℕ, ◌+◌, ◌-◌, ◌≤◌}
+use mathlib.Core.Path.{◌≡◌, refl, sym, ap, ◌∙◌}
+use mathlib.Core.List.{List, ◌++◌, append_assoc}
 use mathlib.Core.Bool.{true}
 use native.Mathlib.Omega.{arith}
 use lib.ListN.{length, take, drop, length-append}
@@ -12,7 +12,6 @@ use Rattle.wire.proofs.PutLaws.{put_fits, length_put}
 use Rattle.wire.proofs.PlaceLaws.{put_before}
 use Rattle.record.specs.Chain.{header_end, records, joined}
 use Rattle.header.specs.Fields.{checksum_enabled, metadata_reference, tile_directory_reference}
-use Rattle.page_check.specs.Accepted.{Sound}
 use Rattle.page_check.proofs.GivenLaws.{sound_range}
 use Rattle.written_records.specs.Pieces.{sealed}
 use Rattle.stores.specs.Stores.{Write, run}

@@ -1,7 +1,7 @@
 -- A page that is open for writing is so after it was squeezed. Assumes nothing.
-use Prim.Native.Nat.{ℕ, zero, suc, ◌+◌, ◌*◌, ◌-◌, ◌%◌, ◌≤◌, ◌<◌}
+use Prim.Native.Nat.{ℕ, suc, ◌+◌, ◌-◌, ◌%◌, ◌≤◌, ◌<◌}
 use mathlib.Core.Path.{◌≡◌, refl, sym, ap, ap₂, ◌∙◌}
-use mathlib.Core.Logic.{◌⊎◌, inl, inr, ⊎_elim}
+use mathlib.Core.Logic.{inl, ⊎_elim}
 use mathlib.Core.List.{List, [], ◌∷◌, ◌++◌, map, Memᴰ}
 use mathlib.Core.Bool.{Bool, true, false, not, ◌||◌}
 use native.Mathlib.Omega.{arith}
@@ -9,7 +9,7 @@ use lib.ListN.{length, length-append}
 use lib.Dec.{eqb, leb}
 use borrow.Author.Tests.{eqb-true, eqb-false, eq-eqb, ne_eqb, le-leb, lt-leb, leb-true, leb-false}
 use Rattle.wire.specs.Pick.{pick}
-use Rattle.wire.specs.Bytes.{Bytes, number_at, bytes_of, put}
+use Rattle.wire.specs.Bytes.{Bytes, number_at, bytes_of}
 use Rattle.wire.specs.Lists.{select, every, some, below}
 use Rattle.wire.proofs.TestLaws.{means, yes}
 use Rattle.wire.proofs.ByteLaws.{number_before, bytes_length}
@@ -20,22 +20,19 @@ use Rattle.record.specs.Record.{length_at, type_at, content_at, record_ok}
 use Rattle.record.specs.Chain.{Stand, header_end, records, records_of, joined, WellFormed}
 use Rattle.record.proofs.ChainLaws.{ok_means, starts_ok}
 use Rattle.record.proofs.FindLaws.{of_type}
-use Rattle.header.specs.Fields.{checksum_enabled, element_count, time_modified, time_opened, file_space_reference, metadata_reference, tile_directory_reference}
+use Rattle.header.specs.Fields.{checksum_enabled, element_count, time_modified, time_opened, metadata_reference, tile_directory_reference}
 use Rattle.check_header.specs.Stages.{closed}
 use Rattle.check_header.specs.Judged.{SameJudged}
 use Rattle.check_records.specs.declared.Rule.{Rule}
-use Rattle.check_records.specs.declared.Rule.TheVariants.{Checksum, Body}
+use Rattle.check_records.specs.declared.Rule.TheVariants.{Body}
 use Rattle.check_records.specs.MetadataBody.{metadata_right}
 use Rattle.check_directory.specs.References.{refers_to, refers_or_zero, no_other}
-use Rattle.check_directory.specs.TileRules.{tiles_listed, tiles_only, rectangle_right, tile_directory_right}
+use Rattle.check_directory.specs.TileRules.{tile_directory_right}
 use Rattle.check_directory.specs.Correspondence.{OneToOne}
 use Rattle.check_directory.proofs.CorrespondLaws.{one_to_one}
-use Rattle.metadata_keys.specs.Pairs.{keys_distinct}
-use Rattle.check_lists.specs.Metadata.{metadata_listed, metadata_only, metadata_fits, metadata_directory_right}
-use Rattle.check_lists.specs.Rearranged.{Described, metadata_entry, metadata_entries}
+use Rattle.check_lists.specs.Metadata.{metadata_fits, metadata_directory_right}
+use Rattle.check_lists.specs.Rearranged.{metadata_entries}
 use Rattle.bodies.specs.ListDirectories.{entry_count, metadata_count}
-use Rattle.bodies.specs.TileDirectory.{tile_reference}
-use Rattle.geometry.specs.Tiles.{tile_count}
 use Rattle.page_check.specs.Accepted.{Sound}
 use Rattle.page_check.proofs.GivenLaws.{sound_range}
 use Rattle.check_records.specs.Faults.{body_right}
@@ -44,12 +41,12 @@ use Rattle.pieces.specs.Edits.{left_over}
 use Rattle.pieces.proofs.FreeingLaws.{standing_other}
 use Rattle.pieces.specs.Standing.{AllOf, standing, place_of}
 use Rattle.pieces.proofs.SplitLaws.{piece_long, piece_length, piece_type, piece_ok, piece_placed}
-use Rattle.alone.specs.Alone.{Front, SameHeader, SameRecord, alone, AllAlone}
+use Rattle.alone.specs.Alone.{Front, SameRecord, alone, AllAlone}
 use Rattle.alone.specs.Edited.{Piece}
-use Rattle.alone.specs.Moves.{renamed, MetadataMoves}
+use Rattle.alone.specs.Moves.{renamed}
 use Rattle.alone.proofs.HeaderLaws.{front_long, front_end, front_judged}
 use Rattle.alone.proofs.PieceLaws.{placed_same}
-use Rattle.alone.proofs.StandLaws.{Stands, stands, records_are}
+use Rattle.alone.proofs.StandLaws.{stands, records_are}
 use Rattle.alone.proofs.TileLaws.{index_same}
 use Rattle.alone.proofs.EditedLaws.{well_formed}
 use Rattle.alone.proofs.MovesLaws.{moves_keep}

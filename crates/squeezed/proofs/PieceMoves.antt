@@ -1,8 +1,8 @@
 -- The pieces of a squeezed page, one behind the other. Assumes nothing.
-use Prim.Native.Nat.{ℕ, zero, suc, ◌+◌, ◌-◌, ◌%◌, ◌≤◌, ◌<◌}
+use Prim.Native.Nat.{ℕ, ◌+◌, ◌-◌, ◌%◌, ◌≤◌}
 use mathlib.Core.Path.{◌≡◌, refl, sym, ap, ◌∙◌}
-use mathlib.Core.Logic.{◌⊎◌, inl, inr, ⊎_elim}
-use mathlib.Core.List.{List, [], ◌∷◌, ◌++◌, map, Memᴰ}
+use mathlib.Core.Logic.{⊎_elim}
+use mathlib.Core.List.{List, [], ◌∷◌, map, Memᴰ}
 use mathlib.Core.Bool.{Bool, true, false, ◌&&◌}
 use native.Mathlib.Omega.{arith}
 use lib.ListN.{length, length-append}
@@ -20,10 +20,10 @@ use Rattle.pieces.specs.Edits.{left_over}
 use Rattle.pieces.specs.Standing.{AllOf, standing}
 use Rattle.pieces.proofs.FreeLaws.{free_length, free_type_lem}
 use Rattle.pieces.proofs.FreeingLaws.{free_well, standing_other, standing_free}
-use Rattle.alone.specs.Alone.{Front, alone, AllAlone}
+use Rattle.alone.specs.Alone.{Front, alone}
 use Rattle.alone.specs.Edited.{Piece}
 use Rattle.alone.proofs.FreeLaws.{free_bytes, free_body, free_checksum}
-use Rattle.correct.specs.Plan.{plan_from, start_right, end_from, Gap}
+use Rattle.correct.specs.Plan.{plan_from, start_right, end_from}
 use Rattle.correct.specs.Renamed.{renamed_in}
 use Rattle.correct.specs.Squeezing.{squeezed_from}
 use Rattle.squeezed.specs.Squeezed.{kept_standing, moved_records, gaps_from, zeroed_gap}

@@ -16,7 +16,6 @@ use Rattle.record.specs.Record.{length_at}
 use Rattle.record.specs.Chain.{Stand, header_end, records}
 use Rattle.record.proofs.ChainLaws.{ok_means, starts_ok}
 use Rattle.check_header.specs.HeaderRecord.{length_right, frame_right, header_right}
-use Rattle.writable.specs.Writable.{Open}
 use Rattle.correct.specs.Plan.{is_kept, kept_starts, gap_right, start_right, plan_from, plan_right, tight_from, tight_plan, Gap, end_of, GoodPlan}
 use Rattle.squeezed.specs.Squeezed.{TightAccepted, OldAccepted, PlanExactly}
 

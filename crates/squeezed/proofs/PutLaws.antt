@@ -1,13 +1,13 @@
 -- Fields put into a record, one behind the other. Assumes nothing.
-use Prim.Native.Nat.{ℕ, zero, suc, ◌+◌, ◌-◌, ◌≤◌, ◌<◌}
+use Prim.Native.Nat.{ℕ, zero, suc, ◌+◌, ◌≤◌, ◌<◌}
 use mathlib.Core.Path.{◌≡◌, refl, sym, ap, ◌∙◌}
-use mathlib.Core.Logic.{◌⊎◌, inl, inr, ⊎_elim, by_cases}
+use mathlib.Core.Logic.{◌⊎◌, inl, by_cases}
 use mathlib.Core.List.{List}
 use native.Mathlib.Decide.{dec_le}
 use native.Mathlib.Omega.{arith}
 use lib.ListN.{length}
 use Rattle.wire.specs.Bytes.{Bytes, part, put, Same}
-use Rattle.wire.proofs.ByteLaws.{part_same, same_sym, same_trans}
+use Rattle.wire.proofs.ByteLaws.{part_same, same_trans}
 use Rattle.wire.proofs.PutLaws.{length_put, put_part, put_same, bytes_put}
 use Rattle.written_records.proofs.SealLaws.{sealed_same}
 use Rattle.pieces.specs.Edits.{resealed}

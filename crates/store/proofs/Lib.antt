@@ -4,4 +4,3 @@ pub mod NamedLaws
 pub mod DescriptionLaws
 pub mod ManyLaws
 pub mod PieceLaws
-pub mod Held

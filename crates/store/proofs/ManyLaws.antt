@@ -8,7 +8,6 @@ use native.Mathlib.Nat.{div-add-mod'}
 use lib.ListN.{length}
 use lib.Dec.{leb}
 use borrow.Author.Tests.{leb-true, leb-false}
-use Rattle.wire.specs.Tests as wire
 use Rattle.wire.specs.Tests.{Test, ◌≤?◌}
 use Rattle.wire.specs.Bytes.{put}
 use Rattle.wire.proofs.TestLaws.{means, yes, no, either_way}

@@ -7,7 +7,7 @@ use native.Mathlib.Omega.{arith}
 use lib.ListN.{length, get_or}
 use lib.Dec.{eqb}
 use borrow.Author.Tests.{ne_eqb}
-use Rattle.wire.specs.Tests.{◌≡?◌, is, passes}
+use Rattle.wire.specs.Tests.{◌≡?◌, is}
 use Rattle.wire.specs.Bytes.{same_bytes}
 use Rattle.wire.specs.Lists.{select}
 use Rattle.wire.proofs.TestLaws.{means, yes, no, either_way, not_both}
@@ -26,9 +26,8 @@ use Rattle.metadata_keys.specs.Pairs.{same_key, keys_distinct}
 use Rattle.check_lists.specs.Metadata.{metadata_directory_right}
 use Rattle.page_check.specs.Stages.{check}
 use Rattle.page_check.proofs.AcceptedLaws.{accepted_sound}
-use Rattle.store.specs.declared.named.NamedIds.{NamedIds}
 use Rattle.store.specs.declared.named.NamedIds.TheVariants.{Absent, One, Several}
-use Rattle.store.specs.Named.{is_named, records_named, ids_named, as_named, name_said, IdsDiffer}
+use Rattle.store.specs.Named.{is_named, records_named, ids_named, name_said, IdsDiffer}
 
 module _ (s name : List ℕ) (x k : ℕ) (p : k ≡ type_at s x) where
   pub other_type : (k ≡ 1 → ⊥) → false ≡ is_named s name x

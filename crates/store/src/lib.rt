@@ -11,8 +11,7 @@
 // A read makes the check each time. A product that makes one check and then asks for many cells goes by `many`: its look-ups do not
 // repeat the check, are no reads, and have names that say so. The C interface does not pass them on.
 //
-// A function that has a page in a local is proved by hand. `cell_of` and `content_of` ask the same of bytes, without a page, so that
-// no proof of a product above goes through one.
+// `cell_of` and `content_of` ask the same of bytes, without a page, so that no proof of a product above goes through one.
 #![tactic(auto)]
 
 pub mod description;
@@ -75,8 +74,8 @@ pub fn read<'a>(p: Page<'a>, row: u64, column: u64, e: u64, walk: bool) -> Cell
 // The uncompressed content of an element in a tile, as that part of the file itself; the empty part where it is refused or absent.
 pub fn content_part<'a>(p: Page<'a>, tile: u64, e: u64) -> &'a [u8]
     ensures holds { result.now ≡ part p.entry.file.now (content_place (read_content p.entry.file.now tile e)) (content_length (read_content p.entry.file.now tile e)) }
-    ensures block { result.ref_ptr.0 ≡ p.entry.file.ptr.0 }
-    ensures offset { result.ref_ptr.1 ≡ p.entry.file.ptr.1 + part_at p.entry.file.now (content_place (read_content p.entry.file.now tile e)) (content_length (read_content p.entry.file.now tile e)) }
+    ensures block { result.ref_ptr.0 ≡ p.entry.file.ref_ptr.0 }
+    ensures offset { result.ref_ptr.1 ≡ p.entry.file.ref_ptr.1 + part_at p.entry.file.now (content_place (read_content p.entry.file.now tile e)) (content_length (read_content p.entry.file.now tile e)) }
 {
     reads::content_from(p.file, p.directory, tile, e)
 }

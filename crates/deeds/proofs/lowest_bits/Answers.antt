@@ -1,0 +1,7 @@
+-- `deeds::lowest_bits` meets its contract. Assumes nothing.
+use Rattle.deeds.proofs.ScoreLaws.{bits_of}
+use borrow.Author.Rules.{rules}
+use Rattle.deeds.proofs.lowest_bits.Goals as goal
+
+pub returns-in-Score : goal.returns-in-Score
+returns-in-Score c = bits_of _ _ _ c.in-Score.is (search rules) c.bits_16.ensures
