@@ -8,7 +8,7 @@ ghost use Rattle.std.specs.Prelude.{◌≡◌};
 ghost use Rattle.store.specs.Face.{read_meaning};
 ghost use Rattle.deeds.specs.Deeds.{deed};
 
-use answer::{Cell, Content, Location, Lookup, Refusal, Value};
+use answer::{Cell, Content, Location, Lookup, Refusal};
 use deeds::{Deed, Grade, Lowest};
 use std::io::Read;
 use std::rt::Files;
@@ -32,24 +32,28 @@ fn judged(file: &[u8], row: u64, column: u64, rows: u64, columns: u64) -> Deed
     deeds::judge(file, 256, 0, row, column, rows, columns, &mut memory)
 }
 
+fn print(rt: &impl Print, text: &str, number: u64) -> io::Result<()> {
+    print!(rt; "{text}{number}")
+}
+
 fn print_refusal(rt: &impl Print, r: Refusal) -> io::Result<()> {
     let number = answer::refusal_number(r);
     let place = answer::refusal_place(r);
     println!(rt; "refused {number} at {place}")
 }
 
-fn grade_word(x: Grade) -> &'static str {
+fn print_grade(rt: &impl Print, x: Grade) -> io::Result<()> {
     match x {
-        Grade::Certain => "certain",
-        Grade::Doubtful => "doubtful",
-        Grade::Unread => "unread",
+        Grade::Certain => print!(rt; "certain"),
+        Grade::Doubtful => print!(rt; "doubtful"),
+        Grade::Unread => print!(rt; "unread"),
     }
 }
 
 // The lowest score by its bits.
 fn print_lowest(rt: &impl Print, x: Lowest) -> io::Result<()> {
     match x {
-        Lowest::Score(z) => print!(rt; ", lowest {}", answer::bits_16(z)),
+        Lowest::Score(z) => print(rt, ", lowest ", answer::bits_16(z) as u64),
         Lowest::None => print!(rt; ", no score"),
     }
 }
@@ -63,7 +67,8 @@ fn print_deed(rt: &impl Print, label: &str, x: Deed) -> io::Result<()> {
             fills,
             lowest,
         } => {
-            print!(rt; "{}, fills {fills}", grade_word(grade))?;
+            print_grade(rt, grade)?;
+            print(rt, ", fills ", fills)?;
             print_lowest(rt, lowest)?;
             println!(rt; ", scale {}", answer::bits_16(rule.scale))
         }
@@ -115,16 +120,12 @@ fn print_element(rt: &impl Print, file: &[u8], name: &str) -> io::Result<()> {
     }
 }
 
-// A value by its bits.
-fn print_value(rt: &impl Print, label: &str, value: Value) -> io::Result<()> {
-    print!(rt; "{label} {}", answer::value_bits(value))
-}
-
 // The tile of a cell, and the cell's number inside it.
 fn print_location(rt: &impl Print, x: Location) -> io::Result<()> {
     println!(rt; ", tile {}, number {}", x.tile, x.inside)
 }
 
+// A value by its bits, and a refusal by its number.
 fn print_cell(rt: &impl Print, label: &str, x: Cell) -> io::Result<()> {
     print!(rt; "cell {label}: ")?;
     match x {
@@ -133,8 +134,8 @@ fn print_cell(rt: &impl Print, label: &str, x: Cell) -> io::Result<()> {
             place,
             location,
         } => {
-            print_value(rt, "stored", value)?;
-            print!(rt; " at {place}")?;
+            print(rt, "stored ", answer::value_bits(value) as u64)?;
+            print(rt, " at ", place as u64)?;
             print_location(rt, location)
         }
         Cell::Unpacked {
@@ -142,12 +143,12 @@ fn print_cell(rt: &impl Print, label: &str, x: Cell) -> io::Result<()> {
             place,
             location,
         } => {
-            print_value(rt, "unpacked", value)?;
-            print!(rt; " at {place}")?;
+            print(rt, "unpacked ", answer::value_bits(value) as u64)?;
+            print(rt, " at ", place as u64)?;
             print_location(rt, location)
         }
         Cell::Fill { value, location } => {
-            print_value(rt, "fill", value)?;
+            print(rt, "fill ", answer::value_bits(value) as u64)?;
             print_location(rt, location)
         }
         Cell::Refused(r) => print_refusal(rt, r),

@@ -17,7 +17,7 @@ const TEXT_ROOM: usize = 32768;
 
 // Reads to the end of the file, or as many bytes as are needed. A failed read is told apart before anything is listed: a part of a file
 // is never listed as the file.
-fn read_file<R: Files + AllocGlobal>(rt: &R, path: &str) -> io::Result<Vec<u8>> {
+fn read_all<R: Files + AllocGlobal>(rt: &R, path: &str) -> io::Result<Vec<u8>> {
     let mut file = Vec::new(rt.alloc());
     fs::open(rt, path)?
         .take(MOST_READ as u64)
@@ -53,7 +53,7 @@ fn main(rt: HostRuntime) -> io::Result<()> {
     let Some(path) = env::args(&rt)?.nth(1) else {
         return eprintln!(rt; "gvrs_list: the name of one file is needed: Invalid argument");
     };
-    match read_file(&rt, path.as_str()) {
+    match read_all(&rt, path.as_str()) {
         Ok(file) => print_listing(&rt, file.as_slice()),
         Err(error) => complain(&rt, path.as_str(), error),
     }
