@@ -14,7 +14,7 @@ use Rattle.blocks.specs.Tables.{Inside, Filled}
 use Rattle.blocks.proofs.TableLaws.{place_less, filled_none, filled_one, filled_under, filled_beside, filled_as}
 use Rattle.store.specs.declared.many.Rectangle.{Rectangle}
 use Rattle.store.specs.declared.pieces.Piece.{Piece}
-use Rattle.store.specs.Face.{tile_columns, element, meaning, held_cell, numbered_cell, of_element, Numbered}
+use Rattle.store.specs.Face.{tile_columns, meaning, held_cell, numbered_cell, of_element, Numbered}
 use Rattle.store.proofs.PieceLaws.{numbered_row}
 use Rattle.page_compare.specs.declared.Pair.{Pair}
 use Rattle.page_compare.specs.declared.sides.Side.{Side}

@@ -6,10 +6,10 @@ use Rattle.wire.specs.Lists.{one_if}
 use Rattle.answer.specs.declared.Cell.{Cell}
 use Rattle.answer.specs.declared.Held.{Held}
 use Rattle.answer.specs.declared.Held.TheVariants.{Stored}
-use Rattle.answer.specs.Answers.{cell_kind, cell_bits}
+use Rattle.answer.specs.Answers.{cell_bits}
 use Rattle.store.specs.declared.many.Rectangle.{Rectangle}
 use Rattle.store.specs.declared.pieces.Piece.{Piece}
-use Rattle.store.specs.Face.{element_count, element, cell_tile, cell_inside, check, meaning, held_cell, numbered_cell, Accepts, of_element, SameGrid, AtPiece, Answered}
+use Rattle.store.specs.Face.{element_count, element, cell_tile, cell_inside, meaning, held_cell, numbered_cell, Accepts, of_element, SameGrid, Answered}
 use Rattle.blocks.specs.Folds.{fold_inside}
 use Rattle.row_lists.specs.Entries.{Tiling, count_in}
 use Rattle.comparisons.specs.declared.Comparison.{Comparison}
