@@ -1,19 +1,18 @@
 -- A page from nothing is accepted, reads back, and says what it was told. Assumes nothing.
-use Prim.Native.Nat.{ℕ, min, ◌+◌, ◌*◌, ◌≤◌, ◌<◌}
+use Prim.Native.Nat.{ℕ, min, ◌*◌, ◌≤◌, ◌<◌}
 use mathlib.Core.Path.{◌≡◌, sym, ap, ◌∙◌}
 use mathlib.Core.List.{List}
 use mathlib.Core.Bool.{true}
 use native.Mathlib.Omega.{arith}
 use lib.ListN.{length}
-use Rattle.wire.specs.Tests.{sum_below}
 use Rattle.wire.proofs.TestLaws.{yes, sum_same}
 use Rattle.answer.specs.declared.Laid.TheVariants.{Length}
 use Rattle.answer.specs.declared.Verdict.TheVariants.{Accepted}
 use Rattle.answer.specs.Refusals.{gate, unless_refused}
 use Rattle.header.specs.Element.{integer_coded_kind, element, entries_read}
 use Rattle.geometry.specs.Tiles.{tiles_in, tile_count}
-use Rattle.geometry.specs.Sizes.{uncompressed, element_bytes, tile_bytes}
-use Rattle.fronts.specs.Front.{Description, Fits, front_of, range_number}
+use Rattle.geometry.specs.Sizes.{element_bytes, tile_bytes}
+use Rattle.fronts.specs.Front.{Description, front_of, range_number}
 use Rattle.fronts.specs.Judged.{tile_told, FrontSays}
 use Rattle.fronts.specs.Given.{described_by}
 use Rattle.fronts.proofs.SaysLaws.{says}
