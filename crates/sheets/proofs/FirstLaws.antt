@@ -1,19 +1,19 @@
 -- The first fault by rows, found in any order. Assumes nothing.
 use Prim.Native.Nat.{ℕ, max, ◌+◌, ◌-◌, ◌*◌, ◌/◌, ◌%◌, ◌≤◌, ◌<◌}
-use mathlib.Core.Path.{◌≡◌, refl, sym, ap, ◌∙◌}
+use mathlib.Core.Path.{◌≡◌, refl, sym, ◌∙◌}
 use mathlib.Core.Bool.{Bool, true, false}
 use mathlib.Core.Logic.{◌⊎◌, inl, inr, by_cases}
 use native.Mathlib.Decide.{dec_le}
 use native.Mathlib.Omega.{arith}
 use native.Mathlib.Nat.{mul-le-mul_right}
 use lib.Dec.{eqb}
-use borrow.Author.Tests.{eqb-true, eqb-false, eq-eqb, ne_eqb}
+use borrow.Author.Tests.{eqb-true, eqb-false}
 use Rattle.wire.specs.Pick.{pick}
 use Rattle.wire.proofs.TestLaws.{not_both}
 use Rattle.blocks.specs.Tables.{Inside}
 use Rattle.blocks.specs.Folds.{fold_inside, Joins}
 use Rattle.blocks.proofs.TableLaws.{place_less, place_row, same_place}
-use Rattle.blocks.proofs.InsideLaws.{inside_each, inside_found, inside_none, inside_first_at, inside_absorbs}
+use Rattle.blocks.proofs.InsideLaws.{inside_found, inside_none, inside_first_at, inside_absorbs}
 use Rattle.answer.specs.declared.Verdict.{Verdict}
 use Rattle.answer.specs.declared.Verdict.TheVariants as verdict
 use Rattle.answer.specs.Refusals.{unless_refused}

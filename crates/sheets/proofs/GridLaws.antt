@@ -3,18 +3,17 @@ use Prim.Native.Nat.{ℕ, max, ◌+◌, ◌-◌, ◌*◌, ◌/◌, ◌%◌, ◌�
 use mathlib.Core.Path.{◌≡◌, refl, sym, ap, ◌∙◌}
 use mathlib.Core.List.{List}
 use mathlib.Core.Bool.{Bool, true, false}
-use mathlib.Core.Logic.{◌⊎◌, inl, inr, by_cases}
+use mathlib.Core.Logic.{by_cases}
 use native.Mathlib.Decide.{dec_le}
 use native.Mathlib.Omega.{arith}
 use native.Mathlib.Nat.{mul-le-mul}
 use lib.Dec.{eqb}
-use borrow.Author.Tests.{eqb-false, ne_eqb}
+use borrow.Author.Tests.{ne_eqb}
 use Rattle.wire.specs.Pick.{pick}
 use Rattle.wire.proofs.TestLaws.{means, no, either_way, not_both}
 use Rattle.blocks.specs.Tables.{Inside}
 use Rattle.blocks.proofs.TableLaws.{place_row}
 use Rattle.blocks.proofs.InsideLaws.{inside_found}
-use Rattle.answer.specs.declared.Refusal.{Refusal}
 use Rattle.answer.specs.declared.Refusal.TheVariants.{Input}
 use Rattle.answer.specs.declared.Verdict.{Verdict}
 use Rattle.answer.specs.declared.Verdict.TheVariants as verdict
@@ -24,7 +23,7 @@ use Rattle.answer.specs.Refusals.{gate}
 use Rattle.answer.proofs.VerdictLaws.{gate_passed}
 use Rattle.store.specs.declared.many.Rectangle.{Rectangle}
 use Rattle.store.specs.declared.pieces.Piece.{Piece}
-use Rattle.store.specs.Face.{grid_rows, grid_columns, element_count, tile_count, check, meaning, held_cell, first_piece, Holds, Accepts}
+use Rattle.store.specs.Face.{grid_rows, grid_columns, element_count, tile_count, check, held_cell, first_piece, Holds, Accepts}
 use Rattle.store.proofs.ManyLaws.{means_inside}
 use Rattle.store.proofs.PieceLaws.{walk_first, answered_piece}
 use Rattle.score_rule.specs.declared.Said.{Said}

@@ -1,13 +1,13 @@
 -- The sheet's bytes, and what the call answers. Assumes nothing.
 use Prim.Native.Nat.{ℕ, ◌+◌, ◌-◌, ◌*◌, ◌≤◌, ◌<◌}
-use mathlib.Core.Path.{◌≡◌, refl, sym, ap, ap₂, ◌∙◌}
+use mathlib.Core.Path.{◌≡◌, sym, ap, ◌∙◌}
 use mathlib.Core.List.{List, [], ◌∷◌, ◌++◌, append_assoc, append-nil, flat_map}
 use native.Mathlib.Omega.{arith}
 use lib.ListN.{length, take, drop, length-append, length-drop}
 use lib.Seq.{take_all, drop-drop, drop-length}
 use Rattle.wire.specs.Bytes.{put}
 use Rattle.wire.specs.Big.{big_of}
-use Rattle.wire.specs.Tests.{◌≤?◌, passes}
+use Rattle.wire.specs.Tests.{◌≤?◌}
 use Rattle.wire.proofs.TestLaws.{yes, no}
 use Rattle.wire.proofs.BigLaws.{big_length}
 use Rattle.wire.proofs.RunLaws.{run_length}
@@ -18,9 +18,7 @@ use Rattle.score_sheets.specs.Sheet.{sheet_head, sheet_bytes}
 use Rattle.score_sheets.proofs.SheetLaws.{head_long}
 use Rattle.answer.specs.declared.Refusal.{Refusal}
 use Rattle.answer.specs.declared.Refusal.TheVariants.{Room}
-use Rattle.answer.specs.declared.Verdict.{Verdict}
 use Rattle.answer.specs.declared.Verdict.TheVariants as verdict
-use Rattle.answer.specs.declared.Laid.{Laid}
 use Rattle.answer.specs.declared.Laid.TheVariants.{Length, Refused}
 use Rattle.answer.specs.Refusals.{gate, unless_refused}
 use Rattle.answer.specs.Answers.{cell_bits, written}

@@ -1,27 +1,23 @@
 -- Scores of two bytes as a table of bytes, twice as wide: a score, a row and a piece at a time; the walk over it; the sheet. Assumes nothing.
-use Prim.Native.Nat.{ℕ, zero, suc, ◌+◌, ◌-◌, ◌*◌, ◌/◌, ◌%◌, ◌≤◌, ◌<◌}
+use Prim.Native.Nat.{ℕ, zero, suc, ◌+◌, ◌*◌, ◌/◌, ◌%◌, ◌≤◌, ◌<◌}
 use mathlib.Core.Path.{◌≡◌, refl, sym, ap, ap₂, ◌∙◌}
 use mathlib.Core.List.{List, [], ◌∷◌, ◌++◌, map, map-append, flat_map}
-use mathlib.Core.Logic.{◌⊎◌, inl, inr, ⊎_elim}
+use mathlib.Core.Logic.{inl, inr, ⊎_elim}
 use native.Mathlib.Omega.{arith}
-use native.Mathlib.Nat.{mul_assoc, mul_comm, mul-le-mul, mul-le-mul_right}
-use lib.ListN.{length, get_or, set, take, drop, length-set, length-append}
-use lib.Seq.{length-take-le}
-use Rattle.wire.specs.Bytes.{put}
+use native.Mathlib.Nat.{mul_assoc, mul_comm, mul-le-mul}
+use lib.ListN.{length, get_or, set, length-set}
 use Rattle.wire.specs.Big.{big_of}
 use Rattle.wire.specs.Lists.{below}
 use Rattle.wire.proofs.RunLaws.{run_append, run_one, below_cut}
 use Rattle.blocks.specs.Tables.{tabled, Inside, Filled}
 use Rattle.blocks.specs.Walks.{Passed, Begins, Follows}
-use Rattle.blocks.proofs.TableLaws.{place_less, filled_none, filled_one, filled_under, filled_beside, filled_all}
+use Rattle.blocks.proofs.TableLaws.{place_less, filled_one, filled_beside}
 use Rattle.blocks.proofs.WalkLaws.{walked_none, walked_more, walked_all}
 use Rattle.answer.specs.declared.Cell.{Cell}
 use Rattle.answer.specs.Answers.{cell_bits}
 use Rattle.store.specs.declared.many.Rectangle.{Rectangle}
-use Rattle.store.specs.declared.pieces.Piece.{Piece}
-use Rattle.store.specs.Face.{Walks}
 use Rattle.sheets.specs.Back.{score_cell}
-use Rattle.sheets.specs.Rows.{Sides, HasRoom, score_byte}
+use Rattle.sheets.specs.Rows.{HasRoom, score_byte}
 
 -- a number of two bytes, by its place
 

@@ -1,13 +1,11 @@
 -- The greatest weight, a cell, a row and a piece at a time. Assumes nothing.
 use Prim.Native.Nat.{ℕ, max, ◌+◌, ◌-◌, ◌*◌, ◌≤◌, ◌<◌}
-use mathlib.Core.Path.{◌≡◌, refl, sym, ap, ap₂, ◌∙◌}
+use mathlib.Core.Path.{◌≡◌, sym, ap₂, ◌∙◌}
 use mathlib.Core.List.{List}
-use mathlib.Core.Bool.{Bool, true}
 use native.Mathlib.Omega.{arith}
 use native.Mathlib.Nat.{mul-le-mul}
 use Rattle.wire.specs.Pick.{pick}
 use Rattle.blocks.specs.Tables.{Inside}
-use Rattle.blocks.specs.Folds.{fold_inside}
 use Rattle.blocks.specs.Walks.{Begins, Follows, fold_passed}
 use Rattle.blocks.proofs.InsideLaws.{inside_one, inside_none, inside_under, inside_beside}
 use Rattle.blocks.proofs.WalkLaws.{passed_none, passed_more, passed_all}
