@@ -1,8 +1,8 @@
 -- A sheet that is moved into a page: each grid cell has the bits of its score, in the kind of its tile. Assumes nothing.
-use Prim.Native.Nat.{ℕ, min, zero, suc, ◌+◌, ◌*◌, ◌/◌, ◌%◌, ◌≤◌, ◌<◌}
+use Prim.Native.Nat.{ℕ, ◌+◌, ◌*◌, ◌/◌, ◌%◌, ◌<◌}
 use mathlib.Core.Path.{◌≡◌, refl, sym, ap, ◌∙◌}
 use mathlib.Core.List.Memᴰ
-use mathlib.Core.List.{List, [], ◌∷◌, ◌++◌, map, flat_map, Memᴰ}
+use mathlib.Core.List.{List, [], ◌∷◌}
 use mathlib.Core.Bool.{Bool, true, false, not}
 use mathlib.Core.Logic.{by_cases}
 use native.Mathlib.Decide.{dec_le}
@@ -12,10 +12,10 @@ use lib.ListN.{length, get_or}
 use lib.Dec.{eqb}
 use borrow.Author.Tests.{eqb-true, eq-eqb, not-true}
 use Rattle.wire.specs.Pick.{pick}
-use Rattle.wire.specs.Tests.{◌≤?◌, ◌≡?◌, is, passes, all_below, sum_below}
-use Rattle.wire.specs.Bytes.{Bytes, byte_at, part, number, number_at, bytes_of, same_bytes, zeros}
-use Rattle.wire.specs.Lists.{select, some, below}
-use Rattle.wire.proofs.TestLaws.{means, yes, no, not_both, below_each, below_all, sum_none}
+use Rattle.wire.specs.Tests.{◌≡?◌, is, passes, sum_below}
+use Rattle.wire.specs.Bytes.{Bytes, number, number_at, bytes_of, same_bytes, zeros}
+use Rattle.wire.specs.Lists.{some, below}
+use Rattle.wire.proofs.TestLaws.{yes, no, not_both, below_each, below_all, sum_none}
 use Rattle.wire.proofs.ByteLaws.{zeros_length, bytes_length, bytes_of_lem, number_of}
 use Rattle.wire.proofs.BigLaws.{big_small}
 use Rattle.wire.proofs.ListLaws.{member_select, select_member, select_none}
@@ -27,18 +27,16 @@ use Rattle.score_sheets.proofs.PartLaws.{score_past, score_there}
 use Rattle.answer.specs.declared.Verdict.{Verdict}
 use Rattle.answer.specs.declared.Verdict.TheVariants as verdict
 use Rattle.answer.specs.declared.Cell.{Cell}
-use Rattle.answer.specs.declared.Cell.TheVariants as cell
 use Rattle.answer.specs.declared.Laid.TheVariants.{Length, Refused}
-use Rattle.answer.specs.Refusals.{gate, unless_refused}
-use Rattle.answer.specs.Values.{value_of, value_bits}
+use Rattle.answer.specs.Refusals.{unless_refused}
 use Rattle.answer.specs.Answers.{cell_kind, cell_bits, cell_verdict}
 use Rattle.answer.proofs.ValueLaws.{short_bits_kept}
 use Rattle.answer.proofs.VerdictLaws.{gate_passed, behind_passed}
-use Rattle.header.specs.Fields.{grid_rows, grid_columns, tile_rows, tile_columns, element_count}
-use Rattle.header.specs.Element.{cell_size, element}
+use Rattle.header.specs.Fields.{grid_columns, tile_rows, tile_columns}
+use Rattle.header.specs.Element.{cell_size}
 use Rattle.record.specs.Record.{type_at}
 use Rattle.record.specs.Chain.{records, records_of}
-use Rattle.bodies.specs.MetadataRecord.{metadata_name, record_id}
+use Rattle.bodies.specs.MetadataRecord.{metadata_name}
 use Rattle.geometry.specs.Tiles.{tiles_along, tile_of, inside_of, tile_in, tiles_across, tile_count, cell_tile, cell_inside}
 use Rattle.geometry.specs.Sizes.{cell_offset, element_bytes, tile_bytes}
 use Rattle.geometry.proofs.GridLaws.{row_of, column_of, along_less, inside_less, tile_less}

@@ -1,38 +1,32 @@
 -- A sheet moved there and back has the same bytes. Assumes nothing.
-use Prim.Native.Nat.{ℕ, zero, suc, ◌+◌, ◌*◌, ◌≤◌, ◌<◌}
+use Prim.Native.Nat.{ℕ, zero, suc, ◌+◌, ◌*◌, ◌<◌}
 use mathlib.Core.Path.{◌≡◌, refl, sym, ap, ap₂, ◌∙◌}
-use mathlib.Core.List.{List, [], ◌∷◌, ◌++◌, map, flat_map}
+use mathlib.Core.List.{List, ◌++◌, flat_map}
 use mathlib.Core.Bool.{Bool, true, false}
 use native.Mathlib.Omega.{arith}
-use native.Mathlib.Numerals.{add-one}
 use lib.ListN.{length}
 use lib.Dec.{leb}
 use Rattle.wire.specs.Pick.{pick}
-use Rattle.wire.specs.Tests.{◌≤?◌, is, both, passes}
+use Rattle.wire.specs.Tests.{both, passes}
 use Rattle.wire.specs.Bytes.{Bytes}
 use Rattle.wire.specs.Big.{big_of}
-use Rattle.wire.specs.Lists.{below}
 use Rattle.wire.proofs.TestLaws.{means, yes, below_each}
 use Rattle.wire.proofs.RunLaws.{below_alike}
-use Rattle.blocks.specs.Tables.{tabled, Inside}
+use Rattle.blocks.specs.Tables.{tabled}
 use Rattle.blocks.proofs.TableLaws.{place_less}
 use Rattle.blocks.proofs.InsideLaws.{inside_none}
-use Rattle.score_sheets.specs.Sheet.{sheet_rows, sheet_columns, score_at, score_right, sheet_right, sheet_head, sheet_bytes, Fits}
+use Rattle.score_sheets.specs.Sheet.{sheet_rows, sheet_columns, score_right, sheet_right, sheet_head, sheet_bytes}
 use Rattle.score_sheets.proofs.WholeLaws.{read}
-use Rattle.answer.specs.declared.Verdict.{Verdict}
 use Rattle.answer.specs.declared.Verdict.TheVariants as verdict
 use Rattle.answer.specs.declared.Cell.{Cell}
 use Rattle.answer.specs.declared.Refusal.TheVariants.{Room}
 use Rattle.answer.specs.declared.Laid.TheVariants.{Length, Refused}
 use Rattle.answer.specs.Refusals.{gate, unless_refused}
 use Rattle.answer.specs.Answers.{cell_bits, cell_verdict}
-use Rattle.header.specs.Fields.{grid_rows, grid_columns, element_count}
-use Rattle.header.specs.Element.{element}
-use Rattle.page_check.specs.Stages.{check}
+use Rattle.header.specs.Fields.{grid_rows, grid_columns}
 use Rattle.cells.specs.Meaning.{meaning}
 use Rattle.score_rule.specs.Rules.{page_says}
-use Rattle.lay_down.specs.Sheet.{score_element, sheet_laid, sheet_file}
-use Rattle.read_back.proofs.Setting.{Kept}
+use Rattle.lay_down.specs.Sheet.{score_element, sheet_file}
 use Rattle.sheets.specs.Back.{is_first, sheetable, fault, fault_in, score_cell, sheet_of, sheet_length, judged_out, sheet_back}
 use Rattle.sheets.proofs.FirstLaws.{verdicts}
 use Rattle.sheet_moves.specs.Moves.{ScoresKept, ThereAndBack}

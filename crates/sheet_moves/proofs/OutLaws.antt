@@ -1,37 +1,36 @@
 -- A page moved out and back, with its own front: what it keeps, and what alone refuses the way back in. Assumes nothing.
 use Prim.Native.Nat.{ℕ, ◌+◌, ◌*◌, ◌-◌, ◌≤◌, ◌<◌}
 use mathlib.Core.Path.{◌≡◌, refl, sym, ap, ◌∙◌}
-use mathlib.Core.List.{List, [], ◌∷◌, ◌++◌, flat_map}
+use mathlib.Core.List.{List, [], ◌∷◌}
 use mathlib.Core.Bool.{Bool, true, false}
 use native.Mathlib.Omega.{arith}
 use lib.ListN.{length, take}
 use lib.Seq.{length-take-le, get_or-take}
 use Rattle.wire.specs.Pick.{pick}
-use Rattle.wire.specs.Tests.{◌≤?◌, ◌≡?◌, ◌≢?◌, is, passes}
+use Rattle.wire.specs.Tests.{◌≡?◌, ◌≢?◌, is, passes}
 use Rattle.wire.specs.Bytes.{Bytes, byte_at, Same}
 use Rattle.wire.specs.Big.{big_of}
 use Rattle.wire.proofs.TestLaws.{means, yes, no_true, iff}
 use Rattle.wire.proofs.ByteLaws.{bytes_append, bytes_cons, bytes_none, bytes_take}
 use Rattle.wire.proofs.BigLaws.{big_bytes}
 use Rattle.wire.proofs.RunLaws.{run_bytes}
-use Rattle.blocks.specs.Tables.{tabled, Inside}
+use Rattle.blocks.specs.Tables.{tabled}
 use Rattle.blocks.proofs.InsideLaws.{inside_each}
-use Rattle.score_sheets.specs.Sheet.{sheet_rows, sheet_columns, score_at, score_right, sheet_right, sheet_head, sheet_bytes, Fits, Says}
+use Rattle.score_sheets.specs.Sheet.{sheet_rows, sheet_columns, score_at, score_right, sheet_head, sheet_bytes, Fits, Says}
 use Rattle.score_sheets.proofs.WholeLaws.{written}
-use Rattle.answer.specs.declared.Refusal.TheVariants.{Input}
 use Rattle.answer.specs.declared.Verdict.{Verdict}
 use Rattle.answer.specs.declared.Verdict.TheVariants as verdict
 use Rattle.answer.specs.declared.Cell.{Cell}
 use Rattle.answer.specs.declared.Laid.{Laid}
 use Rattle.answer.specs.declared.Laid.TheVariants.{Length, Refused}
 use Rattle.answer.specs.Refusals.{gate, unless_refused}
-use Rattle.answer.specs.Answers.{cell_kind, cell_bits, cell_verdict}
+use Rattle.answer.specs.Answers.{cell_kind, cell_bits}
 use Rattle.answer.proofs.VerdictLaws.{gate_passed, behind_passed}
-use Rattle.record.specs.Chain.{header_end, records_of}
-use Rattle.header.specs.Fields.{grid_rows, grid_columns, tile_rows, tile_columns, element_count}
-use Rattle.header.specs.Element.{element, entries_read}
+use Rattle.record.specs.Chain.{header_end}
+use Rattle.header.specs.Fields.{grid_rows, grid_columns}
+use Rattle.header.specs.Element.{entries_read}
 use Rattle.header.proofs.SameLaws.{element_same}
-use Rattle.geometry.specs.Tiles.{tile_in, cell_tile}
+use Rattle.geometry.specs.Tiles.{cell_tile}
 use Rattle.check_header.specs.Identification.{identified}
 use Rattle.check_header.specs.HeaderRecord.{header_right}
 use Rattle.check_header.specs.Stages.{front_right, first_two, next_two, stages, check_front}
@@ -40,15 +39,13 @@ use Rattle.check_header.specs.Judged.{SameJudged}
 use Rattle.check_header.proofs.Judged as judged
 use Rattle.check_header.proofs.Judged.{end_same, identified_same, version_same, header_to, ceilings_to}
 use Rattle.check_header.proofs.PassedLaws.{range_of}
-use Rattle.page_check.specs.Stages.{check}
 use Rattle.page_check.proofs.AcceptedLaws.{accepted_exactly}
 use Rattle.cells.specs.Meaning.{meaning}
-use Rattle.lay_down.specs.Answer.{ascending, input_right, input_verdict, length_verdict}
-use Rattle.lay_down.specs.Page.{file_length}
+use Rattle.lay_down.specs.Answer.{input_right, input_verdict}
 use Rattle.lay_down.specs.Sheet.{score_element, front_fits, tile_unread, kept_tiles, sheet_cells, sheet_verdict, sheet_laid, sheet_file}
 use Rattle.lay_down.proofs.SheetLaws.{score_of_lem, kept_ascends, sheet_long}
 use Rattle.sheets.specs.Back.{sheetable, fault, fault_in, score_cell, sheet_of, judged_out, sheet_back}
-use Rattle.sheet_moves.specs.Moves.{TileUnread, own_front, out_and_in, SameValues, OutAndBack, back_in, InAgain}
+use Rattle.sheet_moves.specs.Moves.{TileUnread, own_front, SameValues, OutAndBack, back_in, InAgain}
 use Rattle.sheet_moves.proofs.KeptLaws.{Moved, moved_of, cell_said, cell_kind_lem, left_out_lem, tile_all, no_metadata, page_kept, reads}
 
 -- what a move out that is not refused says

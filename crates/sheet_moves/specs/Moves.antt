@@ -1,5 +1,5 @@
 -- Req 13: a sheet there and back, and a page out and back. f is a front, d a sheet, s a page; t is a time, k and j are compressor indexes.
-use Rattle.std.specs.Prelude.{ℕ, ◌≤◌, ◌<◌, ◌*◌, ◌+◌, ◌≡◌, List, [], ◌∷◌, length, take, leb}
+use Rattle.std.specs.Prelude.{ℕ, ◌<◌, ◌*◌, ◌+◌, ◌≡◌, List, [], ◌∷◌, length, take, leb}
 use Rattle.wire.specs.Pick.{pick}
 use Rattle.wire.specs.Tests.{◌≢?◌, passes}
 use Rattle.wire.specs.Bytes.{Bytes}

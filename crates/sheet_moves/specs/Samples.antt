@@ -1,6 +1,6 @@
 -- Req 13's sample sums, as three tables: bytes, and whether they are a sheet; a rectangle of the sample sheet, and its scores; cells by rows,
 -- and the number and place of the first fault.
-use Rattle.std.specs.Prelude.{ℕ, ◌≡◌, List, [], ◌∷◌, map, Bool, true, false, length, get_or, set, ℤ, pos, negsuc}
+use Rattle.std.specs.Prelude.{ℕ, ◌≡◌, List, [], ◌∷◌, Bool, true, false, length, get_or, set, ℤ, pos, negsuc}
 use Rattle.score_sheets.specs.Sheet.{sheet_right, sheet_bytes}
 use Rattle.score_sheets.specs.Parts.{part_scores}
 use Rattle.answer.specs.declared.Refusal.TheVariants.{Compressed, Malformed}
