@@ -25,7 +25,7 @@ use Rattle.writable.specs.Writable.{open_for_writing}
 use Rattle.writable.proofs.OpenLaws.{open_sound}
 use Rattle.correct.specs.Front.{page_in}
 use Rattle.correct.specs.Answers.{on_page, on_open_page}
-use Rattle.correct.specs.Calls.{Call, State, page_of, change_on, answer_by, stopped_by, answer_of, out_of, after}
+use Rattle.correct.specs.Calls.{Call, State, page_of, change_on, answer_by, stopped_by, answer_of, out_of}
 use Rattle.correct.proofs.ListLaws.{part_page}
 use Rattle.effects.proofs.PassedLaws.{sound_workable}
 use Rattle.calls.proofs.JudgeLaws.{open_past}
