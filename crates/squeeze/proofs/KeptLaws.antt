@@ -11,7 +11,7 @@ use lib.Dec.{eqb}
 use native.Mathlib.Nat.{mul-le-mul_left, mul-suc, mul_comm}
 use borrow.Author.Tests.{eqb-true, eq-eqb, ne_eqb, le-leb}
 use Rattle.wire.specs.Pick.{pick}
-use Rattle.wire.specs.Bytes.{number_at, u16_at, u32_at, u64_at, part, put, bytes_of, Same}
+use Rattle.wire.specs.Bytes.{number_at, u16_at, u32_at, u64_at, part, bytes_of, Same}
 use Rattle.wire.specs.Items.{advance}
 use Rattle.wire.proofs.TestLaws.{means}
 use Rattle.wire.proofs.ByteLaws.{part_same, byte_same, number_same}
