@@ -25,7 +25,7 @@ use Rattle.deeds.specs.Deeds.{is_fill, is_stored, minus_one, counts_as_fill, is_
 use Rattle.deeds.specs.declared.Lowest.TheVariants.{Score, None}
 use Rattle.deeds.proofs.PieceLaws.{verdicts}
 use Rattle.deeds.proofs.DeedLaws.{all_scored, deed_scored, deed_inside}
-use Rattle.exact_products.specs.Deeds.{IsGraded, DeedGiven, CountsAs, ScoresExactly}
+use Rattle.exact_products.specs.Deeds.{IsGraded, DeedGiven, ScoresExactly}
 use Rattle.exact_products.specs.Comparisons.{IsHeld}
 
 module _ (s : List ℕ) (ci e row column rows columns : ℕ) where

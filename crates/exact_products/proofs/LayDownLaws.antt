@@ -1,15 +1,13 @@
 -- A lay-down: the refusals in their order. Assumes nothing.
-use Prim.Native.Nat.{ℕ, zero, suc, ◌+◌, ◌*◌, ◌≤◌, ◌<◌}
-use mathlib.Core.Path.{◌≡◌, refl, sym, ap, ◌∙◌}
+use Prim.Native.Nat.{ℕ, zero, suc, ◌+◌, ◌≤◌, ◌<◌}
+use mathlib.Core.Path.{◌≡◌, refl, sym}
 use mathlib.Core.List.{List, [], ◌∷◌}
-use mathlib.Core.Bool.{Bool, true, false}
+use mathlib.Core.Bool.{true, false}
 use native.Mathlib.Omega.{arith}
 use lib.ListN.{length, get_or}
-use Rattle.wire.specs.Tests.{◌≤?◌, ◌≡?◌, ◌≢?◌, is, passes}
 use Rattle.wire.proofs.TestLaws.{means, yes, no}
 use Rattle.answer.specs.Refusals.{gate, unless_refused}
 use Rattle.geometry.specs.Tiles.{tile_count}
-use Rattle.geometry.specs.Sizes.{tile_bytes}
 use Rattle.check_header.specs.Ceilings.{most_file_bytes}
 use Rattle.lay_down.specs.Page.{file_length}
 use Rattle.lay_down.specs.Answer.{ascending, input_right, length_allowed, fits_in, length_verdict, input_verdict, lay_down_verdict, laid}

@@ -1,5 +1,5 @@
 -- Samples on whole files, those of `correction_samples`: a deed by the second rule, two pages compared, the cells of a rectangle.
-use Rattle.std.specs.Prelude.{ℕ, ◌≡◌, List, [], ◌∷◌, pos}
+use Rattle.std.specs.Prelude.{◌≡◌, [], ◌∷◌, pos}
 use Rattle.answer.specs.declared.Refusal.TheVariants.{Opened, OutsideGrid, Input}
 use Rattle.answer.specs.Answers.{cell_kind, cell_bits}
 use Rattle.deeds.specs.declared.Grade.TheVariants.{Doubtful, Unread}
