@@ -1,4 +1,4 @@
--- `correction_logs::entry_whole_lem` meets its contract. Assumes nothing.
+-- `correction_logs::entry_whole` meets its contract. Assumes nothing.
 use native.Mathlib.Omega.{arith}
 use Rattle.correction_logs.proofs.LogLaws.{whole_short, whole_cut, whole_kind, whole_store, whole_remove}
 use Rattle.correction_logs.proofs.entry_whole.Goals as goal

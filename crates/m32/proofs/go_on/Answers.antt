@@ -1,4 +1,4 @@
--- `m32::go_on_lem` meets its contract. Assumes nothing.
+-- `m32::go_on` meets its contract. Assumes nothing.
 use native.Mathlib.Omega.{arith}
 use mathlib.Core.Path.{sym}
 use Rattle.m32.proofs.StepLaws.{go_on_lem, go_not}

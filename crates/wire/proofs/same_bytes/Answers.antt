@@ -1,4 +1,4 @@
--- `wire::same_bytes_lem` meets its contract. Assumes nothing.
+-- `wire::same_bytes` meets its contract. Assumes nothing.
 use Rattle.wire.proofs.CompareLaws.{told_equal}
 use Rattle.wire.proofs.same_bytes.Goals as goal
 

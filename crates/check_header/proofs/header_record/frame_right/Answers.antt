@@ -1,4 +1,4 @@
--- `check_header::header_record::frame_right_lem` meets its contract. Assumes nothing.
+-- `check_header::header_record::frame_right` meets its contract. Assumes nothing.
 use native.Mathlib.Omega.{arith}
 use Rattle.wire.proofs.TestLaws.{no, yes, not_both}
 use Rattle.check_header.specs.HeaderRecord.{frame_right}

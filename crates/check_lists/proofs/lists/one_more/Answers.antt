@@ -1,4 +1,4 @@
--- `check_lists::lists::one_more_lem` meets its contract. Assumes nothing.
+-- `check_lists::lists::one_more` meets its contract. Assumes nothing.
 use native.Mathlib.Omega.{arith}
 use Rattle.check_lists.proofs.WindowLaws.{more_few, more_two}
 use Rattle.check_lists.proofs.lists.one_more.Goals as goal

@@ -1,4 +1,4 @@
--- `fronts::counts::entry_length_lem` meets its contract. Assumes nothing.
+-- `fronts::counts::entry_length` meets its contract. Assumes nothing.
 use mathlib.Core.Path.{refl}
 use Rattle.fronts.proofs.CountLaws.{entry_counted_lem}
 use Rattle.fronts.proofs.counts.entry_length.Goals as goal

@@ -1,4 +1,4 @@
--- `lay_down::sheet::front_fits_lem` meets its contract. Assumes nothing.
+-- `lay_down::sheet::front_fits` meets its contract. Assumes nothing.
 use Rattle.lay_down.proofs.SheetLaws.{fits_rows, fits_columns, fits_element}
 use Rattle.lay_down.proofs.sheet.front_fits.Goals as goal
 

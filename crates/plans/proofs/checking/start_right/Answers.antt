@@ -1,4 +1,4 @@
--- `plans::checking::start_right_lem` meets its contract. Assumes nothing.
+-- `plans::checking::start_right` meets its contract. Assumes nothing.
 use native.Mathlib.Omega.{arith}
 use Rattle.plans.proofs.CheckLaws.{start_odd, start_up, start_before, start_small, start_close, start_wide}
 use Rattle.plans.proofs.checking.start_right.Goals as goal

@@ -1,4 +1,4 @@
--- `squeeze::records::count_at_lem` meets its contract. Assumes nothing.
+-- `squeeze::records::count_at` meets its contract. Assumes nothing.
 use native.Mathlib.Omega.{arith}
 use Rattle.geometry.proofs.TileLaws.{product}
 use Rattle.squeeze.proofs.DirectoryLaws.{count_is}
