@@ -1,0 +1,6 @@
+-- `gvrs_c::correction::gvrs_close_page_stopped` meets its contract. Assumes nothing.
+use Rattle.gvrs_c.proofs.ReportLaws.{stopped_handed}
+use Rattle.gvrs_c.proofs.correction.gvrs_close_page_stopped.Goals as goal
+
+pub returns : goal.returns
+returns c = let all_of = stopped_handed _ _ _ _ _ _ _ _ _ c.close_page_stopped-x.ensures.answer c.close_page_stopped-x.ensures.made c.close_page_stopped-x.ensures.buffer c.tell_stopped.ensures.number c.tell_stopped.ensures.numbers in record { number = all_of.0; numbers = all_of.1.0; buffer = all_of.1.1 }

@@ -1,0 +1,8 @@
+-- `gvrs_c::description::gvrs_page` meets its contract. Assumes nothing.
+use Rattle.store.specs.Description.{described_number}
+use Rattle.gvrs_c.specs.Description.{page_numbers}
+use Rattle.gvrs_c.proofs.DescriptionLaws.{list_told}
+use Rattle.gvrs_c.proofs.description.gvrs_page.Goals as goal
+
+pub returns : goal.returns
+returns c = let all_of = list_told described_number page_numbers _ _ _ _ _ _ c.describe-x.ensures c.page_numbers-numbers.ensures c.report_all.ensures c.described_number.ensures in record { number = all_of.0; told = all_of.1 }

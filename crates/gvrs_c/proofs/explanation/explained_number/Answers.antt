@@ -1,0 +1,7 @@
+-- `gvrs_c::explanation::explained_number` meets its contract. Assumes nothing.
+use borrow.Author.Rules.{rules}
+use Rattle.gvrs_c.proofs.ExplanationLaws.{number_refused}
+use Rattle.gvrs_c.proofs.explanation.explained_number.Goals as goal
+
+pub returns-in-Refused : goal.returns-in-Refused
+returns-in-Refused c = search (rules, number_refused)

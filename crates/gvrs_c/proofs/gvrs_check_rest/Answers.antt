@@ -1,0 +1,6 @@
+-- `gvrs_c::gvrs_check_rest` meets its contract. Assumes nothing.
+use Rattle.gvrs_c.proofs.ReportLaws.{checked}
+use Rattle.gvrs_c.proofs.gvrs_check_rest.Goals as goal
+
+pub returns : goal.returns
+returns c = let all_of = checked _ _ _ _ _ _ c.check_rest-verdict.ensures.whole c.verdict_place.ensures c.report.ensures c.verdict_number.ensures in record { number = all_of.0; place = all_of.1 }
