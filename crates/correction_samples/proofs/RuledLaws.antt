@@ -52,4 +52,4 @@ use Rattle.correction_samples.specs.Ruled.{RuledSo}
 
 pub ruled_so : RuledSo
 unfolding advance all_below attach block_at block_size body_fault body_right byte_at bytes_of carries cell_size chain_fault check check_directories check_from_records check_header check_records checksum_at checksum_fault checksum_for checksum_of checksum_right cleared closed compact_of content_length_at count_below crc_bit crc_byte crc_of crc_over crc_part data_type description_at directories_open directories_right directory_form directory_full directory_of element element_bytes element_name element_packing element_right elements_right end_of end_right entries_read entry_at entry_count entry_end entry_start entry_texts every fields_end file_space_at file_space_right fill_bits fill_offset find find_not first_two first_wrong five_rules following form_right frame_right free_count free_entry_at free_entry_is free_entry_of free_fits free_listed free_not_empty free_only free_record freed_of freeing full_directory gate gives_tile goes_on header_end header_right identified identifier ids_named in_rectangle in_span index_right is_free is_named is_opened is_there join_free keys_distinct label_at last_byte least_length length_right letter listed_once mark metadata_at metadata_count metadata_description_at metadata_directory_right metadata_end metadata_entry_at metadata_entry_end metadata_entry_is metadata_entry_of metadata_entry_size metadata_fits metadata_length metadata_listed metadata_name metadata_only metadata_right method_count methods_at name_byte name_bytes names_differ never next_two no_file_space no_other nothing_else nothing_to_join number number_at number_of octet one_if open_for_writing opened_fields opened_front opened_more opened_page opened_reference options_right other_id packing_of padded page_says part passes piece_at pieces pieces_of positive product_label_at put record_head record_id record_id_at record_length record_limit record_of record_ok records records_end records_named records_of records_right rectangle_right reference_at reference_bytes reference_from reference_of reference_size references_end references_of referred_to referring refers_or_zero refers_to removed_page removed_pieces resealed right_of rows rule_said same_bytes same_key score_rule sealed sealed_front section_at section_end section_length section_packing section_right select sides_right sides_within some span_right stages starts starts_go stored_size string_end string_size string_text sum_below summed_bytes tail tail_right text_right tile_bytes tile_count tile_directory_at tile_directory_right tile_end tile_index tile_referred tile_right tiles_across tiles_along tiles_down tiles_in tiles_listed tiles_only unclosed uncompressed unit_at unless unless_refused unwanted utf8 version_right with_reference within within_ceilings zeros
-ruled_so = record { accepted = refl; ids = refl; other_case_lem = refl; says = refl; kept = refl; kept_open = refl }
+ruled_so = record { accepted = refl; ids = refl; other_case = refl; says = refl; kept = refl; kept_open = refl }

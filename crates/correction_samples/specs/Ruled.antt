@@ -35,7 +35,7 @@ ruled_file = front_with (eight 32 2) 5 0 no_space at408 ++ cells_tile 0 ++ direc
 pub record RuledSo : Type 0 where
   pub accepted : check ruled_file ≡ Accepted
   pub ids : ids_named ruled_file score_rule ≡ 2 ∷ []
-  pub other_case_lem : ids_named ruled_file (rule_name 83) ≡ 3 ∷ []
+  pub other_case : ids_named ruled_file (rule_name 83) ≡ 3 ∷ []
   pub says : page_says ruled_file ≡ Second
   -- opened, and tile 0 removed: the metadata stays, byte for byte
   pub kept :

@@ -69,4 +69,4 @@ told_so =
     }
 
 pub numbered : Numbered
-numbered = record { check_stages_lem = refl; others = refl; check_places = refl; other_places = refl }
+numbered = record { check_stages = refl; others = refl; check_places = refl; other_places = refl }

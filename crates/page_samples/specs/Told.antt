@@ -64,7 +64,7 @@ pub record ToldSo : Type 0 where
 
 -- the numbers of the refusals and their places: that of stages 6 to 8, 11 and 14 is given, that of stage 9 is 16, any other is 0
 pub record Numbered : Type 0 where
-  pub check_stages_lem :
+  pub check_stages :
       map refusal_number
       (refusal.Identification ∷ refusal.Version ∷ refusal.Header ∷ refusal.Ceiling ∷ refusal.Opened ∷ refusal.Chain 40 ∷ refusal.Checksum 40 ∷ refusal.Body 40
       ∷ refusal.Directory ∷ [])
