@@ -64,12 +64,12 @@ static void show_method(uint64_t number, const uint64_t *method) {
     put_text(page.bytes + method[0], method[1]);
 }
 
-/* Up to four methods, each with as much of its name as 32 plain characters hold. */
+/* Where reasons are wanted, up to four methods too, each with as much of its name as 32 plain characters hold. */
 const char *compressor_note(const struct page *of) {
     static char note[400];
     uint64_t out[2] = {0, 0};
     int at = snprintf(note, sizeof note, "--compressor N unpacks that of the index N, but for Floats");
-    if (gvrs_methods(of->bytes, of->n, 0, numbers, 4 * METHOD, out, 2) != GVRS_ACCEPTED)
+    if (!why_wanted || gvrs_methods(of->bytes, of->n, 0, numbers, 4 * METHOD, out, 2) != GVRS_ACCEPTED)
         return note;
     for (uint64_t i = 0; i < out[0]; i++) {
         uint64_t n = 0;

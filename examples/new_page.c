@@ -1,9 +1,10 @@
-/* examples/new_page.c: makes a page from nothing, with one tile, reads a cell of it, and judges the scores of the tile and of the page.
+/* examples/new_page.c: makes a page from nothing, with one tile, and reads a cell of it; with `judge` it judges scores too.
 
        gcc -std=c11 -Wall -Wextra -Werror -Iinclude examples/new_page.c crates/gvrs_c/out/libgvrs_c.a -o new_page
-       ./new_page NEW */
+       ./new_page NEW [judge] */
 #include <inttypes.h>
 #include <stdio.h>
+#include <string.h>
 #include "gvrs.h"
 
 static int refused(const char *what, uint32_t number, uint64_t place) {
@@ -36,12 +37,15 @@ int main(int argc, char **argv) {
         return refused("front", number, n);
     if ((number = gvrs_lay_down(front, n, 1, &tile, 1, (const uint8_t *)&cells, sizeof cells, file, sizeof file, &n, 1)) != GVRS_ACCEPTED)
         return refused("lay-down", number, n);
-    FILE *stream = argc == 2 ? fopen(argv[1], "wbx") : NULL;
+    int judges = argc == 3 && strcmp(argv[2], "judge") == 0;
+    FILE *stream = argc == 2 || judges ? fopen(argv[1], "wbx") : NULL;
     if (stream == NULL || fwrite(file, 1, n, stream) != n || fclose(stream) != 0)
         return fprintf(stderr, "new_page: a new file is needed that can be written: new_page NEW\n"), 2;
     number = gvrs_cell(file, n, 3, 4, 1, GVRS_BY_DIRECTORY, cell, 3);
     printf("%" PRIu64 " bytes; cell (3, 4) of score: %s %" PRIu64 "\n", n, number == GVRS_STORED ? "stored" : "not stored", cell[1]);
-    judge("tile 3", file, n, 2, 3, 2, 3);
-    judge("page", file, n, 0, 0, 4, 6);
+    if (judges) {
+        judge("tile 3", file, n, 2, 3, 2, 3);
+        judge("page", file, n, 0, 0, 4, 6);
+    }
     return 0;
 }

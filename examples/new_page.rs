@@ -1,7 +1,7 @@
-// examples/new_page.rs: makes a page from nothing, with one tile, reads a cell of it, and judges the scores of the tile and of the page.
+// examples/new_page.rs: makes a page from nothing, with one tile, and reads a cell of it; with `judge` it judges scores too.
 //
 //     rustc -O examples/new_page.rs -L crates/gvrs_c/out -l static=gvrs_c -o new_page
-//     ./new_page NEW
+//     ./new_page NEW [judge]
 use std::{env, fs, process};
 
 #[path = "../gvrs-sys/src/lib.rs"]
@@ -37,6 +37,8 @@ fn main() {
     fs::write(&name, file).expect(&name);
     let kind = gvrs::cell(file, 3, 4, 1, gvrs::BY_DIRECTORY, &mut cell);
     println!("{} bytes; cell (3, 4) of score: {} {}", file.len(), if kind == gvrs::STORED { "stored" } else { "not stored" }, cell[1]);
-    println!("tile 3: {}", judged(file, 2, 3, 2, 3));
-    println!("page: {}", judged(file, 0, 0, 4, 6));
+    if env::args().nth(2).as_deref() == Some("judge") {
+        println!("tile 3: {}", judged(file, 2, 3, 2, 3));
+        println!("page: {}", judged(file, 0, 0, 4, 6));
+    }
 }

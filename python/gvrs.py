@@ -3,8 +3,8 @@ Score sheets and correction logs too.
 
 >>> import gvrs
 >>> page = gvrs.Page("page.gvrs", check=True)  # raises Refused where the check refuses the file
->>> page
-<gvrs.Page 'page.gvrs': 3 by 3 cells in tiles of 2 by 2, 1 of 4 stored: z>
+>>> page.in_full
+'page.gvrs: 3 by 3 cells in tiles of 2 by 2, 1 of 4 stored: z'
 >>> page["z"][2, 0:2]                    # numbers, which are stored
 [11, 12]
 >>> page["z"][0, 0]                      # nothing is stored there: a Fill, which is no number
@@ -1245,13 +1245,22 @@ class Page(Mapping[str, "Raster"]):
     def __repr__(self) -> str:
         if self.closed:
             return "<gvrs.Page, closed>"
-        name = f" {self._path!r}" if self._path is not None else f" of {len(self.file)} bytes"
+        return f"<gvrs.Page of {len(self.file)} bytes>"
+
+    @property
+    def in_full(self) -> str:
+        """The page's file, sides, stored tiles and elements in a line, or by what it is refused.
+
+        >>> gvrs.Page("page.gvrs").in_full
+        'page.gvrs: 3 by 3 cells in tiles of 2 by 2, 1 of 4 stored: z'
+        """
+        name = os.fsdecode(self._path) if self._path is not None else f"{len(self.file)} bytes"
         try:
             is_ = self.shape
         except Refused as refused:
-            return f"<gvrs.Page{name}: refused {refused.number} at {refused.place}>"
+            return f"{name}: refused {refused.number} at {refused.place}"
         sides = f"{is_.rows} by {is_.columns} cells in tiles of {is_.tile_rows} by {is_.tile_columns}"
-        return f"<gvrs.Page{name}: {sides}, {is_.stored_tiles} of {is_.tiles_down * is_.tiles_across} stored: {', '.join(self)}>"
+        return f"{name}: {sides}, {is_.stored_tiles} of {is_.tiles_down * is_.tiles_across} stored: {', '.join(self)}"
 
 
 def _under(element: Element, under: Number | None) -> Number:

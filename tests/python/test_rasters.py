@@ -58,7 +58,8 @@ class Opening(Tests):
 
     def test_looked_at(self):
         bad = page("refused-7")
-        self.assertEqual(repr(bad), f"<gvrs.Page {str(PAGES / 'refused-7.gvrs')!r}: refused 7 at 376>")
+        self.assertEqual(repr(bad), f"<gvrs.Page of {len(bad.file)} bytes>")
+        self.assertEqual(bad.in_full, f"{PAGES / 'refused-7.gvrs'}: refused 7 at 376")
         self.assertEqual(bad.file, (PAGES / "refused-7.gvrs").read_bytes())
         for ask in (lambda: bad["z"], lambda: list(bad), lambda: len(bad), lambda: "z" in bad, lambda: bad.cells(0), lambda: bad.methods):
             self.assertRefused(7, 376, ask)
@@ -141,9 +142,9 @@ class Opening(Tests):
         asked = page("page")
         self.assertEqual(asked.filename, str(PAGES / "page.gvrs"))
         sides = "3 by 3 cells in tiles of 2 by 2, 1 of 4 stored: z"
-        self.assertEqual(repr(asked), f"<gvrs.Page {asked.filename!r}: {sides}>")
+        self.assertEqual((repr(asked), asked.in_full), ("<gvrs.Page of 424 bytes>", f"{asked.filename}: {sides}"))
         of_bytes = Page.of_bytes(asked.file)
-        self.assertEqual((of_bytes.filename, repr(of_bytes)), (None, f"<gvrs.Page of 424 bytes: {sides}>"))
+        self.assertEqual((of_bytes.filename, repr(of_bytes), of_bytes.in_full), (None, "<gvrs.Page of 424 bytes>", f"424 bytes: {sides}"))
         self.assertEqual(asked.front, asked.file[:336])
 
 
