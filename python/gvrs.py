@@ -1996,7 +1996,7 @@ def front(
     376
     >>> gvrs.front(4, 6, 2, 3, [("score_", "Short", -1)])
     Traceback (most recent call last):
-    gvrs.Refused: refused 3 at 0: header record at fault: ...
+    gvrs.Refused: refused 3 at 0: header record at fault
     """
     names = ("rows", "columns", "tile_rows", "tile_columns")
     sides = [_number(side, 2**31 - 1, name) for side, name in zip((rows, columns, tile_rows, tile_columns), names)]
