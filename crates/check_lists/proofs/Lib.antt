@@ -4,6 +4,7 @@ pub mod ListLaws
 pub mod FirstLaws
 pub mod FindLaws
 pub mod WindowLaws
+pub mod RightLaws
 pub mod StageLaws
 pub mod RearrangedLaws
 pub mod EmptyLaws

@@ -190,7 +190,7 @@ tallied_each s l base cs j h i z (suc k) = go (list_entry_of s l (base + 8 * j) 
         rw (← add-one k) (count_stay k (list_entry_is s l (base + 8 * j)) (entry_is s l (base + 8 * j) k ∙ e)) in
         rw n (note_other (tallied s l base cs k) (slot_of s l base (list_entry_at s l k)) j (λ g. f (sym g)) ∙ r)
 
-counts_length : (s : List ℕ) (l : ListKind) (base : ℕ) → length (window_counts s l base) ≡ window_places
+pub counts_length : (s : List ℕ) (l : ListKind) (base : ℕ) → length (window_counts s l base) ≡ window_places
 unfolding window_counts
 counts_length s l base = tallied_length s l base (replicate window_places 0) (list_count s l) ∙ length-replicate {A = ℕ} window_places 0
 
@@ -271,7 +271,7 @@ module _ (s : List ℕ) (l : ListKind) (base x : ℕ) (f : base ≤ x) (h : x < 
       let j : base + 8 * ((x - base) / 8) ≡ x = omega arith in
       counts_each s l base ((x - base) / 8) (omega arith) ∙ rw j
 
-  not_one_same : count_not_one base (window_counts s l base) x ≡ not (eqb (count_below (list_count s l) (list_entry_is s l x)) 1)
+  pub not_one_same : count_not_one base (window_counts s l base) x ≡ not (eqb (count_below (list_count s l) (list_entry_is s l x)) 1)
   unfolding count_not_one
   not_one_same =
       iff (count_not_one base (window_counts s l base) x) (not (eqb (count_below (list_count s l) (list_entry_is s l x)) 1))
@@ -281,7 +281,7 @@ module _ (s : List ℕ) (l : ListKind) (base x : ℕ) (f : base ≤ x) (h : x < 
       let o = eqb-false (count_below (list_count s l) (list_entry_is s l x)) 1 (not-true _ z) in
       sym (yes _ (f, (omega arith, ((λ k. o (two_one _ (sym count_at_lem ∙ k))), tt)))))
 
-not_one_before : (s : List ℕ) (l : ListKind) (base x : ℕ) → x < base → count_not_one base (window_counts s l base) x ≡ false
+pub not_one_before : (s : List ℕ) (l : ListKind) (base x : ℕ) → x < base → count_not_one base (window_counts s l base) x ≡ false
 unfolding count_not_one
 not_one_before s l base x h = sym (no _ (λ z. omega (arith, z.0)))
 

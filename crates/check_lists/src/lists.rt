@@ -12,7 +12,7 @@ ghost use Rattle.std.specs.Prelude.{◌≡◌, true, ◌+◌, ◌≤◌, ◌<◌
 ghost use Rattle.record.specs.Record.{type_at};
 ghost use Rattle.record.specs.Chain.{first_record, header_end};
 ghost use Rattle.header.specs.Element.{longest_string};
-ghost use Rattle.check_lists.specs.inner.Windows.{named_by, slot_of, one_more, noted, tallied, not_once_in, window_counts};
+ghost use Rattle.check_lists.specs.inner.Windows.{named_by, slot_of, one_more, noted, tallied, not_once_in, window_counts, window_right};
 ghost use Rattle.check_lists.specs.Listed.{listed_once};
 ghost use Rattle.check_lists.specs.inner.Search.{listed_kind, list_count, list_fits, list_entry_at, list_entry_of, list_entry_is, list_entry_size, list_right, not_listed_once, first_unlisted};
 
@@ -234,13 +234,29 @@ pub fn first_unlisted(s: &[u8], list: ListKind) -> Found
     Found::Nothing
 }
 
-// Every record of the list's type is listed once.
+// Every record of the list's type that starts in the window is listed once.
+fn window_right(s: &[u8], list: ListKind, base: usize) -> bool
+    requires { list_fits s.now list ≡ true }
+    ensures { result ≡ window_right s.now list base }
+{
+    if let Found::At(_) = find_in_window(s, list, base) {
+        return false;
+    }
+    true
+}
+
+// Every record of the list's type is listed once. The file is judged a window at a time.
 fn listed_once(s: &[u8], list: ListKind) -> bool
     requires { list_fits s.now list ≡ true }
     ensures { result ≡ listed_once s.now (listed_kind list) (list_count s.now list) (list_entry_is s.now list) }
 {
-    if let Found::At(_) = find_unlisted(s, list) {
-        return false;
+    let mut base = chain::header_end(s);
+    while base < s.len() {
+        if window_right(s, list, base) {
+            base += WINDOW_BYTES;
+        } else {
+            return false;
+        }
     }
     true
 }

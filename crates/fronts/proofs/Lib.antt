@@ -9,3 +9,4 @@ pub mod CountLaws
 pub mod BodyLaws
 pub mod JudgeLaws
 pub mod GivenLaws
+pub mod Samples

@@ -1,13 +1,17 @@
 -- `check_lists::lists::listed_once` meets its contract. Assumes nothing.
-use mathlib.Core.Path.{sym, ap, ◌∙◌}
-use mathlib.Core.Bool.{not}
-use Rattle.record.proofs.FindLaws.{is_found}
-use Rattle.record.specs.declared.Found.{Found}
-use Rattle.check_lists.proofs.FindLaws.{once_found}
+use borrow.Author.Rules.{rules}
+use Rattle.check_lists.proofs.WindowLaws.{passed_begin}
+use Rattle.check_lists.proofs.RightLaws.{passed_more, passed_not, passed_all}
 use Rattle.check_lists.proofs.lists.listed_once.Goals as goal
 
-pub returns-in-At : goal.returns-in-At
-returns-in-At c = ap (λ (z : Found). not (is_found z)) (sym c.in-At.is) ∙ once_found _ _ _ c.find_unlisted.ensures
+pub loop-base-init : goal.loop-base-init
+loop-base-init c = search (rules, passed_begin)
+
+pub loop-base-preserved : goal.loop-base-preserved
+loop-base-preserved c = search (rules, passed_more)
+
+pub returns-else-window_right : goal.returns-else-window_right
+returns-else-window_right c = search (rules, passed_not)
 
 pub returns : goal.returns
-returns c = ap (λ (z : Found). not (is_found z)) (sym c.in_default.is) ∙ once_found _ _ _ c.find_unlisted.ensures
+returns c = search (rules, passed_all)
