@@ -1,4 +1,5 @@
 -- An edit of a page behind the same front, whole. Assumes nothing.
+use Rattle.std.specs.Prelude.{None}
 use Prim.Native.Nat.{ℕ, ◌+◌, ◌≤◌}
 use mathlib.Core.Path.{◌≡◌, refl, sym, ap, ap₂, ◌∙◌}
 use mathlib.Core.List.{List, [], ◌∷◌, ◌++◌, map}
@@ -11,7 +12,6 @@ use Rattle.wire.specs.Pick.{pick}
 use Rattle.wire.specs.Bytes.{Bytes, largest_integer}
 use Rattle.wire.proofs.ByteLaws.{part_before, number_before}
 use Rattle.wire.proofs.TestLaws.{no_true}
-use Rattle.record.specs.declared.Found.TheVariants.{Nothing}
 use Rattle.record.specs.Chain.{header_end, records, joined, starts_of, WellFormed}
 use Rattle.record.specs.Record.{type_at}
 use Rattle.record.proofs.ChainLaws.{joined_whole}
@@ -126,7 +126,7 @@ without_none p kind at (r ∷ rs) h = go (eqb (type_at r 0) kind) refl (without_
 
 -- the chain, and the header's own checksum
 
-pub chain_none : (f : List ℕ) → Front f → (rs : List (List ℕ)) → WellFormed rs → chain_fault (f ++ joined rs) ≡ Nothing
+pub chain_none : (f : List ℕ) → Front f → (rs : List (List ℕ)) → WellFormed rs → chain_fault (f ++ joined rs) ≡ None
 chain_none f w rs v = whole_chain (f ++ joined rs) (starts_of (length f) rs) (rw (front_end w (joined rs)) (joined_whole f rs v))
 
 module _ (f : List ℕ) (w : Front f) (a b : List ℕ) where
@@ -153,15 +153,15 @@ module _ (f : List ℕ) (w : Front f) (a b : List ℕ) where
 
 -- stages 7 and 8 and the metadata rules, from pieces to others behind the same front
 module _ (f : List ℕ) (w : Front f) (rs qs : List (List ℕ)) (v : WellFormed rs) (u : WellFormed qs) where
-  body_alone : body_fault (f ++ joined rs) ≡ Nothing → AllAlone f Body rs
+  body_alone : body_fault (f ++ joined rs) ≡ None → AllAlone f Body rs
   unfolding body_fault
   body_alone b = wrong_none f w rs v Body b
 
-  pub body_to : (AllAlone f Body rs → AllAlone f Body qs) → body_fault (f ++ joined rs) ≡ Nothing → body_fault (f ++ joined qs) ≡ Nothing
+  pub body_to : (AllAlone f Body rs → AllAlone f Body qs) → body_fault (f ++ joined rs) ≡ None → body_fault (f ++ joined qs) ≡ None
   body_to k b = bodies f w qs u (k (body_alone b))
 
   pub checksum_to :
-      (AllAlone f Checksum rs → AllAlone f Checksum qs) → checksum_fault (f ++ joined rs) ≡ Nothing → checksum_fault (f ++ joined qs) ≡ Nothing
+      (AllAlone f Checksum rs → AllAlone f Checksum qs) → checksum_fault (f ++ joined rs) ≡ None → checksum_fault (f ++ joined qs) ≡ None
   unfolding checksum_fault right_of
   checksum_to k c =
       let h : checksum_right (f ++ joined rs) 16 ≡ true = here_right (f ++ joined rs) Checksum 16 (records (f ++ joined rs)) c in
@@ -169,7 +169,7 @@ module _ (f : List ℕ) (w : Front f) (rs qs : List (List ℕ)) (v : WellFormed 
       checksums f w qs u (sym (header_sum_same f w (joined rs) (joined qs)) ∙ h) (k a)
 
   pub metadata_to :
-      standing 1 (length f) rs ≡ standing 1 (length f) qs → standing 4 (length f) rs ≡ standing 4 (length f) qs → body_fault (f ++ joined rs) ≡ Nothing →
+      standing 1 (length f) rs ≡ standing 1 (length f) qs → standing 4 (length f) rs ≡ standing 4 (length f) qs → body_fault (f ++ joined rs) ≡ None →
       metadata_directory_right (f ++ joined rs) ≡ metadata_directory_right (f ++ joined qs)
   metadata_to a c b =
       standing_keeps f rs f qs

@@ -1,4 +1,5 @@
 -- Stages 7 and 8 of a page, piece by piece. Assumes nothing.
+use Rattle.std.specs.Prelude.{None, Option, Some}
 use Prim.Native.Nat.{ℕ, ◌+◌}
 use mathlib.Core.Path.{◌≡◌, refl, sym, ap, ap₂, ◌∙◌}
 use mathlib.Core.List.{List, [], ◌∷◌, ◌++◌, append_assoc}
@@ -8,8 +9,6 @@ use lib.ListN.{length, length-append}
 use Rattle.wire.specs.Bytes.{part}
 use Rattle.wire.proofs.ByteLaws.{part_whole}
 use Rattle.wire.proofs.PlaceLaws.{Placed, placed_last, placed_number, placed_part}
-use Rattle.record.specs.declared.Found.{Found}
-use Rattle.record.specs.declared.Found.TheVariants.{At, Nothing}
 use Rattle.record.specs.Record.{length_at, record_ok}
 use Rattle.record.specs.Chain.{find, find_not, records, starts, Whole, joined, starts_of, WellFormed}
 use Rattle.record.proofs.ChainLaws.{ok_means, whole_starts, joined_whole}
@@ -56,10 +55,10 @@ pub none_here : (s : List ℕ) (rule : Rule) (x : ℕ) (xs : List ℕ) → right
 unfolding first_wrong find_not find
 none_here s rule x xs e = rw e
 
-found : {C : Type 0} {x : ℕ} {f : Found} → At x ≡ f → f ≡ Nothing → C
+found : {C : Type 0} {x : ℕ} {f : Option ℕ} → Some x ≡ f → f ≡ None → C
 found p q = let z : ◌≡◌ {A = ℕ} 0 1 = cc in absurd (omega arith)
 
-pub here_right : (s : List ℕ) (rule : Rule) (x : ℕ) (xs : List ℕ) → first_wrong s rule (x ∷ xs) ≡ Nothing → right_of s rule x ≡ true
+pub here_right : (s : List ℕ) (rule : Rule) (x : ℕ) (xs : List ℕ) → first_wrong s rule (x ∷ xs) ≡ None → right_of s rule x ≡ true
 unfolding first_wrong find_not find
 here_right s rule x xs e = go (right_of s rule x) refl
   where
@@ -82,7 +81,7 @@ pieces_joined t a (r ∷ rs) e v =
 
 module _ (f : List ℕ) (w : Front f) where
   taken :
-      (s : List ℕ) → SameHeader s f → (at : ℕ) (xs : List ℕ) → Whole s at xs → (rule : Rule) → first_wrong s rule xs ≡ Nothing →
+      (s : List ℕ) → SameHeader s f → (at : ℕ) (xs : List ℕ) → Whole s at xs → (rule : Rule) → first_wrong s rule xs ≡ None →
       AllAlone f rule (pieces_of s xs)
   unfolding pieces_of
   taken s h at [] c rule e = _
@@ -95,7 +94,7 @@ module _ (f : List ℕ) (w : Front f) where
   -- behind other records that are already there
   kept :
       (t : List ℕ) → SameHeader t f → (a : List ℕ) (rs : List (List ℕ)) → t ≡ a ++ joined rs → WellFormed rs → (rule : Rule) → AllAlone f rule rs →
-      first_wrong t rule (starts_of (length a) rs) ≡ Nothing
+      first_wrong t rule (starts_of (length a) rs) ≡ None
   unfolding first_wrong find_not find
   kept t h a [] e v rule k = refl
   kept t h a (r ∷ rs) e v rule k =
@@ -110,23 +109,23 @@ module _ (f : List ℕ) (w : Front f) where
   starts_are rs v = ap (starts (f ++ joined rs)) (front_end w (joined rs)) ∙ whole_starts _ _ _ (joined_whole f rs v)
 
   -- a page that passes has pieces that keep the rule
-  pub wrong_none : (rs : List (List ℕ)) → WellFormed rs → (rule : Rule) → first_wrong (f ++ joined rs) rule (records (f ++ joined rs)) ≡ Nothing → AllAlone f rule rs
+  pub wrong_none : (rs : List (List ℕ)) → WellFormed rs → (rule : Rule) → first_wrong (f ++ joined rs) rule (records (f ++ joined rs)) ≡ None → AllAlone f rule rs
   wrong_none rs v rule e =
       rw (pieces_joined (f ++ joined rs) f rs refl v) at
       (taken (f ++ joined rs) (header_sym (front_header w (joined rs))) (length f) (starts_of (length f) rs) (joined_whole f rs v) rule
       (ap (first_wrong (f ++ joined rs) rule) (sym (starts_are rs v)) ∙ e))
 
-  pub none_wrong : (rs : List (List ℕ)) → WellFormed rs → (rule : Rule) → AllAlone f rule rs → first_wrong (f ++ joined rs) rule (records (f ++ joined rs)) ≡ Nothing
+  pub none_wrong : (rs : List (List ℕ)) → WellFormed rs → (rule : Rule) → AllAlone f rule rs → first_wrong (f ++ joined rs) rule (records (f ++ joined rs)) ≡ None
   none_wrong rs v rule k =
       ap (first_wrong (f ++ joined rs) rule) (starts_are rs v)
       ∙ kept (f ++ joined rs) (header_sym (front_header w (joined rs))) f rs refl v rule k
 
   pub checksums :
-      (rs : List (List ℕ)) → WellFormed rs → checksum_right (f ++ joined rs) 16 ≡ true → AllAlone f Checksum rs → checksum_fault (f ++ joined rs) ≡ Nothing
+      (rs : List (List ℕ)) → WellFormed rs → checksum_right (f ++ joined rs) 16 ≡ true → AllAlone f Checksum rs → checksum_fault (f ++ joined rs) ≡ None
   unfolding checksum_fault right_of
   checksums rs v h k = none_here (f ++ joined rs) Checksum 16 (records (f ++ joined rs)) h ∙ none_wrong rs v Checksum k
 
-  pub bodies : (rs : List (List ℕ)) → WellFormed rs → AllAlone f Body rs → body_fault (f ++ joined rs) ≡ Nothing
+  pub bodies : (rs : List (List ℕ)) → WellFormed rs → AllAlone f Body rs → body_fault (f ++ joined rs) ≡ None
   unfolding body_fault
   bodies rs v k = none_wrong rs v Body k
 

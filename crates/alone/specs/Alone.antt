@@ -1,8 +1,7 @@
 -- Req 03: the rules of a record depend on its bytes and on a few fields of the header. It is said of two files in
 -- which the same record stands.
-use Rattle.std.specs.Prelude.{ℕ, ◌+◌, ◌≤◌, ◌<◌, ◌≡◌, List, ◌++◌, Bool, true, length}
+use Rattle.std.specs.Prelude.{ℕ, ◌+◌, ◌≤◌, ◌<◌, ◌≡◌, List, ◌++◌, Bool, true, length, None}
 use Rattle.wire.specs.Bytes.{part}
-use Rattle.record.specs.declared.Found.TheVariants.{Nothing}
 use Rattle.record.specs.Chain.{header_end, Whole, joined, WellFormed}
 use Rattle.record.specs.Record.{length_at, record_ok}
 use Rattle.header.specs.Fields.{checksum_enabled, element_count}
@@ -86,12 +85,12 @@ AllAlone f rule rs = AllOf (λ r. alone f rule r ≡ true) rs
 pub record PieceByPiece (f : List ℕ) : Type 0 where
   -- the pieces of a page that passes keep the rule
   pub taken :
-      (s : List ℕ) → SameHeader s f → (at : ℕ) (xs : List ℕ) → Whole s at xs → (rule : Rule) → first_wrong s rule xs ≡ Nothing →
+      (s : List ℕ) → SameHeader s f → (at : ℕ) (xs : List ℕ) → Whole s at xs → (rule : Rule) → first_wrong s rule xs ≡ None →
       AllAlone f rule (pieces_of s xs)
   -- and a page of pieces that keep it passes
   pub checksums :
-      (rs : List (List ℕ)) → WellFormed rs → checksum_right (f ++ joined rs) 16 ≡ true → AllAlone f Checksum rs → checksum_fault (f ++ joined rs) ≡ Nothing
-  pub bodies : (rs : List (List ℕ)) → WellFormed rs → AllAlone f Body rs → body_fault (f ++ joined rs) ≡ Nothing
+      (rs : List (List ℕ)) → WellFormed rs → checksum_right (f ++ joined rs) 16 ≡ true → AllAlone f Checksum rs → checksum_fault (f ++ joined rs) ≡ None
+  pub bodies : (rs : List (List ℕ)) → WellFormed rs → AllAlone f Body rs → body_fault (f ++ joined rs) ≡ None
 
 abbrev pub ByPieces : Type 0
 ByPieces = (f : List ℕ) → Front f → PieceByPiece f

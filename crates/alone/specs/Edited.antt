@@ -1,8 +1,7 @@
 -- Req 03, storing and removing a tile: an edit of a page behind the same front. Tile records are freed, new tile records are stored, one
 -- or none, and tile directories are changed in place.
-use Rattle.std.specs.Prelude.{ℕ, ◌≤◌, ◌≡◌, List, [], ◌∷◌, ◌++◌, map, Bool, true, length}
+use Rattle.std.specs.Prelude.{ℕ, ◌≤◌, ◌≡◌, List, [], ◌∷◌, ◌++◌, map, Bool, true, length, None}
 use Rattle.wire.specs.Bytes.{Bytes, largest_integer}
-use Rattle.record.specs.declared.Found.TheVariants.{Nothing}
 use Rattle.record.specs.Types.{free_type, tile_type, tile_directory_type}
 use Rattle.record.specs.Record.{length_at, type_at, record_ok}
 use Rattle.record.specs.Chain.{joined}
@@ -71,11 +70,11 @@ touched g q = (q.0, g q.1)
 -- as the placed ones
 pub record Keeps (f : List ℕ) (rs : List (List ℕ)) (flag : ℕ) (p : List ℕ → Bool) (vs : List (List ℕ)) (g : List ℕ → List ℕ) : Type 0 where
   pub pieces : AllOf Piece (edited flag p vs g rs)
-  pub chain : chain_fault (f ++ joined (edited flag p vs g rs)) ≡ Nothing
-  pub checksums : checksum_fault (f ++ joined rs) ≡ Nothing → checksum_fault (f ++ joined (edited flag p vs g rs)) ≡ Nothing
-  pub bodies : body_fault (f ++ joined rs) ≡ Nothing → body_fault (f ++ joined (edited flag p vs g rs)) ≡ Nothing
+  pub chain : chain_fault (f ++ joined (edited flag p vs g rs)) ≡ None
+  pub checksums : checksum_fault (f ++ joined rs) ≡ None → checksum_fault (f ++ joined (edited flag p vs g rs)) ≡ None
+  pub bodies : body_fault (f ++ joined rs) ≡ None → body_fault (f ++ joined (edited flag p vs g rs)) ≡ None
   pub metadata :
-      body_fault (f ++ joined rs) ≡ Nothing → metadata_directory_right (f ++ joined rs) ≡ metadata_directory_right (f ++ joined (edited flag p vs g rs))
+      body_fault (f ++ joined rs) ≡ None → metadata_directory_right (f ++ joined rs) ≡ metadata_directory_right (f ++ joined (edited flag p vs g rs))
   pub tiles :
       InsertedEach flag (length f) vs (freeing flag p rs) (without p (standing tile_type (length f) rs)) (standing tile_type (length f) (edited flag p vs g rs))
   pub directories : standing tile_directory_type (length f) (edited flag p vs g rs) ≡ map (touched g) (standing tile_directory_type (length f) rs)

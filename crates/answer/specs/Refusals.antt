@@ -1,11 +1,9 @@
 -- Document 01, 'Thirteen refusals': the number and the place of each. Document 02 adds 14, at the tile
 -- record, where compressed content is malformed (Req 01), 15, place 0, where a page is not open for writing (Req 03), and 16, place
 -- 0, where a stage needs a byte that is not given (Req 12).
-use Rattle.std.specs.Prelude.{ℕ, Bool, true, false}
+use Rattle.std.specs.Prelude.{ℕ, Bool, true, false, Err, Ok, Result, ⊤}
 use Rattle.answer.specs.declared.Refusal.{Refusal}
 use Rattle.answer.specs.declared.Refusal.TheVariants.{Identification, Version, Header, Ceiling, Opened, Chain, Checksum, Body, Directory, OutsideGrid, Compressed, Input, Room, Malformed, NotOpen, Incomplete}
-use Rattle.answer.specs.declared.Verdict.{Verdict}
-use Rattle.answer.specs.declared.Verdict.TheVariants.{Accepted, Refused}
 
 abbrev pub refusal_number : Refusal → ℕ
 refusal_number Identification = 1
@@ -44,20 +42,20 @@ refusal_place NotOpen = 0
 refusal_place Incomplete = 0
 
 -- a check's answer as a number, 0 where it accepts, and its place
-abbrev pub verdict_number : Verdict → ℕ
-verdict_number Accepted = 0
-verdict_number (Refused r) = refusal_number r
+abbrev pub verdict_number : Result ⊤ Refusal → ℕ
+verdict_number (Ok accepted) = 0
+verdict_number (Err r) = refusal_number r
 
-abbrev pub verdict_place : Verdict → ℕ
-verdict_place Accepted = 0
-verdict_place (Refused r) = refusal_place r
+abbrev pub verdict_place : Result ⊤ Refusal → ℕ
+verdict_place (Ok accepted) = 0
+verdict_place (Err r) = refusal_place r
 
 -- the answer v where the test holds, and else the refusal r; stages in their order are such choices, one within the other
-unfoldable pub gate : Bool → Refusal → Verdict → Verdict
+unfoldable pub gate : Bool → Refusal → Result ⊤ Refusal → Result ⊤ Refusal
 gate true r v = v
-gate false r v = Refused r
+gate false r v = Err r
 
 -- what comes behind where a check accepts, and else its refusal handed on, as the kind of answer that is asked for
-unfoldable pub unless_refused : {A : Type 0} → (Refusal → A) → Verdict → A → A
-unless_refused refused Accepted behind = behind
-unless_refused refused (Refused r) behind = refused r
+unfoldable pub unless_refused : {A : Type 0} → (Refusal → A) → Result ⊤ Refusal → A → A
+unless_refused refused (Ok accepted) behind = behind
+unless_refused refused (Err r) behind = refused r

@@ -33,13 +33,6 @@ pub enum Refusal {
     Incomplete,
 }
 
-// What a check answers.
-#[derive(Clone, Copy)]
-pub enum Verdict {
-    Accepted,
-    Refused(Refusal),
-}
-
 // A value of an element's type. The Float case has the f32 of the bit pattern, and the pattern itself, since the one
 // NaN of the language does not keep a NaN's bits.
 #[derive(Clone, Copy)]
@@ -74,23 +67,13 @@ pub enum Cell {
         place: usize,
         location: Location,
     },
-    Refused(Refusal),
 }
 
-// What is said of an element's content in a tile.
+// Where the content of an element lies in a tile's record.
 #[derive(Clone, Copy)]
-pub enum Content {
-    Present { start: usize, length: usize },
-    Absent,
-    Refused(Refusal),
-}
-
-// What is said of an element's name.
-#[derive(Clone, Copy)]
-pub enum Lookup {
-    Number(usize),
-    Absent,
-    Refused(Refusal),
+pub struct Extent {
+    pub start: usize,
+    pub length: usize,
 }
 
 // What is said of all cells of an element in a tile: where their content starts, stored or unpacked. Alone: it is compressed, and the
@@ -101,16 +84,9 @@ pub enum Held {
     Unpacked(usize),
     Absent,
     Alone,
-    Refused(Refusal),
 }
 
-// What a lay-down answers, and each call that corrects a page: the page's length, or the refusal.
-#[derive(Clone, Copy)]
-pub enum Laid {
-    Length(usize),
-    Refused(Refusal),
-}
-
+// Functions and no From: an answer gives several numbers (a kind, a place, a length), and a Result has no methods of this crate.
 // The papers' number of a refusal.
 pub fn refusal_number(r: Refusal) -> u32
     ensures { result ≡ refusal_number r }
@@ -140,41 +116,32 @@ pub fn refusal_place(r: Refusal) -> usize
     ensures { result ≡ refusal_place r }
 {
     match r {
-        Refusal::Chain(at) => at,
-        Refusal::Checksum(at) => at,
-        Refusal::Body(at) => at,
+        Refusal::Chain(at)
+        | Refusal::Checksum(at)
+        | Refusal::Body(at)
+        | Refusal::Compressed(at)
+        | Refusal::Malformed(at) => at,
         Refusal::Directory => 16,
-        Refusal::Compressed(at) => at,
-        Refusal::Malformed(at) => at,
-        Refusal::Identification => 0,
-        Refusal::Version => 0,
-        Refusal::Header => 0,
-        Refusal::Ceiling => 0,
-        Refusal::Opened => 0,
-        Refusal::OutsideGrid => 0,
-        Refusal::Input => 0,
-        Refusal::Room => 0,
-        Refusal::NotOpen => 0,
-        Refusal::Incomplete => 0,
+        _ => 0,
     }
 }
 
 // 0 where a check accepts, else the refusal's number.
-pub fn verdict_number(v: Verdict) -> u32
+pub fn verdict_number(v: Result<(), Refusal>) -> u32
     ensures { result ≡ verdict_number v }
 {
     match v {
-        Verdict::Accepted => 0,
-        Verdict::Refused(r) => refusal_number(r),
+        Ok(()) => 0,
+        Err(r) => refusal_number(r),
     }
 }
 
-pub fn verdict_place(v: Verdict) -> usize
+pub fn verdict_place(v: Result<(), Refusal>) -> usize
     ensures { result ≡ verdict_place v }
 {
     match v {
-        Verdict::Accepted => 0,
-        Verdict::Refused(r) => refusal_place(r),
+        Ok(()) => 0,
+        Err(r) => refusal_place(r),
     }
 }
 
@@ -192,56 +159,40 @@ fn float_of(bits: u32) -> f32
 fn signed_32(bits: u32) -> i32
     ensures { result ≡ to_z w32 bits }
 {
-    if bits < 0x8000_0000 {
-        return bits as i32;
-    }
-    0 - 1 - ((0xFFFF_FFFF - bits) as i32)
+    bits.cast_signed()
 }
 
 pub fn signed_16(bits: u16) -> i16
     ensures { result ≡ to_z w16 bits }
 {
-    if bits < 0x8000 {
-        return bits as i16;
-    }
-    0 - 1 - ((0xFFFF - bits) as i16)
+    bits.cast_signed()
 }
 
 fn bits_32(z: i32) -> u32
     ensures { result ≡ of_z w32 z }
 {
-    if 0 <= z {
-        return z as u32;
-    }
-    0xFFFF_FFFF - ((0 - 1 - z) as u32)
+    z.cast_unsigned()
 }
 
 pub fn bits_16(z: i16) -> u16
     ensures { result ≡ of_z w16 z }
 {
-    if 0 <= z {
-        return z as u16;
-    }
-    0xFFFF - ((0 - 1 - z) as u16)
+    z.cast_unsigned()
 }
 
-// The value of a bit pattern, by the element's type code.
+// The value of a bit pattern, by the element's type code. No enum for the code: header::Element says why.
 pub fn value_of(kind: u32, bits: u32) -> Value
     ensures { result ≡ value_of kind bits }
 {
-    if kind == 1 {
-        return Value::IntegerCoded(signed_32(bits));
-    }
-    if kind == 2 {
-        return Value::Float {
+    match kind {
+        1 => Value::IntegerCoded(signed_32(bits)),
+        2 => Value::Float {
             value: float_of(bits),
             bits,
-        };
+        },
+        3 => Value::Short(signed_16((bits % 65536) as u16)),
+        _ => Value::Integer(signed_32(bits)),
     }
-    if kind == 3 {
-        return Value::Short(signed_16((bits % 65536) as u16));
-    }
-    Value::Integer(signed_32(bits))
 }
 
 // A value's type code.
@@ -269,171 +220,168 @@ pub fn value_bits(v: Value) -> u32
 }
 
 // A cell answer's kind, type code, bits and place.
-pub fn cell_kind(x: Cell) -> u32
+pub fn cell_kind(x: Result<Cell, Refusal>) -> u32
     ensures { result ≡ cell_kind x }
 {
     match x {
-        Cell::Stored { .. } => 32,
-        Cell::Fill { .. } => 33,
-        Cell::Unpacked { .. } => 34,
-        Cell::Refused(r) => refusal_number(r),
+        Ok(Cell::Stored { .. }) => 32,
+        Ok(Cell::Fill { .. }) => 33,
+        Ok(Cell::Unpacked { .. }) => 34,
+        Err(r) => refusal_number(r),
     }
 }
 
-pub fn cell_type(x: Cell) -> u32
+pub fn cell_type(x: Result<Cell, Refusal>) -> u32
     ensures { result ≡ cell_type x }
 {
     match x {
-        Cell::Stored { value, .. } => value_type(value),
-        Cell::Fill { value, .. } => value_type(value),
-        Cell::Unpacked { value, .. } => value_type(value),
-        Cell::Refused(_) => 0,
+        Ok(Cell::Stored { value, .. }) => value_type(value),
+        Ok(Cell::Fill { value, .. }) => value_type(value),
+        Ok(Cell::Unpacked { value, .. }) => value_type(value),
+        Err(_) => 0,
     }
 }
 
-pub fn cell_bits(x: Cell) -> u32
+pub fn cell_bits(x: Result<Cell, Refusal>) -> u32
     ensures { result ≡ cell_bits x }
 {
     match x {
-        Cell::Stored { value, .. } => value_bits(value),
-        Cell::Fill { value, .. } => value_bits(value),
-        Cell::Unpacked { value, .. } => value_bits(value),
-        Cell::Refused(_) => 0,
+        Ok(Cell::Stored { value, .. }) => value_bits(value),
+        Ok(Cell::Fill { value, .. }) => value_bits(value),
+        Ok(Cell::Unpacked { value, .. }) => value_bits(value),
+        Err(_) => 0,
     }
 }
 
-pub fn cell_place(x: Cell) -> usize
+pub fn cell_place(x: Result<Cell, Refusal>) -> usize
     ensures { result ≡ cell_place x }
 {
     match x {
-        Cell::Stored { place, .. } => place,
-        Cell::Fill { .. } => 0,
-        Cell::Unpacked { place, .. } => place,
-        Cell::Refused(r) => refusal_place(r),
+        Ok(Cell::Stored { place, .. }) => place,
+        Ok(Cell::Fill { .. }) => 0,
+        Ok(Cell::Unpacked { place, .. }) => place,
+        Err(r) => refusal_place(r),
     }
 }
 
 // A cell answer's refusal as a check's; accepted where it is none.
-pub fn cell_verdict(x: Cell) -> Verdict
+pub fn cell_verdict(x: Result<Cell, Refusal>) -> Result<(), Refusal>
     ensures { result ≡ cell_verdict x }
 {
     match x {
-        Cell::Stored { .. } => Verdict::Accepted,
-        Cell::Fill { .. } => Verdict::Accepted,
-        Cell::Unpacked { .. } => Verdict::Accepted,
-        Cell::Refused(r) => Verdict::Refused(r),
+        Ok(Cell::Stored { .. }) => Ok(()),
+        Ok(Cell::Fill { .. }) => Ok(()),
+        Ok(Cell::Unpacked { .. }) => Ok(()),
+        Err(r) => Err(r),
     }
 }
 
 // The index of a cell's tile and its number inside the tile; 0 and 0 of a refusal.
-pub fn cell_tile(x: Cell) -> u64
+pub fn cell_tile(x: Result<Cell, Refusal>) -> u64
     ensures { result ≡ answer_tile x }
 {
     match x {
-        Cell::Stored { location, .. } => location.tile,
-        Cell::Fill { location, .. } => location.tile,
-        Cell::Unpacked { location, .. } => location.tile,
-        Cell::Refused(_) => 0,
+        Ok(Cell::Stored { location, .. }) => location.tile,
+        Ok(Cell::Fill { location, .. }) => location.tile,
+        Ok(Cell::Unpacked { location, .. }) => location.tile,
+        Err(_) => 0,
     }
 }
 
-pub fn cell_inside(x: Cell) -> u64
+pub fn cell_inside(x: Result<Cell, Refusal>) -> u64
     ensures { result ≡ answer_inside x }
 {
     match x {
-        Cell::Stored { location, .. } => location.inside,
-        Cell::Fill { location, .. } => location.inside,
-        Cell::Unpacked { location, .. } => location.inside,
-        Cell::Refused(_) => 0,
+        Ok(Cell::Stored { location, .. }) => location.inside,
+        Ok(Cell::Fill { location, .. }) => location.inside,
+        Ok(Cell::Unpacked { location, .. }) => location.inside,
+        Err(_) => 0,
     }
 }
 
 // A content answer's kind, place and length.
-pub fn content_kind(x: Content) -> u32
+pub fn content_kind(x: Result<Option<Extent>, Refusal>) -> u32
     ensures { result ≡ content_kind x }
 {
     match x {
-        Content::Present {
-            start: _,
-            length: _,
-        } => 32,
-        Content::Absent => 33,
-        Content::Refused(r) => refusal_number(r),
+        Ok(Some(_)) => 32,
+        Ok(None) => 33,
+        Err(r) => refusal_number(r),
     }
 }
 
-pub fn content_place(x: Content) -> usize
+pub fn content_place(x: Result<Option<Extent>, Refusal>) -> usize
     ensures { result ≡ content_place x }
 {
     match x {
-        Content::Present { start, length: _ } => start,
-        Content::Absent => 0,
-        Content::Refused(r) => refusal_place(r),
+        Ok(Some(x)) => x.start,
+        Ok(None) => 0,
+        Err(r) => refusal_place(r),
     }
 }
 
-pub fn content_length(x: Content) -> usize
+pub fn content_length(x: Result<Option<Extent>, Refusal>) -> usize
     ensures { result ≡ content_length x }
 {
     match x {
-        Content::Present { start: _, length } => length,
-        Content::Absent => 0,
-        Content::Refused(_) => 0,
+        Ok(Some(x)) => x.length,
+        Ok(None) => 0,
+        Err(_) => 0,
     }
 }
 
 // A look-up answer's kind, and its number or place.
-pub fn lookup_kind(x: Lookup) -> u32
+pub fn lookup_kind(x: Result<Option<usize>, Refusal>) -> u32
     ensures { result ≡ lookup_kind x }
 {
     match x {
-        Lookup::Number(_) => 32,
-        Lookup::Absent => 33,
-        Lookup::Refused(r) => refusal_number(r),
+        Ok(Some(_)) => 32,
+        Ok(None) => 33,
+        Err(r) => refusal_number(r),
     }
 }
 
-pub fn lookup_number(x: Lookup) -> usize
+pub fn lookup_number(x: Result<Option<usize>, Refusal>) -> usize
     ensures { result ≡ lookup_number x }
 {
     match x {
-        Lookup::Number(e) => e,
-        Lookup::Absent => 0,
-        Lookup::Refused(r) => refusal_place(r),
+        Ok(Some(e)) => e,
+        Ok(None) => 0,
+        Err(r) => refusal_place(r),
     }
 }
 
 // The kind and place of an answer about all cells of an element in a tile.
-pub fn held_kind(x: Held) -> u32
+pub fn held_kind(x: Result<Held, Refusal>) -> u32
     ensures { result ≡ held_kind x }
 {
     match x {
-        Held::Stored(_) => 32,
-        Held::Unpacked(_) => 34,
-        Held::Absent => 33,
-        Held::Alone => 0,
-        Held::Refused(r) => refusal_number(r),
+        Ok(Held::Stored(_)) => 32,
+        Ok(Held::Unpacked(_)) => 34,
+        Ok(Held::Absent) => 33,
+        Ok(Held::Alone) => 0,
+        Err(r) => refusal_number(r),
     }
 }
 
-pub fn held_place(x: Held) -> usize
+pub fn held_place(x: Result<Held, Refusal>) -> usize
     ensures { result ≡ held_place x }
 {
     match x {
-        Held::Stored(at) => at,
-        Held::Unpacked(at) => at,
-        Held::Absent => 0,
-        Held::Alone => 0,
-        Held::Refused(r) => refusal_place(r),
+        Ok(Held::Stored(at)) => at,
+        Ok(Held::Unpacked(at)) => at,
+        Ok(Held::Absent) => 0,
+        Ok(Held::Alone) => 0,
+        Err(r) => refusal_place(r),
     }
 }
 
 // A lay-down answer's number, length and place.
-pub fn laid_number(x: Laid) -> u32
+pub fn laid_number(x: Result<usize, Refusal>) -> u32
     ensures { result ≡ laid_number x }
 {
     match x {
-        Laid::Length(_) => 0,
-        Laid::Refused(r) => refusal_number(r),
+        Ok(_) => 0,
+        Err(r) => refusal_number(r),
     }
 }

@@ -14,7 +14,7 @@ fn section_end(s: &[u8], p: usize) -> usize
     p + sizes::stored_size(wire::u32_at(s, p)) as usize
 }
 
-// Where the section of element e of the tile record at a position starts.
+// Where the section of element e of the tile record at a position starts. It counts down: its definition takes how many are left.
 fn section_at(s: &[u8], at: usize, e: u32) -> usize
     requires { at < length s.now }
     ensures is { result ≡ section_at s.now at e }

@@ -1,4 +1,5 @@
 -- The calls: where they are judged, their byte stores leave what is to be left. Assumes nothing.
+use Rattle.std.specs.Prelude.{Err, Ok, Result, ⊤}
 use Prim.Native.Nat.{ℕ, ◌-◌, ◌≤◌, ◌<◌}
 use mathlib.Core.Path.{◌≡◌, refl, sym, ap, ◌∙◌}
 use mathlib.Core.List.{List}
@@ -6,10 +7,6 @@ use mathlib.Core.Bool.{true}
 use native.Mathlib.Omega.{arith}
 use Rattle.wire.specs.Bytes.{Bytes}
 use Rattle.answer.specs.declared.Refusal.{Refusal}
-use Rattle.answer.specs.declared.Verdict.{Verdict}
-use Rattle.answer.specs.declared.Verdict.TheVariants as verdict
-use Rattle.answer.specs.declared.Laid.{Laid}
-use Rattle.answer.specs.declared.Laid.TheVariants.{Length, Refused}
 use Rattle.answer.specs.Refusals.{unless_refused}
 use Rattle.answer.specs.Answers.{written}
 use Rattle.answer.proofs.VerdictLaws.{gate_passed}
@@ -29,48 +26,48 @@ use Rattle.calls.proofs.ReadLaws.{worked_of}
 
 -- a call that stops after k byte stores: its answer, the number of stores, the buffer
 
-abbrev pub Stops : ℕ → Change → List ℕ → Laid → ℕ → List ℕ → Type 0
+abbrev pub Stops : ℕ → Change → List ℕ → Result ℕ Refusal → ℕ → List ℕ → Type 0
 Stops k c b a made l = (a ≡ answer_by c) × ((made ≡ made_by k c) × (l ≡ stopped_by k c b))
 
 module _ (k : ℕ) (c : Change) (b : List ℕ) where
-  refused_by_lem : (r : Refusal) → c.verdict ≡ verdict.Refused r → Stops k c b (Refused r) 0 b
+  refused_by_lem : (r : Refusal) → c.verdict ≡ Err r → Stops k c b (Err r) 0 b
   unfolding answer_by stores_by stopped_by made_by answered unless_refused store_count stopped cut run
   refused_by_lem r e = rw e (refl, (omega arith, refl))
 
   made_by_lem :
-      {m left : ℕ} {l : List ℕ} → c.verdict ≡ verdict.Accepted → m ≡ c.long → left ≡ k - store_count c.writes → l ≡ stopped k c.writes b →
-      Stops k c b (Length m) (k - left) l
+      {m left : ℕ} {l : List ℕ} → c.verdict ≡ Ok tt → m ≡ c.long → left ≡ k - store_count c.writes → l ≡ stopped k c.writes b →
+      Stops k c b (Ok m) (k - left) l
   unfolding answer_by stores_by stopped_by made_by answered unless_refused
-  made_by_lem e f g h = rw e (ap Length f, (omega arith, h))
+  made_by_lem e f g h = rw e (ap Ok f, (omega arith, h))
 
   -- by what judging answers
-  module _ {a : Laid} (e : a ≡ answer_by c) where
-    told_refused : (r : Refusal) → a ≡ Refused r → c.verdict ≡ verdict.Refused r
+  module _ {a : Result ℕ Refusal} (e : a ≡ answer_by c) where
+    told_refused : (r : Refusal) → a ≡ Err r → c.verdict ≡ Err r
     unfolding answer_by
     told_refused r f = answer_refused c.verdict c.long r (sym e ∙ f)
 
-    told_passed : (m : ℕ) → a ≡ Length m → (c.verdict ≡ verdict.Accepted) × (c.long ≡ m)
+    told_passed : (m : ℕ) → a ≡ Ok m → (c.verdict ≡ Ok tt) × (c.long ≡ m)
     unfolding answer_by
     told_passed m f = answer_passed c.verdict c.long m (sym e ∙ f)
 
-    pub on_refused : (r : Refusal) → a ≡ Refused r → Stops k c b (Refused r) 0 b
+    pub on_refused : (r : Refusal) → a ≡ Err r → Stops k c b (Err r) 0 b
     on_refused r f = refused_by_lem r (told_refused r f)
 
-    pub on_made : (m : ℕ) {left : ℕ} {l : List ℕ} → a ≡ Length m → left ≡ k - store_count c.writes → l ≡ stopped k c.writes b → Stops k c b (Length m) (k - left) l
+    pub on_made : (m : ℕ) {left : ℕ} {l : List ℕ} → a ≡ Ok m → left ≡ k - store_count c.writes → l ≡ stopped k c.writes b → Stops k c b (Ok m) (k - left) l
     on_made m f g h = let p = told_passed m f in made_by_lem p.0 (sym p.1) g h
 
 -- on a page that is taken to be as the call wants it
 
 module _ (call : Call) (b : List ℕ) (n : ℕ) where
-  on_passed : (change_on call b n).verdict ≡ verdict.Accepted → (workable (page_in b n) ≡ true) × ((line_of call b (page_in b n)).verdict ≡ verdict.Accepted)
+  on_passed : (change_on call b n).verdict ≡ Ok tt → (workable (page_in b n) ≡ true) × ((line_of call b (page_in b n)).verdict ≡ Ok tt)
   unfolding change_on workable_then
   on_passed e = gate_passed _ _ _ e
 
-  pub on_workable : {a : Laid} (m : ℕ) → a ≡ answer_by (change_on call b n) → a ≡ Length m → workable (page_in b n) ≡ true
+  pub on_workable : {a : Result ℕ Refusal} (m : ℕ) → a ≡ answer_by (change_on call b n) → a ≡ Ok m → workable (page_in b n) ≡ true
   on_workable m e f = (on_passed (told_passed 0 (change_on call b n) b e m f).0).0
 
 -- removing
-pub remove_index : (b : List ℕ) (n i : ℕ) {a : Laid} (m : ℕ) → a ≡ answer_by (change_on (Call.Removing i) b n) → a ≡ Length m → i < 65536
+pub remove_index : (b : List ℕ) (n i : ℕ) {a : Result ℕ Refusal} (m : ℕ) → a ≡ answer_by (change_on (Call.Removing i) b n) → a ≡ Ok m → i < 65536
 unfolding line_of
 remove_index b n i m e f =
     let w = on_passed (Call.Removing i) b n (told_passed 0 (change_on (Call.Removing i) b n) b e m f).0 in
@@ -81,27 +78,27 @@ module _ (b : List ℕ) (n i : ℕ) (c : List ℕ) {j : Judged} (e : j ≡ judge
   abbrev change : Change
   change = change_on (Call.Storing i c) b n
 
-  store_told : (r : Refusal) → j ≡ judged.Refused r → change.verdict ≡ verdict.Refused r
+  store_told : (r : Refusal) → j ≡ judged.Refused r → change.verdict ≡ Err r
   unfolding judged_of unless_refused
   store_told r f = go change.verdict refl
     where
-      go : (v : Verdict) → change.verdict ≡ v → change.verdict ≡ verdict.Refused r
-      go verdict.Accepted g = let q : judged.Planned (plan_of (page_in b n) i) ≡ judged.Refused r = sym (rw g at e) ∙ f in let z : ◌≡◌ {A = ℕ} 0 1 = cc in absurd (omega arith)
-      go (verdict.Refused q) g = let y : judged.Refused q ≡ judged.Refused r = sym (rw g at e) ∙ f in let z : q ≡ r = cc in g ∙ ap verdict.Refused z
+      go : (v : Result ⊤ Refusal) → change.verdict ≡ v → change.verdict ≡ Err r
+      go (Ok accepted) g = let q : judged.Planned (plan_of (page_in b n) i) ≡ judged.Refused r = sym (rw g at e) ∙ f in let z : ◌≡◌ {A = ℕ} 0 1 = cc in absurd (omega arith)
+      go (Err q) g = let y : judged.Refused q ≡ judged.Refused r = sym (rw g at e) ∙ f in let z : q ≡ r = cc in g ∙ ap Err z
 
-  store_planned : (p : Plan) → j ≡ judged.Planned p → (change.verdict ≡ verdict.Accepted) × (p ≡ plan_of (page_in b n) i)
+  store_planned : (p : Plan) → j ≡ judged.Planned p → (change.verdict ≡ Ok tt) × (p ≡ plan_of (page_in b n) i)
   unfolding judged_of unless_refused
   store_planned p f = go change.verdict refl
     where
-      go : (v : Verdict) → change.verdict ≡ v → (change.verdict ≡ verdict.Accepted) × (p ≡ plan_of (page_in b n) i)
-      go verdict.Accepted g = let y : judged.Planned (plan_of (page_in b n) i) ≡ judged.Planned p = sym (rw g at e) ∙ f in (g, cc)
-      go (verdict.Refused q) g = let y : judged.Refused q ≡ judged.Planned p = sym (rw g at e) ∙ f in let z : ◌≡◌ {A = ℕ} 0 1 = cc in absurd (omega arith)
+      go : (v : Result ⊤ Refusal) → change.verdict ≡ v → (change.verdict ≡ Ok tt) × (p ≡ plan_of (page_in b n) i)
+      go (Ok accepted) g = let y : judged.Planned (plan_of (page_in b n) i) ≡ judged.Planned p = sym (rw g at e) ∙ f in (g, cc)
+      go (Err q) g = let y : judged.Refused q ≡ judged.Planned p = sym (rw g at e) ∙ f in let z : ◌≡◌ {A = ℕ} 0 1 = cc in absurd (omega arith)
 
-  pub store_refused : (k : ℕ) (r : Refusal) → j ≡ judged.Refused r → Stops k change b (Refused r) 0 b
+  pub store_refused : (k : ℕ) (r : Refusal) → j ≡ judged.Refused r → Stops k change b (Err r) 0 b
   store_refused k r f = refused_by_lem k change b r (store_told r f)
 
   module _ (p : Plan) (f : j ≡ judged.Planned p) where
-    judged_so : (workable (page_in b n) ≡ true) × ((line_of (Call.Storing i c) b (page_in b n)).verdict ≡ verdict.Accepted)
+    judged_so : (workable (page_in b n) ≡ true) × ((line_of (Call.Storing i c) b (page_in b n)).verdict ≡ Ok tt)
     judged_so = on_passed (Call.Storing i c) b n (store_planned p f).0
 
     pub store_ready : (workable (page_in b n) ≡ true) × ((p ≡ plan_of (page_in b n) i) × (stored_length (page_in b n) i ≤ 16777216))
@@ -114,32 +111,32 @@ module _ (b : List ℕ) (n i : ℕ) (c : List ℕ) {j : Judged} (e : j ≡ judge
     unfolding line_of
     store_index = let w = judged_so in omega (arith, (tile_passed (page_in b n) i _ w.1).0, (worked_of (page_in b n) w.0).tiles)
 
-    pub store_made : (k : ℕ) {left : ℕ} {l : List ℕ} → left ≡ k - store_count change.writes → l ≡ stopped k change.writes b → Stops k change b (Length p.long) (k - left) l
+    pub store_made : (k : ℕ) {left : ℕ} {l : List ℕ} → left ≡ k - store_count change.writes → l ≡ stopped k change.writes b → Stops k change b (Ok p.long) (k - left) l
     unfolding change_on line_of plan_of
     store_made k g h = let q = store_planned p f in made_by_lem k change b q.0 (ap (λ (x : Plan). x.long) q.1) g h
 
 -- the check, and then the call
 
-module _ (call : Call) (b : List ℕ) (n : ℕ) {v : Verdict} (e : v ≡ admitted (kind_of call).role b n verdict.Accepted) where
-  pub check_refused : (k : ℕ) (r : Refusal) → v ≡ verdict.Refused r → Stops k (change_of call b n) b (Refused r) 0 b
+module _ (call : Call) (b : List ℕ) (n : ℕ) {v : Result ⊤ Refusal} (e : v ≡ admitted (kind_of call).role b n (Ok tt)) where
+  pub check_refused : (k : ℕ) (r : Refusal) → v ≡ Err r → Stops k (change_of call b n) b (Err r) 0 b
   unfolding change_of
   check_refused k r f = refused_by_lem k (change_of call b n) b r (refused_admitted (kind_of call).role b n r (change_on call b n).verdict (sym e ∙ f))
 
   pub check_passed :
-      (k : ℕ) {a : Laid} {m : ℕ} {l : List ℕ} → v ≡ verdict.Accepted → Stops k (change_on call b n) b a m l → Stops k (change_of call b n) b a m l
-  check_passed k f s = let w = admitted_wants (kind_of call).role b n verdict.Accepted (sym e ∙ f) in rw (on_wanted call b n w.0 w.1.0) at s
+      (k : ℕ) {a : Result ℕ Refusal} {m : ℕ} {l : List ℕ} → v ≡ Ok tt → Stops k (change_on call b n) b a m l → Stops k (change_of call b n) b a m l
+  check_passed k f s = let w = admitted_wants (kind_of call).role b n (Ok tt) (sym e ∙ f) in rw (on_wanted call b n w.0 w.1.0) at s
 
 -- with a budget that is enough it is the call
 
-whole_by : (b : List ℕ) (c : Change) → (c.verdict ≡ verdict.Accepted → Makes b c.writes c.page c.long) → stopped_by 18446744073709551615 c b ≡ out_by c b
+whole_by : (b : List ℕ) (c : Change) → (c.verdict ≡ Ok tt → Makes b c.writes c.page c.long) → stopped_by 18446744073709551615 c b ≡ out_by c b
 unfolding out_by stores_by stopped_by answer_by answered unless_refused stopped cut run
 whole_by b c m = go c.verdict refl
   where
     go :
-        (v : Verdict) → c.verdict ≡ v →
+        (v : Result ⊤ Refusal) → c.verdict ≡ v →
         stopped 18446744073709551615 (unless_refused_writes (answered v c.long) c.writes) b ≡ written (answered v c.long) c.page b
-    go verdict.Accepted e = let q = m e in stopped_all 18446744073709551615 c.writes b q.few ∙ q.holds
-    go (verdict.Refused r) e = refl
+    go (Ok accepted) e = let q = m e in stopped_all 18446744073709551615 c.writes b q.few ∙ q.holds
+    go (Err r) e = refl
 
 pub whole_call :
     (call : Call) → CallMakes call → (b : List ℕ) (n : ℕ) → Bytes b → {l : List ℕ} →

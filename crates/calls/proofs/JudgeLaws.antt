@@ -1,4 +1,5 @@
 -- What each call is judged by: which refusal is given, and that none is. Assumes nothing.
+use Rattle.std.specs.Prelude.{Err, Ok, Result, ⊤}
 use Prim.Native.Nat.{ℕ, min, ◌≤◌, ◌<◌}
 use mathlib.Core.Path.{◌≡◌, refl, sym, ap, ◌∙◌}
 use mathlib.Core.List.{List, [], ◌∷◌}
@@ -10,10 +11,6 @@ use Rattle.wire.specs.Bytes.{part}
 use Rattle.wire.proofs.TestLaws.{yes}
 use Rattle.answer.specs.declared.Refusal.{Refusal}
 use Rattle.answer.specs.declared.Refusal.TheVariants.{OutsideGrid, Input, NotOpen}
-use Rattle.answer.specs.declared.Verdict.{Verdict}
-use Rattle.answer.specs.declared.Verdict.TheVariants.{Accepted, Refused}
-use Rattle.answer.specs.declared.Laid.{Laid}
-use Rattle.answer.specs.declared.Laid.TheVariants as laid
 use Rattle.answer.specs.Refusals.{gate, unless_refused}
 use Rattle.geometry.specs.Tiles.{tile_count}
 use Rattle.geometry.specs.Sizes.{tile_bytes, cap}
@@ -35,50 +32,50 @@ use Rattle.calls.proofs.ReadLaws.{worked_of, worked_page}
 
 -- the page's length, and what the page is
 
-pub accepted_past : (b : List ℕ) (n : ℕ) (v : Verdict) → length b < n → Refused Input ≡ on_accepted_page b n v
+pub accepted_past : (b : List ℕ) (n : ℕ) (v : Result ⊤ Refusal) → length b < n → Err Input ≡ on_accepted_page b n v
 unfolding on_accepted_page on_page
 accepted_past b n v h = gate_no _ Input _ (λ p. omega (arith, p.0))
 
-pub open_past : (b : List ℕ) (n : ℕ) (v : Verdict) → length b < n → Refused Input ≡ on_open_page b n v
+pub open_past : (b : List ℕ) (n : ℕ) (v : Result ⊤ Refusal) → length b < n → Err Input ≡ on_open_page b n v
 unfolding on_open_page on_page
 open_past b n v h = gate_no _ Input _ (λ p. omega (arith, p.0))
 
 module _ (b : List ℕ) (n : ℕ) {s : List ℕ} (h : n ≤ length b) (e : s ≡ part b 0 n) where
-  pub check_told : {v : Verdict} → v ≡ check s → v ≡ on_accepted_page b n Accepted
+  pub check_told : {v : Result ⊤ Refusal} → v ≡ check s → v ≡ on_accepted_page b n (Ok tt)
   unfolding on_accepted_page on_page unless_refused
   check_told f = f ∙ ap check (part_page b n e) ∙ alone (check (page_in b n)) ∙ gate_yes _ Input _ (h, tt)
     where
-      alone : (v : Verdict) → v ≡ unless_refused Refused v Accepted
-      alone Accepted = refl
-      alone (Refused r) = refl
+      alone : (v : Result ⊤ Refusal) → v ≡ unless_refused Err v (Ok tt)
+      alone (Ok accepted) = refl
+      alone (Err r) = refl
 
   module _ {f : Bool} (g : f ≡ open_for_writing s) where
     told : {c : Bool} → f ≡ c → open_for_writing (page_in b n) ≡ c
     told z = ap open_for_writing (sym (part_page b n e)) ∙ sym g ∙ z
 
-    pub open_not : f ≡ false → Refused NotOpen ≡ on_open_page b n Accepted
+    pub open_not : f ≡ false → Err NotOpen ≡ on_open_page b n (Ok tt)
     unfolding on_open_page on_page gate
     open_not z = rw (← yes ((n ≤? length b) ∷ []) (h, tt), told z)
 
-    pub open_yes : f ≡ true → Accepted ≡ on_open_page b n Accepted
+    pub open_yes : f ≡ true → Ok tt ≡ on_open_page b n (Ok tt)
     unfolding on_open_page on_page gate
     open_yes z = rw (← yes ((n ≤? length b) ∷ []) (h, tt), told z)
 
 -- what is answered behind a test, of whatever kind the answer is
 
 module _ {A : Type 0} (refused : Refusal → A) (x : A) where
-  test_no : (l : List Test) (q : Refusal) (v : Verdict) → (Holds l → ⊥) → refused q ≡ unless_refused refused (gate (passes l) q v) x
+  test_no : (l : List Test) (q : Refusal) (v : Result ⊤ Refusal) → (Holds l → ⊥) → refused q ≡ unless_refused refused (gate (passes l) q v) x
   unfolding unless_refused
   test_no l q v h = rw (← gate_no l q v h)
 
-  test_yes : (l : List Test) (q : Refusal) (v : Verdict) → Holds l → {a : A} → a ≡ unless_refused refused v x → a ≡ unless_refused refused (gate (passes l) q v) x
-  test_yes l q v h e = e ∙ ap (λ (w : Verdict). unless_refused refused w x) (gate_yes l q v h)
+  test_yes : (l : List Test) (q : Refusal) (v : Result ⊤ Refusal) → Holds l → {a : A} → a ≡ unless_refused refused v x → a ≡ unless_refused refused (gate (passes l) q v) x
+  test_yes l q v h e = e ∙ ap (λ (w : Result ⊤ Refusal). unless_refused refused w x) (gate_yes l q v h)
 
-  pub time_zero : (t : ℕ) (v : Verdict) → t ≡ 0 → refused Input ≡ unless_refused refused (time_then t v) x
+  pub time_zero : (t : ℕ) (v : Result ⊤ Refusal) → t ≡ 0 → refused Input ≡ unless_refused refused (time_then t v) x
   unfolding time_then
   time_zero t v e = test_no _ Input v (λ p. p.0 e)
 
-  pub time_set : (t : ℕ) (v : Verdict) → (t ≡ 0 → ⊥) → {a : A} → a ≡ unless_refused refused v x → a ≡ unless_refused refused (time_then t v) x
+  pub time_set : (t : ℕ) (v : Result ⊤ Refusal) → (t ≡ 0 → ⊥) → {a : A} → a ≡ unless_refused refused v x → a ≡ unless_refused refused (time_then t v) x
   unfolding time_then
   time_set t v z e = test_yes _ Input v (z, tt) e
 
@@ -96,11 +93,11 @@ module _ {A : Type 0} (refused : Refusal → A) (x : A) where
     count_is : count ≡ tile_count (page_in b n)
     count_is = f ∙ ap tile_count (part_page b n e)
 
-    pub tile_outside : (v : Verdict) → count ≤ i → refused OutsideGrid ≡ unless_refused refused (tile_then (page_in b n) i v) x
+    pub tile_outside : (v : Result ⊤ Refusal) → count ≤ i → refused OutsideGrid ≡ unless_refused refused (tile_then (page_in b n) i v) x
     unfolding tile_then
     tile_outside v h = test_no _ OutsideGrid v (λ p. omega (arith, p.0, count_is))
 
-    pub tile_in_lem : (v : Verdict) → i < count → {a : A} → a ≡ unless_refused refused v x → a ≡ unless_refused refused (tile_then (page_in b n) i v) x
+    pub tile_in_lem : (v : Result ⊤ Refusal) → i < count → {a : A} → a ≡ unless_refused refused v x → a ≡ unless_refused refused (tile_then (page_in b n) i v) x
     unfolding tile_then
     tile_in_lem v h g = test_yes _ OutsideGrid v (omega (arith, count_is), tt) g
 
@@ -110,11 +107,11 @@ module _ {A : Type 0} (refused : Refusal → A) (x : A) where
         let z : tile_bytes s ≡ tile_bytes (page_in b n) = ap tile_bytes (part_page b n e) in
         omega (arith, (worked_of (page_in b n) o).tile)
 
-    pub cells_wrong : (v : Verdict) → (length c ≡ u → ⊥) → refused Input ≡ unless_refused refused (cells_then (page_in b n) c v) x
+    pub cells_wrong : (v : Result ⊤ Refusal) → (length c ≡ u → ⊥) → refused Input ≡ unless_refused refused (cells_then (page_in b n) c v) x
     unfolding cells_then
     cells_wrong v z = test_no _ Input v (λ p. z (p.0 ∙ sym bytes_is))
 
-    pub cells_right : (v : Verdict) → length c ≡ u → {a : A} → a ≡ unless_refused refused v x → a ≡ unless_refused refused (cells_then (page_in b n) c v) x
+    pub cells_right : (v : Result ⊤ Refusal) → length c ≡ u → {a : A} → a ≡ unless_refused refused v x → a ≡ unless_refused refused (cells_then (page_in b n) c v) x
     unfolding cells_then
     cells_right v h g = test_yes _ Input v (h ∙ bytes_is, tt) g
 
@@ -131,32 +128,32 @@ plan_told b n i e f h =
 -- the calls but storing, whose answer is a length
 
 module _ (call : Call) (b : List ℕ) (n : ℕ) {s : List ℕ} {w : Bool} (e : s ≡ part b 0 n) (f : w ≡ workable s) where
-  pub not_workable : w ≡ false → laid.Refused NotOpen ≡ answer_by (change_on call b n)
+  pub not_workable : w ≡ false → Err NotOpen ≡ answer_by (change_on call b n)
   unfolding answer_by answered
-  not_workable g = work_no laid.Refused _ call b n e f g
+  not_workable g = work_no Err _ call b n e f g
 
-  is_workable : w ≡ true → {a : Laid} → a ≡ answer_by (line_of call b (page_in b n)) → a ≡ answer_by (change_on call b n)
+  is_workable : w ≡ true → {a : Result ℕ Refusal} → a ≡ answer_by (line_of call b (page_in b n)) → a ≡ answer_by (change_on call b n)
   unfolding answer_by answered change_on
-  is_workable g q = work_yes laid.Refused _ call b n e f g q
+  is_workable g q = work_yes Err _ call b n e f g q
 
 module _ (b : List ℕ) (n : ℕ) {s : List ℕ} {w : Bool} (e : s ≡ part b 0 n) (f : w ≡ workable s) (g : w ≡ true) where
   module _ (i : ℕ) {count : ℕ} (h : count ≡ tile_count s) where
-    pub remove_outside : count ≤ i → laid.Refused OutsideGrid ≡ answer_by (change_on (Call.Removing i) b n)
+    pub remove_outside : count ≤ i → Err OutsideGrid ≡ answer_by (change_on (Call.Removing i) b n)
     unfolding answer_by answered line_of
-    remove_outside k = is_workable (Call.Removing i) b n e f g (tile_outside laid.Refused _ b n i count e h _ k)
+    remove_outside k = is_workable (Call.Removing i) b n e f g (tile_outside Err _ b n i count e h _ k)
 
-    pub remove_long : i < count → laid.Length (length s) ≡ answer_by (change_on (Call.Removing i) b n)
+    pub remove_long : i < count → Ok (length s) ≡ answer_by (change_on (Call.Removing i) b n)
     unfolding answer_by answered line_of unless_refused
-    remove_long k = is_workable (Call.Removing i) b n e f g (tile_in_lem laid.Refused _ b n i count e h Accepted k (ap (λ (x : List ℕ). laid.Length (length x)) (part_page b n e)))
+    remove_long k = is_workable (Call.Removing i) b n e f g (tile_in_lem Err _ b n i count e h (Ok tt) k (ap (λ (x : List ℕ). Ok (length x)) (part_page b n e)))
 
   -- with a time, and a length that is worked out from the page
-  timed_by : (t : ℕ) (l : List ℕ → ℕ) {m : ℕ} {a : Laid} → m ≡ l s → a ≡ answered (time_then t (room_left b m)) m → a ≡ answered (time_then t (room_left b (l (page_in b n)))) (l (page_in b n))
+  timed_by : (t : ℕ) (l : List ℕ → ℕ) {m : ℕ} {a : Result ℕ Refusal} → m ≡ l s → a ≡ answered (time_then t (room_left b m)) m → a ≡ answered (time_then t (room_left b (l (page_in b n)))) (l (page_in b n))
   timed_by t l k q = q ∙ ap (λ (x : ℕ). answered (time_then t (room_left b x)) x) (k ∙ ap l (part_page b n e))
 
-  pub open_timed : (t : ℕ) {m : ℕ} {a : Laid} → m ≡ opened_length s → a ≡ answered (time_then t (room_left b m)) m → a ≡ answer_by (change_on (Call.Opening t) b n)
+  pub open_timed : (t : ℕ) {m : ℕ} {a : Result ℕ Refusal} → m ≡ opened_length s → a ≡ answered (time_then t (room_left b m)) m → a ≡ answer_by (change_on (Call.Opening t) b n)
   unfolding answer_by line_of
   open_timed t k q = is_workable (Call.Opening t) b n e f g (timed_by t opened_length k q)
 
-  pub close_timed : (t : ℕ) {m : ℕ} {a : Laid} → m ≡ closed_length s → a ≡ answered (time_then t (room_left b m)) m → a ≡ answer_by (change_on (Call.Closing t) b n)
+  pub close_timed : (t : ℕ) {m : ℕ} {a : Result ℕ Refusal} → m ≡ closed_length s → a ≡ answered (time_then t (room_left b m)) m → a ≡ answer_by (change_on (Call.Closing t) b n)
   unfolding answer_by line_of
   close_timed t k q = is_workable (Call.Closing t) b n e f g (timed_by t closed_length k q)

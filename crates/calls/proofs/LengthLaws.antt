@@ -1,4 +1,5 @@
 -- The length that a page has behind a call, and what storing a tile is to do. Assumes nothing.
+use Rattle.std.specs.Prelude.{None, Option, Some}
 use Prim.Native.Nat.{ℕ, max, ◌+◌, ◌*◌, ◌≤◌, ◌<◌}
 use mathlib.Core.Path.{◌≡◌, sym, ap, ◌∙◌}
 use mathlib.Core.List.{List, [], ◌∷◌, append-nil}
@@ -7,8 +8,6 @@ use native.Mathlib.Omega.{arith}
 use lib.ListN.{length, length-append}
 use Rattle.wire.specs.Bytes.{bytes_of}
 use Rattle.wire.proofs.ByteLaws.{bytes_length, part_whole}
-use Rattle.record.specs.declared.Found.{Found}
-use Rattle.record.specs.declared.Found.TheVariants.{At, Nothing}
 use Rattle.record.specs.Chain.{joined, records_of}
 use Rattle.header.specs.Fields.{checksum_enabled}
 use Rattle.geometry.specs.Tiles.{tile_count}
@@ -59,12 +58,12 @@ opened_more_lem s n r e f g h =
 
 -- with a tile stored
 
-pub plan_over : (s : List ℕ) (i x : ℕ) {t : Found} → t ≡ over_at s i → t ≡ At x → record { over = t; spot = record { at = 0; room = 0 }; long = length s } ≡ plan_of s i
+pub plan_over : (s : List ℕ) (i x : ℕ) {t : Option ℕ} → t ≡ over_at s i → t ≡ Some x → record { over = t; spot = record { at = 0; room = 0 }; long = length s } ≡ plan_of s i
 unfolding plan_of stored_length
 plan_over s i x e f = rw ((over_at_lem s i (sym e ∙ f)).0, e)
 
 module _
-    (s : List ℕ) (i : ℕ) {t : Found} {long : ℕ} {spot : Spot} (k : workable s ≡ true) (e : t ≡ over_at s i) (f : t ≡ Nothing) (g : long ≡ length_of_tile s)
+    (s : List ℕ) (i : ℕ) {t : Option ℕ} {long : ℕ} {spot : Spot} (k : workable s ≡ true) (e : t ≡ over_at s i) (f : t ≡ None) (g : long ≡ length_of_tile s)
     (h : spot ≡ spot_of s i long)
   where
     own : long ≡ plain_tile_length s

@@ -1,4 +1,5 @@
 -- The byte stores of storing. Assumes nothing.
+use Rattle.std.specs.Prelude.{None, Option, Some}
 use Prim.Native.Nat.{ℕ, zero, suc, max, ◌+◌, ◌-◌, ◌≤◌, ◌<◌}
 use mathlib.Core.Path.{◌≡◌, refl, sym, ap, ◌∙◌}
 use mathlib.Core.List.{List}
@@ -8,8 +9,6 @@ use lib.ListN.{length, get_or}
 use Rattle.wire.specs.Pick.{pick}
 use Rattle.wire.specs.Bytes.{part, u32_at}
 use Rattle.wire.proofs.TestLaws.{sum_same}
-use Rattle.record.specs.declared.Found.{Found}
-use Rattle.record.specs.declared.Found.TheVariants.{At, Nothing}
 use Rattle.record.specs.Record.{length_at, content_at}
 use Rattle.record.proofs.FindLaws.{found_not}
 use Rattle.header.specs.Fields.{checksum_enabled}
@@ -176,19 +175,19 @@ new_referred {d = d} n i c {spot = spot} w q q' =
 -- which of the two
 
 module _ (s : List ℕ) (i : ℕ) where
-  pub over_at_lem : {x : ℕ} → over_at s i ≡ At x → (stored_over s i ≡ true) × (tile_referred s i ≡ At x)
+  pub over_at_lem : {x : ℕ} → over_at s i ≡ Some x → (stored_over s i ≡ true) × (tile_referred s i ≡ Some x)
   unfolding over_at
   over_at_lem {x} e = go (stored_over s i) refl
     where
-      go : (b : Bool) → stored_over s i ≡ b → (stored_over s i ≡ true) × (tile_referred s i ≡ At x)
+      go : (b : Bool) → stored_over s i ≡ b → (stored_over s i ≡ true) × (tile_referred s i ≡ Some x)
       go true f = (f, rw f at e)
       go false f = found_not (sym e) (rw f)
 
-  over_absent : tile_referred s i ≡ Nothing → stored_over s i ≡ false
+  over_absent : tile_referred s i ≡ None → stored_over s i ≡ false
   unfolding stored_over
   over_absent f = rw f
 
-  pub over_none : over_at s i ≡ Nothing → stored_over s i ≡ false
+  pub over_none : over_at s i ≡ None → stored_over s i ≡ false
   unfolding over_at
   over_none e = go (stored_over s i) refl
     where
@@ -197,29 +196,29 @@ module _ (s : List ℕ) (i : ℕ) where
       go false f = f
 
   over_writes_lem :
-      (d c : List ℕ) {x : ℕ} → over_at s i ≡ At x → store_writes d s i c ≡ over_writes (checksum_enabled s) x (length_at s x) (element_bytes s) (entries_read s) c d
+      (d c : List ℕ) {x : ℕ} → over_at s i ≡ Some x → store_writes d s i c ≡ over_writes (checksum_enabled s) x (length_at s x) (element_bytes s) (entries_read s) c d
   unfolding store_writes
   over_writes_lem d c e = let f = over_at_lem e in rw (f.0, f.1)
 
   new_writes_lem :
-      (d c : List ℕ) → over_at s i ≡ Nothing → store_writes d s i c ≡ then_refer s i (content_at (stored_at s i)) (new_writes (length d) s i c) d
+      (d c : List ℕ) → over_at s i ≡ None → store_writes d s i c ≡ then_refer s i (content_at (stored_at s i)) (new_writes (length d) s i c) d
   unfolding store_writes
   new_writes_lem d c e = rw (over_none e)
 
 -- as it was planned
 
-over_is : (s : List ℕ) (i : ℕ) {p : Plan} → p ≡ plan_of s i → {f : Found} → p.over ≡ f → over_at s i ≡ f
+over_is : (s : List ℕ) (i : ℕ) {p : Plan} → p ≡ plan_of s i → {f : Option ℕ} → p.over ≡ f → over_at s i ≡ f
 unfolding plan_of
 over_is s i e g = sym (ap (λ (x : Plan). x.over) e) ∙ g
 
 pub storing_over :
-    {k : ℕ} {d : List ℕ} (n i x : ℕ) (c : List ℕ) {p : Plan} {r : ℕ} {o : List ℕ} → p ≡ plan_of (page_in d n) i → p.over ≡ At x →
+    {k : ℕ} {d : List ℕ} (n i x : ℕ) (c : List ℕ) {p : Plan} {r : ℕ} {o : List ℕ} → p ≡ plan_of (page_in d n) i → p.over ≡ Some x →
     Ran k (over_writes (checksum_enabled (page_in d n)) x (length_at (page_in d n) x) (element_bytes (page_in d n)) (entries_read (page_in d n)) c d) d r o →
     Ran k (store_writes d (page_in d n) i c) d r o
 storing_over {d = d} n i x c e g q = rw (over_writes_lem (page_in d n) i d c (over_is (page_in d n) i e g)) q
 
 pub storing_new :
-    {k : ℕ} {d : List ℕ} (n i : ℕ) (c : List ℕ) {p : Plan} {r : ℕ} {o : List ℕ} → p ≡ plan_of (page_in d n) i → p.over ≡ Nothing →
+    {k : ℕ} {d : List ℕ} (n i : ℕ) (c : List ℕ) {p : Plan} {r : ℕ} {o : List ℕ} → p ≡ plan_of (page_in d n) i → p.over ≡ None →
     Ran k (then_refer (page_in d n) i (content_at (stored_at (page_in d n) i)) (new_writes (length d) (page_in d n) i c) d) d r o →
     Ran k (store_writes d (page_in d n) i c) d r o
 storing_new {d = d} n i c e g q = rw (new_writes_lem (page_in d n) i d c (over_is (page_in d n) i e g)) q
@@ -227,13 +226,13 @@ storing_new {d = d} n i c e g q = rw (new_writes_lem (page_in d n) i d c (over_i
 -- the record stands in the page, which is not long; a new one ends within the length that was judged
 
 module _ (d : List ℕ) (n i : ℕ) {p : Plan} (w : workable (page_in d n) ≡ true) (e : p ≡ plan_of (page_in d n) i) where
-  pub over_place : (x : ℕ) → p.over ≡ At x → x < 4294967296
+  pub over_place : (x : ℕ) → p.over ≡ Some x → x < 4294967296
   over_place x g =
       let a = over_at_lem (page_in d n) i (over_is (page_in d n) i e g) in
       omega (arith, tile_inside (page_in d n) i x a.1 refl, (worked_of (page_in d n) w).file)
 
   pub new_place :
-      p.over ≡ Nothing → stored_length (page_in d n) i ≤ 16777216 →
+      p.over ≡ None → stored_length (page_in d n) i ≤ 16777216 →
       (p.spot ≡ spot_of (page_in d n) i (plain_tile_length (page_in d n))) × (p.spot.at + plain_tile_length (page_in d n) ≤ 16777216)
   unfolding plan_of stored_length
   new_place g h =

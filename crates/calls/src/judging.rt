@@ -1,7 +1,6 @@
 // What each call is judged by, before it stores a byte, and what it is then to do. The order of the refusals is that of Req 03, readings 2
 // and 3.
-ghost use Rattle.std.specs.Prelude.{◌≡◌, true};
-ghost use Rattle.answer.specs.declared.Verdict.TheVariants.{Accepted};
+ghost use Rattle.std.specs.Prelude.{◌≡◌, true, Ok};
 ghost use Rattle.answer.specs.Refusals.{unless_refused};
 ghost use Rattle.correct.specs.Front.{page_in, workable};
 ghost use Rattle.correct.specs.Answers.{time_then, room_left, on_open_page, on_accepted_page, answered};
@@ -9,58 +8,58 @@ ghost use Rattle.correct.specs.Calls.{Call, line_of, change_on, answer_by};
 ghost use Rattle.calls.specs.Layouts.{plan_of, judged_of};
 
 use crate::{Judged, Plan, lengths, reading};
-use answer::{Laid, Refusal, Verdict};
+use answer::Refusal;
 use check_header::ceilings;
 use geometry::{sizes, tiles};
 use page_check;
 use writable;
 
 // The page's length, then whether it is accepted: 12, then the check's refusal.
-pub(crate) fn on_accepted_page(buf: &[u8], n: usize) -> Verdict
-    ensures { result ≡ on_accepted_page buf.now n Accepted }
+pub(crate) fn on_accepted_page(buf: &[u8], n: usize) -> Result<(), Refusal>
+    ensures { result ≡ on_accepted_page buf.now n (Ok tt) }
 {
     if buf.len() < n {
-        return Verdict::Refused(Refusal::Input);
+        return Err(Refusal::Input);
     }
     page_check::check(wire::part_of(buf, 0, n))
 }
 
 // The page's length, then whether it is open for writing: 12, then 15.
-pub fn on_open_page(buf: &[u8], n: usize) -> Verdict
-    ensures { result ≡ on_open_page buf.now n Accepted }
+pub fn on_open_page(buf: &[u8], n: usize) -> Result<(), Refusal>
+    ensures { result ≡ on_open_page buf.now n (Ok tt) }
 {
     if buf.len() < n {
-        return Verdict::Refused(Refusal::Input);
+        return Err(Refusal::Input);
     }
     if writable::is_open(wire::part_of(buf, 0, n)) {
-        return Verdict::Accepted;
+        return Ok(());
     }
-    Verdict::Refused(Refusal::NotOpen)
+    Err(Refusal::NotOpen)
 }
 
 // Of the length that the page would have: 13, then 4.
-fn room_left(buf: &[u8], m: usize) -> Verdict
+fn room_left(buf: &[u8], m: usize) -> Result<(), Refusal>
     ensures { result ≡ room_left buf.now m }
 {
     if buf.len() < m {
-        return Verdict::Refused(Refusal::Room);
+        return Err(Refusal::Room);
     }
     if ceilings::MOST_FILE_BYTES < m {
-        return Verdict::Refused(Refusal::Ceiling);
+        return Err(Refusal::Ceiling);
     }
-    Verdict::Accepted
+    Ok(())
 }
 
 // Of a time that is given besides, zero refused with 12 first; with the length.
-fn timed(buf: &[u8], time: u64, m: usize) -> Laid
+fn timed(buf: &[u8], time: u64, m: usize) -> Result<usize, Refusal>
     ensures { result ≡ answered (time_then time (room_left buf.now m)) m }
 {
     if time == 0 {
-        return Laid::Refused(Refusal::Input);
+        return Err(Refusal::Input);
     }
     match room_left(buf, m) {
-        Verdict::Refused(r) => Laid::Refused(r),
-        Verdict::Accepted => Laid::Length(m),
+        Err(r) => Err(r),
+        Ok(()) => Ok(m),
     }
 }
 
@@ -69,20 +68,20 @@ fn planned_in(buf: &[u8], plan: Plan) -> Judged
     ensures { result ≡ unless_refused Judged.Refused (room_left buf.now plan.long) (Judged.Planned plan) }
 {
     match room_left(buf, plan.long) {
-        Verdict::Refused(r) => Judged::Refused(r),
-        Verdict::Accepted => Judged::Planned(plan),
+        Err(r) => Judged::Refused(r),
+        Ok(()) => Judged::Planned(plan),
     }
 }
 
 // Opening: 12, then 13 and 4.
-pub(crate) fn judge_open(buf: &[u8], n: usize, time: u64) -> Laid
+pub(crate) fn judge_open(buf: &[u8], n: usize, time: u64) -> Result<usize, Refusal>
     ensures { result ≡ answer_by (change_on (Call.Opening time) buf.now n) }
 {
     let s = wire::part_of(buf, 0, n);
     if reading::is_workable(s) {
         return timed(buf, time, lengths::opened_length(s));
     }
-    Laid::Refused(Refusal::NotOpen)
+    Err(Refusal::NotOpen)
 }
 
 // Storing, where every call's demands are met: 10, 12, then 13 and 4.
@@ -110,26 +109,26 @@ pub(crate) fn judge_store(buf: &[u8], n: usize, tile: u64, cells: &[u8]) -> Judg
 }
 
 // Removing: 10.
-pub(crate) fn judge_remove(buf: &[u8], n: usize, tile: u64) -> Laid
+pub(crate) fn judge_remove(buf: &[u8], n: usize, tile: u64) -> Result<usize, Refusal>
     ensures { result ≡ answer_by (change_on (Call.Removing tile) buf.now n) }
 {
     let s = wire::part_of(buf, 0, n);
     if reading::is_workable(s) {
         if tiles::tile_count(s) <= tile {
-            return Laid::Refused(Refusal::OutsideGrid);
+            return Err(Refusal::OutsideGrid);
         }
-        return Laid::Length(s.len());
+        return Ok(s.len());
     }
-    Laid::Refused(Refusal::NotOpen)
+    Err(Refusal::NotOpen)
 }
 
 // Closing: 12, then 13 and 4.
-pub(crate) fn judge_close(buf: &[u8], n: usize, time: u64) -> Laid
+pub(crate) fn judge_close(buf: &[u8], n: usize, time: u64) -> Result<usize, Refusal>
     ensures { result ≡ answer_by (change_on (Call.Closing time) buf.now n) }
 {
     let s = wire::part_of(buf, 0, n);
     if reading::is_workable(s) {
         return timed(buf, time, lengths::closed_length(s));
     }
-    Laid::Refused(Refusal::NotOpen)
+    Err(Refusal::NotOpen)
 }

@@ -8,7 +8,7 @@ ghost use Rattle.calls.specs.Layouts.{plan_of};
 use crate::Plan;
 use edit_walks::{Spot, places, stored};
 use geometry::{sizes, tiles};
-use record::{Found, chain};
+use record::chain;
 use tile_sizes;
 use writable;
 
@@ -32,7 +32,7 @@ pub(crate) fn plan_tile(s: &[u8], tile: u32) -> Plan
 {
     let n = s.len();
     let over = stored::stored_over(s, tile);
-    if let Found::At(_) = over {
+    if let Some(_) = over {
         return Plan {
             over,
             spot: Spot { at: 0, room: 0 },

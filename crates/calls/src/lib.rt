@@ -21,9 +21,8 @@ mod storing;
 ghost use Rattle.std.specs.Prelude.{◌≡◌};
 ghost use Rattle.correct.specs.Calls.{Call, change_of, answer_by, out_by};
 
-use answer::{Laid, Refusal};
+use answer::Refusal;
 use edit_walks::Spot;
-use record::Found;
 
 // What the calls read of a page: the header's flag for checksums and where it ends, and the tile directory: where its record starts,
 // how long that is, and whether its references have eight bytes.
@@ -48,7 +47,7 @@ struct Grid {
 // What storing a tile is to do: the record that it is stored over, or where the new one goes; and how long the page then is.
 #[derive(Clone, Copy)]
 struct Plan {
-    pub over: Found,
+    pub over: Option<usize>,
     pub spot: Spot,
     pub long: usize,
 }
@@ -63,7 +62,7 @@ enum Judged {
 // What a call that stops answers: what the call does, and how many byte stores it has made.
 #[derive(Clone, Copy)]
 pub struct StoppedCall {
-    pub answer: Laid,
+    pub answer: Result<usize, Refusal>,
     pub made: usize,
 }
 
@@ -71,7 +70,7 @@ pub struct StoppedCall {
 pub const ALL: usize = 18446744073709551615;
 
 // Opens a page for writing: the buffer, the page's length, the opened time.
-pub fn open_page(buf: &mut [u8], n: usize, time: u64) -> Laid
+pub fn open_page(buf: &mut [u8], n: usize, time: u64) -> Result<usize, Refusal>
     ensures answer { result ≡ answer_by (change_of (Call.Opening time) buf.old n) }
     ensures buffer { buf.new ≡ out_by (change_of (Call.Opening time) buf.old n) buf.old }
 {
@@ -80,7 +79,7 @@ pub fn open_page(buf: &mut [u8], n: usize, time: u64) -> Laid
 }
 
 // Stores a whole tile, uncompressed: its index, and the cell bytes of all elements in order, no lengths, no padding.
-pub fn store_tile(buf: &mut [u8], n: usize, tile: u64, cells: &[u8]) -> Laid
+pub fn store_tile(buf: &mut [u8], n: usize, tile: u64, cells: &[u8]) -> Result<usize, Refusal>
     ensures answer { result ≡ answer_by (change_of (Call.Storing tile cells.now) buf.old n) }
     ensures buffer { buf.new ≡ out_by (change_of (Call.Storing tile cells.now) buf.old n) buf.old }
 {
@@ -89,7 +88,7 @@ pub fn store_tile(buf: &mut [u8], n: usize, tile: u64, cells: &[u8]) -> Laid
 }
 
 // Removes a tile. One that is absent stays so.
-pub fn remove_tile(buf: &mut [u8], n: usize, tile: u64) -> Laid
+pub fn remove_tile(buf: &mut [u8], n: usize, tile: u64) -> Result<usize, Refusal>
     ensures answer { result ≡ answer_by (change_of (Call.Removing tile) buf.old n) }
     ensures buffer { buf.new ≡ out_by (change_of (Call.Removing tile) buf.old n) buf.old }
 {
@@ -98,7 +97,7 @@ pub fn remove_tile(buf: &mut [u8], n: usize, tile: u64) -> Laid
 }
 
 // Closes a page: the time modified.
-pub fn close_page(buf: &mut [u8], n: usize, time: u64) -> Laid
+pub fn close_page(buf: &mut [u8], n: usize, time: u64) -> Result<usize, Refusal>
     ensures answer { result ≡ answer_by (change_of (Call.Closing time) buf.old n) }
     ensures buffer { buf.new ≡ out_by (change_of (Call.Closing time) buf.old n) buf.old }
 {

@@ -4,7 +4,6 @@ ghost use Rattle.std.specs.Prelude.{◌≡◌};
 ghost use Rattle.correct.specs.Calls.{Call, change_on, answer_by, stopped_by, made_by};
 
 use crate::{Judged, StoppedCall, closing, judging, opening, removing, storing};
-use answer::Laid;
 
 // Opens a page that is taken to be accepted.
 pub fn open_on(buf: &mut [u8], n: usize, time: u64, stores: usize) -> StoppedCall
@@ -13,14 +12,14 @@ pub fn open_on(buf: &mut [u8], n: usize, time: u64, stores: usize) -> StoppedCal
     ensures buffer { buf.new ≡ stopped_by stores (change_on (Call.Opening time) buf.old n) buf.old }
 {
     match judging::judge_open(buf, n, time) {
-        Laid::Refused(r) => StoppedCall {
-            answer: Laid::Refused(r),
+        Err(r) => StoppedCall {
+            answer: Err(r),
             made: 0,
         },
-        Laid::Length(m) => {
+        Ok(m) => {
             let left = opening::opening_cut(buf, n, time, stores);
             StoppedCall {
-                answer: Laid::Length(m),
+                answer: Ok(m),
                 made: stores - left,
             }
         }
@@ -35,13 +34,13 @@ pub fn store_on(buf: &mut [u8], n: usize, tile: u64, cells: &[u8], stores: usize
 {
     match judging::judge_store(buf, n, tile, cells) {
         Judged::Refused(r) => StoppedCall {
-            answer: Laid::Refused(r),
+            answer: Err(r),
             made: 0,
         },
         Judged::Planned(plan) => {
             let left = storing::storing_cut(buf, n, tile as u32, plan, cells, stores);
             StoppedCall {
-                answer: Laid::Length(plan.long),
+                answer: Ok(plan.long),
                 made: stores - left,
             }
         }
@@ -55,14 +54,14 @@ pub fn remove_on(buf: &mut [u8], n: usize, tile: u64, stores: usize) -> StoppedC
     ensures buffer { buf.new ≡ stopped_by stores (change_on (Call.Removing tile) buf.old n) buf.old }
 {
     match judging::judge_remove(buf, n, tile) {
-        Laid::Refused(r) => StoppedCall {
-            answer: Laid::Refused(r),
+        Err(r) => StoppedCall {
+            answer: Err(r),
             made: 0,
         },
-        Laid::Length(m) => {
+        Ok(m) => {
             let left = removing::removing_cut(buf, n, tile as u32, stores);
             StoppedCall {
-                answer: Laid::Length(m),
+                answer: Ok(m),
                 made: stores - left,
             }
         }
@@ -76,14 +75,14 @@ pub fn close_on(buf: &mut [u8], n: usize, time: u64, stores: usize) -> StoppedCa
     ensures buffer { buf.new ≡ stopped_by stores (change_on (Call.Closing time) buf.old n) buf.old }
 {
     match judging::judge_close(buf, n, time) {
-        Laid::Refused(r) => StoppedCall {
-            answer: Laid::Refused(r),
+        Err(r) => StoppedCall {
+            answer: Err(r),
             made: 0,
         },
-        Laid::Length(m) => {
+        Ok(m) => {
             let left = closing::closing_cut(buf, n, time, stores);
             StoppedCall {
-                answer: Laid::Length(m),
+                answer: Ok(m),
                 made: stores - left,
             }
         }

@@ -4,7 +4,6 @@ ghost use Rattle.std.specs.Prelude.{◌≡◌};
 ghost use Rattle.correct.specs.Calls.{Call, change_of, answer_by, stopped_by, made_by};
 
 use crate::{StoppedCall, judging, on};
-use answer::{Laid, Verdict};
 
 pub fn open_page_stopped(buf: &mut [u8], n: usize, time: u64, stores: usize) -> StoppedCall
     ensures answer { result.answer ≡ answer_by (change_of (Call.Opening time) buf.old n) }
@@ -12,11 +11,11 @@ pub fn open_page_stopped(buf: &mut [u8], n: usize, time: u64, stores: usize) -> 
     ensures buffer { buf.new ≡ stopped_by stores (change_of (Call.Opening time) buf.old n) buf.old }
 {
     match judging::on_accepted_page(buf, n) {
-        Verdict::Refused(r) => StoppedCall {
-            answer: Laid::Refused(r),
+        Err(r) => StoppedCall {
+            answer: Err(r),
             made: 0,
         },
-        Verdict::Accepted => on::open_on(buf, n, time, stores),
+        Ok(()) => on::open_on(buf, n, time, stores),
     }
 }
 
@@ -32,11 +31,11 @@ pub fn store_tile_stopped(
     ensures buffer { buf.new ≡ stopped_by stores (change_of (Call.Storing tile cells.now) buf.old n) buf.old }
 {
     match judging::on_open_page(buf, n) {
-        Verdict::Refused(r) => StoppedCall {
-            answer: Laid::Refused(r),
+        Err(r) => StoppedCall {
+            answer: Err(r),
             made: 0,
         },
-        Verdict::Accepted => on::store_on(buf, n, tile, cells, stores),
+        Ok(()) => on::store_on(buf, n, tile, cells, stores),
     }
 }
 
@@ -46,11 +45,11 @@ pub fn remove_tile_stopped(buf: &mut [u8], n: usize, tile: u64, stores: usize) -
     ensures buffer { buf.new ≡ stopped_by stores (change_of (Call.Removing tile) buf.old n) buf.old }
 {
     match judging::on_open_page(buf, n) {
-        Verdict::Refused(r) => StoppedCall {
-            answer: Laid::Refused(r),
+        Err(r) => StoppedCall {
+            answer: Err(r),
             made: 0,
         },
-        Verdict::Accepted => on::remove_on(buf, n, tile, stores),
+        Ok(()) => on::remove_on(buf, n, tile, stores),
     }
 }
 
@@ -60,10 +59,10 @@ pub fn close_page_stopped(buf: &mut [u8], n: usize, time: u64, stores: usize) ->
     ensures buffer { buf.new ≡ stopped_by stores (change_of (Call.Closing time) buf.old n) buf.old }
 {
     match judging::on_open_page(buf, n) {
-        Verdict::Refused(r) => StoppedCall {
-            answer: Laid::Refused(r),
+        Err(r) => StoppedCall {
+            answer: Err(r),
             made: 0,
         },
-        Verdict::Accepted => on::close_on(buf, n, time, stores),
+        Ok(()) => on::close_on(buf, n, time, stores),
     }
 }

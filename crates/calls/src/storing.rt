@@ -17,7 +17,6 @@ use crate::{Layout, Plan, reading};
 use correct::{records, references, tiles};
 use edit_walks::{Spot, Wanted, freeing};
 use header::{entries, fields};
-use record::Found;
 use tile_sizes;
 use written_records::pieces as parts;
 
@@ -105,7 +104,7 @@ pub(crate) fn storing_cut(
     tile_sizes::element_sizes(wire::part_of(out, 0, n), &mut sizes);
     let over = plan.over;
     match over {
-        Found::At(x) => over_cut(out, n, x, &sizes, cells, k),
-        Found::Nothing => new_cut(out, n, tile, plan.spot, &sizes, cells, k),
+        Some(x) => over_cut(out, n, x, &sizes, cells, k),
+        None => new_cut(out, n, tile, plan.spot, &sizes, cells, k),
     }
 }

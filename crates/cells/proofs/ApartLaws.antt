@@ -1,8 +1,10 @@
 -- Two stored cells of a sound page are one cell, or share no byte. Assumes nothing.
+use Rattle.std.specs.Prelude.{Err, None, Ok, Option, Result, Some}
 use Prim.Native.Nat.{ℕ, ◌+◌, ◌*◌, ◌≤◌, ◌<◌}
 use mathlib.Core.Path.{◌≡◌, refl, sym, ap, ◌∙◌}
 use mathlib.Core.List.{List, Memᴰ}
 use mathlib.Core.Logic.{◌⊎◌, inl, inr, ⊎_elim, by_cases}
+use Rattle.std.specs.Prelude.{Option, Some, None}
 use mathlib.Core.Bool.{Bool, true, false}
 use native.Mathlib.Decide.{dec_le}
 use native.Mathlib.Omega.{arith}
@@ -11,7 +13,8 @@ use Rattle.wire.proofs.ItemLaws.{item_within, items_apart}
 use Rattle.answer.specs.declared.Refusal.{Refusal}
 use Rattle.answer.specs.declared.Value.{Value}
 use Rattle.answer.specs.declared.Location.{Location}
-use Rattle.answer.specs.declared.Cell.TheVariants.{Stored, Fill, Unpacked, Refused}
+use Rattle.answer.specs.declared.Cell.{Cell}
+use Rattle.answer.specs.declared.Cell.TheVariants.{Stored, Fill, Unpacked}
 use Rattle.answer.specs.Answers.{cell_place}
 use Rattle.header.specs.Fields.{grid_columns, tile_rows, tile_columns, element_count}
 use Rattle.record.specs.Chain.{header_end, records, records_of}
@@ -26,12 +29,8 @@ use Rattle.bodies.specs.TileRecord.{tile_index, section_at, section_length, elem
 use Rattle.bodies.proofs.SectionLaws.{section_least, section_holds, section_mono, section_next}
 use Rattle.check_records.proofs.SectionLaws.{sections_end}
 use Rattle.record.proofs.FindLaws.{of_type}
-use Rattle.record.specs.declared.Found.{Found}
-use Rattle.record.specs.declared.Found.TheVariants.{At, Nothing}
 use Rattle.page_check.specs.Accepted.{Sound}
 use Rattle.page_check.proofs.GivenLaws.{sound_range, sound_tile}
-use Rattle.unpack.specs.declared.Unpacked as out
-use Rattle.unpack.specs.declared.Unpacked.TheVariants as variant
 use Rattle.unpack.specs.Unpack.{cell_at}
 use Rattle.cells.specs.Asked.{in_grid}
 use Rattle.cells.specs.Demand3.{bytes_of_cell}
@@ -73,25 +72,25 @@ pub record StoredAs (s : List ℕ) (row column e place : ℕ) : Type 0 where
   pub column_in : column < grid_columns s
   pub element_in : e < element_count s
 
-refused_not_stored : {C : Type 0} {r : Refusal} {v : Value} {p : ℕ} {t : Location} → Refused r ≡ Stored v p t → C
+refused_not_stored : {C : Type 0} {r : Refusal} {v : Value} {p : ℕ} {t : Location} → Err r ≡ Ok (Stored v p t) → C
 refused_not_stored q = let z : ◌≡◌ {A = ℕ} 0 1 = cc in absurd (omega arith)
 
-fill_not_stored : {C : Type 0} {w v : Value} {p : ℕ} {t u : Location} → Fill w u ≡ Stored v p t → C
+fill_not_stored : {C : Type 0} {w v : Value} {p : ℕ} {t u : Location} → ◌≡◌ {A = Result Cell Refusal} (Ok (Fill w u)) (Ok (Stored v p t)) → C
 fill_not_stored q = let z : ◌≡◌ {A = ℕ} 0 1 = cc in absurd (omega arith)
 
-unpacked_not_stored : {C : Type 0} {w v : Value} {a p : ℕ} {t u : Location} → Unpacked w a u ≡ Stored v p t → C
+unpacked_not_stored : {C : Type 0} {w v : Value} {a p : ℕ} {t u : Location} → ◌≡◌ {A = Result Cell Refusal} (Ok (Unpacked w a u)) (Ok (Stored v p t)) → C
 unpacked_not_stored q = let z : ◌≡◌ {A = ℕ} 0 1 = cc in absurd (omega arith)
 
-packed_not_stored : {C : Type 0} (s : List ℕ) (ci x row column e : ℕ) (v : Value) (p : ℕ) (t : Location) → packed_cell s ci x row column e ≡ Stored v p t → C
+packed_not_stored : {C : Type 0} (s : List ℕ) (ci x row column e : ℕ) (v : Value) (p : ℕ) (t : Location) → packed_cell s ci x row column e ≡ Ok (Stored v p t) → C
 unfolding packed_cell unpackable unpacked_in
 packed_not_stored {C = C} s ci x row column e v p t q = go (unpackable s ci x e) refl (cell_at (unpacked_in s x e) (cell_inside s row column)) refl
   where
-    go : (b : Bool) → unpackable s ci x e ≡ b → (r : out.Unpacked) → cell_at (unpacked_in s x e) (cell_inside s row column) ≡ r → C
+    go : (b : Bool) → unpackable s ci x e ≡ b → (r : Option ℕ) → cell_at (unpacked_in s x e) (cell_inside s row column) ≡ r → C
     go false i r j = refused_not_stored (rw i at q)
-    go true i (variant.Cell bits) j = unpacked_not_stored (rw (i, j) at q)
-    go true i variant.Malformed j = refused_not_stored (rw (i, j) at q)
+    go true i (Some bits) j = unpacked_not_stored (rw (i, j) at q)
+    go true i None j = refused_not_stored (rw (i, j) at q)
 
-stored_in : (s : List ℕ) (ci x row column e place : ℕ) (v : Value) (t : Location) → cell_in s ci x row column e ≡ Stored v place t → (packed s x e ≡ false) × (place ≡ place_in s x row column e)
+stored_in : (s : List ℕ) (ci x row column e place : ℕ) (v : Value) (t : Location) → cell_in s ci x row column e ≡ Ok (Stored v place t) → (packed s x e ≡ false) × (place ≡ place_in s x row column e)
 unfolding cell_in cell_from packed packed_cell place_in
 stored_in s ci x row column e place v t q = go (packed s x e) refl
   where
@@ -99,14 +98,14 @@ stored_in s ci x row column e place v t q = go (packed s x e) refl
     go true i = packed_not_stored s ci x row column e v place t (rw i at q)
     go false i = (i, sym (ap cell_place (rw i at q)))
 
-pub stored_as : (s : List ℕ) (ci row column e place : ℕ) (v : Value) (w : Location) → meaning s ci row column e ≡ Stored v place w → StoredAs s row column e place
+pub stored_as : (s : List ℕ) (ci row column e place : ℕ) (v : Value) (w : Location) → meaning s ci row column e ≡ Ok (Stored v place w) → StoredAs s row column e place
 unfolding meaning cell_by fill_of
 stored_as s ci row column e place v w q = go (in_grid s row column e) refl (meant s (cell_tile s row column)) refl
   where
-    go : (b : Bool) → in_grid s row column e ≡ b → (f : Found) → meant s (cell_tile s row column) ≡ f → StoredAs s row column e place
+    go : (b : Bool) → in_grid s row column e ≡ b → (f : Option ℕ) → meant s (cell_tile s row column) ≡ f → StoredAs s row column e place
     go false i f j = refused_not_stored (rw i at q)
-    go true i Nothing j = fill_not_stored (rw (i, j) at q)
-    go true i (At x) j =
+    go true i None j = fill_not_stored (rw (i, j) at q)
+    go true i (Some x) j =
         let g = grid_means s row column e i in
         let t = meant_is s (cell_tile s row column) x j in
         let c = stored_in s ci x row column e place v w (rw (i, j) at q) in
@@ -195,7 +194,7 @@ module _ (s : List ℕ) (o : Sound s) (row column e place : ℕ) (c : StoredAs s
 
 pub cells_apart :
     (s : List ℕ) → Sound s → (ci row column e place : ℕ) (v : Value) (w : Location) (row2 column2 e2 place2 : ℕ) (v2 : Value) (w2 : Location) →
-    meaning s ci row column e ≡ Stored v place w → meaning s ci row2 column2 e2 ≡ Stored v2 place2 w2 →
+    meaning s ci row column e ≡ Ok (Stored v place w) → meaning s ci row2 column2 e2 ≡ Ok (Stored v2 place2 w2) →
     ((row ≡ row2) × ((column ≡ column2) × (e ≡ e2))) ⊎ ((place + bytes_of_cell s e ≤ place2) ⊎ (place2 + bytes_of_cell s e2 ≤ place))
 cells_apart s o ci row column e place v w row2 column2 e2 place2 v2 w2 p q =
     stored_apart s o row column e place (stored_as s ci row column e place v w p) row2 column2 e2 place2 (stored_as s ci row2 column2 e2 place2 v2 w2 q)

@@ -2,6 +2,7 @@
 use Prim.Native.Nat.{ℕ, min, ◌+◌, ◌*◌, ◌%◌, ◌≤◌, ◌<◌}
 use mathlib.Core.Path.{◌≡◌, refl, sym, ap, ◌∙◌}
 use mathlib.Core.List.{List, [], ◌∷◌}
+use Rattle.std.specs.Prelude.{Option, Some, None, Err, Ok, Result}
 use mathlib.Core.Bool.{Bool, true, false}
 use native.Mathlib.Omega.{arith}
 use native.Mathlib.Nat.{mod-lt, mul-le-mul, mul-le-mul_left}
@@ -18,7 +19,6 @@ use Rattle.answer.specs.declared.Refusal.TheVariants as refusal
 use Rattle.answer.specs.declared.Location.{Location}
 use Rattle.answer.specs.declared.Cell.{Cell}
 use Rattle.answer.specs.declared.Cell.TheVariants as cell
-use Rattle.answer.specs.declared.Content.TheVariants as content
 use Rattle.answer.specs.declared.Held.TheVariants as held
 use Rattle.answer.specs.Values.{value_of}
 use Rattle.header.specs.declared.Element.{Element}
@@ -35,10 +35,6 @@ use Rattle.check_header.proofs.PassedLaws.{sides_of}
 use Rattle.check_records.specs.TileBody.{section_packing, not_fault, section_right}
 use Rattle.bodies.specs.TileRecord.{section_at, section_length, element_content_at}
 use Rattle.geometry.proofs.GridLaws.{grid_less, tile_less, along_most}
-use Rattle.record.specs.declared.Found.{Found}
-use Rattle.record.specs.declared.Found.TheVariants.{Nothing, At}
-use Rattle.unpack.specs.declared.Unpacked.{Unpacked}
-use Rattle.unpack.specs.declared.Unpacked.TheVariants as out
 use Rattle.unpack.specs.Unpack.{unpacked, cell_at}
 use Rattle.cells.specs.Asked.{in_grid, in_tiles}
 use Rattle.cells.specs.inner.Lookups.{sides_lawful, reached_by, cell_reached, content_reached, room_reached}
@@ -190,20 +186,20 @@ unfolding cell_size
 bits_other s k at r h e = rw (ne_eqb k 3 h) e
 
 pub stored_is :
-    (s : List ℕ) (w : Location) (e at k b : ℕ) (v : Value) → k ≡ (element s e).kind → b ≡ number_at (cell_size k) s (at + 0) → v ≡ value_of k b → cell.Stored v at w ≡ stored_at s w e at
+    (s : List ℕ) (w : Location) (e at k b : ℕ) (v : Value) → k ≡ (element s e).kind → b ≡ number_at (cell_size k) s (at + 0) → v ≡ value_of k b → Ok (cell.Stored v at w) ≡ stored_at s w e at
 unfolding stored_at
-stored_is s w e at k b v p q f = let z : at + 0 ≡ at = omega arith in ap (λ (x : Value). cell.Stored x at w) (f ∙ rw (q, p, z))
+stored_is s w e at k b v p q f = let z : at + 0 ≡ at = omega arith in ap (λ (x : Value). Ok (cell.Stored x at w)) (f ∙ rw (q, p, z))
 
 pub location_is : (s : List ℕ) (row column t i : ℕ) → t ≡ cell_tile s row column → i ≡ cell_inside s row column → ◌≡◌ {A = Location} (record { tile = t; inside = i }) (location_of s row column)
 unfolding location_of
 location_is s row column t i p q = rw (p, q)
 
-pub fill_is : (s : List ℕ) (w : Location) (e : ℕ) (x : Element) (v : Value) → x ≡ element s e → v ≡ value_of x.kind x.fill → cell.Fill v w ≡ fill_of s w e
+pub fill_is : (s : List ℕ) (w : Location) (e : ℕ) (x : Element) (v : Value) → x ≡ element s e → v ≡ value_of x.kind x.fill → Ok (cell.Fill v w) ≡ fill_of s w e
 unfolding fill_of
-fill_is s w e x v p f = ap (λ (y : Value). cell.Fill y w) (f ∙ rw p)
+fill_is s w e x v p f = ap (λ (y : Value). Ok (cell.Fill y w)) (f ∙ rw p)
 
 -- a fill, by where the cell lies
-pub fill_located : (s : List ℕ) (row column e : ℕ) (w : Location) (r : Cell) → w ≡ location_of s row column → r ≡ fill_of s w e → r ≡ fill_of s (location_of s row column) e
+pub fill_located : (s : List ℕ) (row column e : ℕ) (w : Location) (r : Result Cell Refusal) → w ≡ location_of s row column → r ≡ fill_of s w e → r ≡ fill_of s (location_of s row column) e
 fill_located s row column e w r p q = rw p at q
 
 -- a cell of compressed content
@@ -230,68 +226,68 @@ unfolding element_content_at section_length
 content_taken s c x e p l q t h = h ∙ rw (t, q)
 
 pub cell_taken :
-    (s c : List ℕ) (x row column e k i h w : ℕ) (b : Bool) (r : Unpacked) → k ≡ (element s e).kind → i ≡ cell_inside s row column → h ≡ tile_rows s → w ≡ tile_columns s →
+    (s c : List ℕ) (x row column e k i h w : ℕ) (b : Bool) (r : Option ℕ) → k ≡ (element s e).kind → i ≡ cell_inside s row column → h ≡ tile_rows s → w ≡ tile_columns s →
     b ≡ eqb k 3 → c ≡ part s (element_content_at s x e) (section_length s x e) → r ≡ cell_at (unpacked c h w b) i →
     r ≡ cell_at (unpacked_in s x e) (cell_inside s row column)
 unfolding unpacked_in
 cell_taken s c x row column e k i h w b r p q t u m n g = g ∙ rw (n, t, u, m, p, q)
 
 module _ (s : List ℕ) (ci x row column e : ℕ) (b : Bool) (p : b ≡ unpackable s ci x e) where
-  pub still_packed : b ≡ false → cell.Refused (refusal.Compressed x) ≡ packed_cell s ci x row column e
+  pub still_packed : b ≡ false → Err (refusal.Compressed x) ≡ packed_cell s ci x row column e
   unfolding packed_cell unpackable
   still_packed f = rw (← p, f)
 
-  module _ (f : b ≡ true) (r : Unpacked) (q : r ≡ cell_at (unpacked_in s x e) (cell_inside s row column)) where
-    pub cell_malformed : r ≡ out.Malformed → cell.Refused (refusal.Malformed x) ≡ packed_cell s ci x row column e
+  module _ (f : b ≡ true) (r : Option ℕ) (q : r ≡ cell_at (unpacked_in s x e) (cell_inside s row column)) where
+    pub cell_malformed : r ≡ None → Err (refusal.Malformed x) ≡ packed_cell s ci x row column e
     unfolding packed_cell unpackable unpacked_in
     cell_malformed g = rw (← p, f, ← q, g)
 
     pub cell_unpacked :
-        (v k at : ℕ) (y : Value) (w : Location) → r ≡ out.Cell v → k ≡ (element s e).kind → y ≡ value_of k v → at ≡ section_at s x e → w ≡ location_of s row column →
-        cell.Unpacked y (at + 4) w ≡ packed_cell s ci x row column e
+        (v k at : ℕ) (y : Value) (w : Location) → r ≡ Some v → k ≡ (element s e).kind → y ≡ value_of k v → at ≡ section_at s x e → w ≡ location_of s row column →
+        Ok (cell.Unpacked y (at + 4) w) ≡ packed_cell s ci x row column e
     unfolding packed_cell unpackable unpacked_in element_content_at
     cell_unpacked v k at y w g t m n z = rw (← p, f, ← q, g, m, t, n, z)
 
 -- a cell and an element's content in a tile record
 
 module _ (s : List ℕ) (x e : ℕ) (b : Bool) (p : b ≡ packed s x e) where
-  pub cell_packed : (ci row column : ℕ) (r : Cell) → b ≡ true → r ≡ packed_cell s ci x row column e → r ≡ cell_in s ci x row column e
+  pub cell_packed : (ci row column : ℕ) (r : Result Cell Refusal) → b ≡ true → r ≡ packed_cell s ci x row column e → r ≡ cell_in s ci x row column e
   unfolding cell_in cell_from packed packed_cell
   cell_packed ci row column r f q = rw (← p, f) q
 
-  pub cell_whole : (ci row column at : ℕ) (w : Location) (r : Cell) → b ≡ false → w ≡ location_of s row column → at ≡ place_in s x row column e → r ≡ stored_at s w e at → r ≡ cell_in s ci x row column e
+  pub cell_whole : (ci row column at : ℕ) (w : Location) (r : Result Cell Refusal) → b ≡ false → w ≡ location_of s row column → at ≡ place_in s x row column e → r ≡ stored_at s w e at → r ≡ cell_in s ci x row column e
   unfolding cell_in cell_from packed stored_at place_in
   cell_whole ci row column at w r f z q t = rw (← p, f) (t ∙ rw (z, q))
 
-  pub content_packed : b ≡ true → content.Refused (refusal.Compressed x) ≡ content_in s x e
+  pub content_packed : b ≡ true → Err (refusal.Compressed x) ≡ content_in s x e
   unfolding content_in
   content_packed f = rw (← p, f)
 
-  pub content_whole : (at n m : ℕ) → b ≡ false → at ≡ section_at s x e → n ≡ element_bytes s e → m ≡ n → content.Present (at + 4) m ≡ content_in s x e
+  pub content_whole : (at n m : ℕ) → b ≡ false → at ≡ section_at s x e → n ≡ element_bytes s e → m ≡ n → Ok (Some (record { start = at + 4; length = m })) ≡ content_in s x e
   unfolding content_in element_content_at
   content_whole at n m f q t u = rw (← p, f, q, u, t)
 
 -- by what was found for the tile
 
-module _ {A : Type 0} (refused : Refusal → A) (said : Found → A) (s : List ℕ) (f : Found) where
-  pub reached_none : (r : A) → f ≡ Nothing → r ≡ said Nothing → r ≡ reached_by refused said s f
+module _ {A : Type 0} (refused : Refusal → A) (said : Option ℕ → A) (s : List ℕ) (f : Option ℕ) where
+  pub reached_none : (r : A) → f ≡ None → r ≡ said None → r ≡ reached_by refused said s f
   unfolding reached_by
   reached_none r p q = rw p q
 
-  pub reached_at : (x : ℕ) (r : A) → f ≡ At x → x < length s → r ≡ said (At x) → r ≡ reached_by refused said s f
+  pub reached_at : (x : ℕ) (r : A) → f ≡ Some x → x < length s → r ≡ said (Some x) → r ≡ reached_by refused said s f
   unfolding reached_by
   reached_at x r p h q = rw (p, ← yes ((x + 1 ≤? length s) ∷ []) (omega arith, tt)) q
 
-  reached_lost : (x : ℕ) → f ≡ At x → length s ≤ x → refused refusal.Directory ≡ reached_by refused said s f
+  reached_lost : (x : ℕ) → f ≡ Some x → length s ≤ x → refused refusal.Directory ≡ reached_by refused said s f
   unfolding reached_by
   reached_lost x p h = rw (p, ← no ((x + 1 ≤? length s) ∷ []) (λ y. omega (arith, y.0)))
 
-module _ (s : List ℕ) (f : Found) (x : ℕ) (p : f ≡ At x) (h : length s ≤ x) where
-  pub cell_lost : (ci row column e : ℕ) → cell.Refused refusal.Directory ≡ cell_reached s ci row column e f
-  cell_lost ci row column e = reached_lost cell.Refused (cell_of s ci row column e) s f x p h
+module _ (s : List ℕ) (f : Option ℕ) (x : ℕ) (p : f ≡ Some x) (h : length s ≤ x) where
+  pub cell_lost : (ci row column e : ℕ) → Err refusal.Directory ≡ cell_reached s ci row column e f
+  cell_lost ci row column e = reached_lost Err (cell_of s ci row column e) s f x p h
 
-  pub content_lost : (e : ℕ) → content.Refused refusal.Directory ≡ content_reached s e f
-  content_lost e = reached_lost content.Refused (content_of s e) s f x p h
+  pub content_lost : (e : ℕ) → Err refusal.Directory ≡ content_reached s e f
+  content_lost e = reached_lost Err (content_of s e) s f x p h
 
-  pub held_lost : (ci e room : ℕ) → held.Refused refusal.Directory ≡ room_reached s ci e room f
-  held_lost ci e room = reached_lost held.Refused (room_of s ci e room) s f x p h
+  pub held_lost : (ci e room : ℕ) → Err refusal.Directory ≡ room_reached s ci e room f
+  held_lost ci e room = reached_lost Err (room_of s ci e room) s f x p h

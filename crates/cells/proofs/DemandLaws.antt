@@ -1,8 +1,10 @@
 -- Demand 3, and the bits of demand 2. Assumes nothing.
+use Rattle.std.specs.Prelude.{Err, None, Ok, Option, Result, Some}
 use borrow.Author.Tests.{eqb-true, eqb-false}
 use Prim.Native.Nat.{ℕ, ◌+◌, ◌-◌, ◌*◌, ◌/◌, ◌%◌, ◌≤◌, ◌<◌}
 use mathlib.Core.Path.{◌≡◌, refl, sym, ap, ◌∙◌}
 use mathlib.Core.List.{List}
+use Rattle.std.specs.Prelude.{Option, Some, None}
 use mathlib.Core.Bool.{Bool, true, false}
 use mathlib.Core.Logic.{◌⊎◌, ⊎_elim}
 use native.Mathlib.Omega.{arith}
@@ -11,19 +13,17 @@ use lib.Dec.{eqb}
 use Rattle.wire.specs.Pick.{pick}
 use Rattle.wire.specs.Bytes.{Bytes, part, u32_at, number_at}
 use Rattle.wire.proofs.ByteLaws.{number_small}
+use Rattle.answer.specs.declared.Refusal.{Refusal}
+use Rattle.answer.specs.declared.Extent.{Extent}
 use Rattle.answer.specs.declared.Refusal.TheVariants.{Compressed, OutsideGrid}
 use Rattle.answer.specs.declared.Value.{Value}
 use Rattle.answer.specs.declared.Location.{Location}
 use Rattle.answer.specs.declared.Cell.TheVariants as cell
-use Rattle.answer.specs.declared.Content.TheVariants as content
 use Rattle.answer.specs.Values.{value_bits, value_of}
-use Rattle.answer.specs.declared.Verdict.TheVariants.{Accepted}
-use Rattle.answer.specs.Answers.{cell_kind, cell_bits, cell_place, cell_verdict, answer_tile, answer_inside}
+use Rattle.answer.specs.Answers.{cell_kind, cell_bits, cell_place, cell_verdict, answer_tile, answer_inside, content_place, content_length}
 use Rattle.answer.proofs.VerdictLaws.{refused_not}
 use Rattle.answer.specs.Refusals.{unless_refused}
 use Rattle.answer.proofs.ValueLaws.{short_bits_kept, short_small, bits_kept}
-use Rattle.record.specs.declared.Found.{Found}
-use Rattle.record.specs.declared.Found.TheVariants.{At, Nothing}
 use Rattle.record.specs.Chain.{header_end, records}
 use Rattle.record.proofs.ChainLaws.{whole_extent}
 use Rattle.record.proofs.FindLaws.{of_type}
@@ -34,8 +34,6 @@ use Rattle.wire.proofs.TestLaws.{not_both}
 use Rattle.geometry.specs.Tiles.{tiles_across, tile_count, cell_tile, cell_inside}
 use Rattle.geometry.specs.Sizes.{element_bytes}
 use Rattle.bodies.specs.TileRecord.{section_at, section_length, element_content_at}
-use Rattle.unpack.specs.declared.Unpacked.{Unpacked}
-use Rattle.unpack.specs.declared.Unpacked.TheVariants as out
 use Rattle.unpack.specs.Unpack.{Cells, cells, malformed, unpacked, cell_at, cells_in, is_whole}
 use Rattle.unpack.proofs.AnswerLaws.{bits_small, taken_cell, whole_long, whole_cell}
 use Rattle.page_check.specs.Accepted.{Sound}
@@ -59,31 +57,31 @@ use Rattle.cells.proofs.ReadLaws.{sound_lawful, sound_cells, passed_bodies}
 
 -- what is stored lies in the file
 
-pub stored_inside : (s : List ℕ) → Sound s → (ci row column e place : ℕ) (v : Value) (w : Location) → meaning s ci row column e ≡ cell.Stored v place w → place + bytes_of_cell s e ≤ length s
+pub stored_inside : (s : List ℕ) → Sound s → (ci row column e place : ℕ) (v : Value) (w : Location) → meaning s ci row column e ≡ Ok (cell.Stored v place w) → place + bytes_of_cell s e ≤ length s
 stored_inside s o ci row column e place v w q =
     let c = stored_as s ci row column e place v w q in
     let x = cell_extent s o row column e place c in
     let w = whole_extent s (header_end s) (records s) o.chain (of_type s 2 c.among).0 in
     omega (arith, x.inside, w.inside)
 
-present_in : (s : List ℕ) (x e at n : ℕ) → content_in s x e ≡ content.Present at n → (packed s x e ≡ false) × ((at ≡ element_content_at s x e) × (n ≡ element_bytes s e))
+present_in : (s : List ℕ) (x e at n : ℕ) → content_in s x e ≡ Ok (Some (record { start = at; length = n })) → (packed s x e ≡ false) × ((at ≡ element_content_at s x e) × (n ≡ element_bytes s e))
 unfolding content_in
 present_in s x e at n q = go (packed s x e) refl q
   where
     go :
-        (b : Bool) → packed s x e ≡ b → pick b (content.Refused (Compressed x)) (content.Present (element_content_at s x e) (element_bytes s e)) ≡ content.Present at n →
+        (b : Bool) → packed s x e ≡ b → pick {A = Result (Option Extent) Refusal} b (Err (Compressed x)) (Ok (Some (record { start = element_content_at s x e; length = element_bytes s e }))) ≡ Ok (Some (record { start = at; length = n })) →
         (packed s x e ≡ false) × ((at ≡ element_content_at s x e) × (n ≡ element_bytes s e))
     go true f g = let z : ◌≡◌ {A = ℕ} 0 1 = cc in absurd (omega arith)
-    go false f g = (f, (cc, cc))
+    go false f g = (f, (sym (ap content_place g), sym (ap content_length g)))
 
-pub sound_inside : (s : List ℕ) → Sound s → (tile e at n : ℕ) → content_meaning s tile e ≡ content.Present at n → at + n ≤ length s
+pub sound_inside : (s : List ℕ) → Sound s → (tile e at n : ℕ) → content_meaning s tile e ≡ Ok (Some (record { start = at; length = n })) → at + n ≤ length s
 unfolding content_meaning tile_by
 sound_inside s o tile e at n q = go (in_tiles s tile e) refl (meant s tile) refl
   where
-    go : (b : Bool) → in_tiles s tile e ≡ b → (f : Found) → meant s tile ≡ f → at + n ≤ length s
-    go false i f j = let h : content.Refused OutsideGrid ≡ content.Present at n = rw i at q in let z : ◌≡◌ {A = ℕ} 0 1 = cc in absurd (omega arith)
-    go true i Nothing j = let h : content.Absent ≡ content.Present at n = rw (i, j) at q in let z : ◌≡◌ {A = ℕ} 0 1 = cc in absurd (omega arith)
-    go true i (At x) j =
+    go : (b : Bool) → in_tiles s tile e ≡ b → (f : Option ℕ) → meant s tile ≡ f → at + n ≤ length s
+    go false i f j = let h : ◌≡◌ {A = Result (Option Extent) Refusal} (Err OutsideGrid) (Ok (Some (record { start = at; length = n }))) = rw i at q in let z : ◌≡◌ {A = ℕ} 0 1 = cc in absurd (omega arith)
+    go true i None j = let h : ◌≡◌ {A = Result (Option Extent) Refusal} (Ok None) (Ok (Some (record { start = at; length = n }))) = rw (i, j) at q in let z : ◌≡◌ {A = ℕ} 0 1 = cc in absurd (omega arith)
+    go true i (Some x) j =
         let t = meant_is s tile x j in
         let p = present_in s x e at n (rw (i, j) at q) in
         let c = content_extent s x e (sound_tile s o t.among) (tiles_mean s tile e i).1 in
@@ -95,7 +93,7 @@ content_inside s a = sound_inside s (accepted_sound s a)
 
 -- where a cell lies
 located :
-    (s : List ℕ) (ci row column e : ℕ) → cell_verdict (meaning s ci row column e) ≡ Accepted →
+    (s : List ℕ) (ci row column e : ℕ) → cell_verdict (meaning s ci row column e) ≡ Ok tt →
     (answer_tile (meaning s ci row column e) ≡ cell_tile s row column) × (answer_inside (meaning s ci row column e) ≡ cell_inside s row column)
 unfolding meaning cell_by fill_of cell_in cell_from packed unpackable unpacked_in location_of
 located s ci row column e h = go (in_grid s row column e) refl (meant s (cell_tile s row column)) refl
@@ -103,18 +101,18 @@ located s ci row column e h = go (in_grid s row column e) refl (meant s (cell_ti
     Said : Type 0
     Said = (answer_tile (meaning s ci row column e) ≡ cell_tile s row column) × (answer_inside (meaning s ci row column e) ≡ cell_inside s row column)
 
-    go : (c : Bool) → in_grid s row column e ≡ c → (f : Found) → meant s (cell_tile s row column) ≡ f → Said
+    go : (c : Bool) → in_grid s row column e ≡ c → (f : Option ℕ) → meant s (cell_tile s row column) ≡ f → Said
     go false i f j = refused_not (rw i at h)
-    go true i Nothing j = rw (i, j) (refl, refl)
-    go true i (At x) j = by (packed s x e) refl (unpackable s ci x e) refl (cell_at (unpacked_in s x e) (cell_inside s row column)) refl
+    go true i None j = rw (i, j) (refl, refl)
+    go true i (Some x) j = by (packed s x e) refl (unpackable s ci x e) refl (cell_at (unpacked_in s x e) (cell_inside s row column)) refl
       where
-        by : (d : Bool) → packed s x e ≡ d → (g : Bool) → unpackable s ci x e ≡ g → (r : Unpacked) → cell_at (unpacked_in s x e) (cell_inside s row column) ≡ r → Said
+        by : (d : Bool) → packed s x e ≡ d → (g : Bool) → unpackable s ci x e ≡ g → (r : Option ℕ) → cell_at (unpacked_in s x e) (cell_inside s row column) ≡ r → Said
         by false k g l r m = rw (i, j, k) (refl, refl)
         by true k false l r m = refused_not (rw (i, j, k, l) at h)
-        by true k true l out.Malformed m = refused_not (rw (i, j, k, l, m) at h)
-        by true k true l (out.Cell v) m = rw (i, j, k, l, m) (refl, refl)
+        by true k true l None m = refused_not (rw (i, j, k, l, m) at h)
+        by true k true l (Some v) m = rw (i, j, k, l, m) (refl, refl)
 
-in_grid_lem : (s : List ℕ) (ci row column e : ℕ) → cell_verdict (meaning s ci row column e) ≡ Accepted → in_grid s row column e ≡ true
+in_grid_lem : (s : List ℕ) (ci row column e : ℕ) → cell_verdict (meaning s ci row column e) ≡ Ok tt → in_grid s row column e ≡ true
 unfolding meaning cell_by
 in_grid_lem s ci row column e h = go (in_grid s row column e) refl
   where
@@ -123,7 +121,7 @@ in_grid_lem s ci row column e h = go (in_grid s row column e) refl
     go false i = refused_not (rw i at h)
 
 module _ (s : List ℕ) (o : Sound s) (ci row column e : ℕ) where
-  module _ (h : cell_verdict (meaning s ci row column e) ≡ Accepted) where
+  module _ (h : cell_verdict (meaning s ci row column e) ≡ Ok tt) where
     asked : (row < grid_rows s) × ((column < grid_columns s) × (e < element_count s))
     asked = grid_means s row column e (in_grid_lem s ci row column e h)
 
@@ -158,10 +156,10 @@ module _ (s : List ℕ) (o : Sound s) (ci row column e : ℕ) where
       neither : (m : ℕ) → (m ≡ 32 → ⊥) → (m ≡ 34 → ⊥) → (m ≡ 32) ⊎ (m ≡ 34) → Said
       neither m f k = ⊎_elim (λ x. absurd (f x)) (λ x. absurd (k x))
 
-      go : (c : Bool) → in_grid s row column e ≡ c → (f : Found) → meant s (cell_tile s row column) ≡ f → Said
+      go : (c : Bool) → in_grid s row column e ≡ c → (f : Option ℕ) → meant s (cell_tile s row column) ≡ f → Said
       go false i f j = neither 10 (λ x. omega arith) (λ x. omega arith) (rw i at h)
-      go true i Nothing j = neither 33 (λ x. omega arith) (λ x. omega arith) (rw (i, j) at h)
-      go true i (At x) j = by (packed s x e) refl (unpackable s ci x e) refl (cell_at (unpacked_in s x e) (cell_inside s row column)) refl
+      go true i None j = neither 33 (λ x. omega arith) (λ x. omega arith) (rw (i, j) at h)
+      go true i (Some x) j = by (packed s x e) refl (unpackable s ci x e) refl (cell_at (unpacked_in s x e) (cell_inside s row column)) refl
         where
           here : (at : ℕ) → element_content_at s x e ≤ at → at ≤ element_content_at s x e + section_length s x e → InRecord s (cell_tile s row column) at
           here at a b =
@@ -169,14 +167,14 @@ module _ (s : List ℕ) (o : Sound s) (ci row column e : ℕ) where
               let c = content_extent s x e (sound_tile s o t.among) (grid_means s row column e i).1.1 in
               record { start = x; among = t.among; index = t.index; behind = omega (arith, c.behind); inside = omega (arith, c.next, c.inside) }
 
-          by : (d : Bool) → packed s x e ≡ d → (g : Bool) → unpackable s ci x e ≡ g → (r : Unpacked) → cell_at (unpacked_in s x e) (cell_inside s row column) ≡ r → Said
+          by : (d : Bool) → packed s x e ≡ d → (g : Bool) → unpackable s ci x e ≡ g → (r : Option ℕ) → cell_at (unpacked_in s x e) (cell_inside s row column) ≡ r → Said
           by false k g l r m =
               let d = sides_mean s (sound_lawful s o) in
               let w = offset_within s row column e (omega (arith, d.tile_rows_lem.0)) (omega (arith, d.tile_columns_lem.0)) in
               rw (i, j, k) (here (place_in s x row column e) (omega arith) (omega (arith, whole_least s x e k)))
           by true k false l r m = neither 11 (λ x. omega arith) (λ x. omega arith) (rw (i, j, k, l) at h)
-          by true k true l out.Malformed m = neither 14 (λ x. omega arith) (λ x. omega arith) (rw (i, j, k, l, m) at h)
-          by true k true l (out.Cell v) m = rw (i, j, k, l, m) (here (element_content_at s x e) (omega arith) (omega arith))
+          by true k true l None m = neither 14 (λ x. omega arith) (λ x. omega arith) (rw (i, j, k, l, m) at h)
+          by true k true l (Some v) m = rw (i, j, k, l, m) (here (element_content_at s x e) (omega arith) (omega arith))
 
 -- demand 3
 
@@ -208,7 +206,7 @@ value_bits_lem s b kind at = go (eqb kind 3) refl
 -- and of an unpacked cell, where it comes out
 
 unpacked_bits_lem :
-    (s : List ℕ) (x e i v : ℕ) → cell_at (unpacked_in s x e) i ≡ out.Cell v → value_bits (value_of (element s e).kind v) ≡ get_or (cells_in (unpacked_at s e (element_content_at s x e))) i 0
+    (s : List ℕ) (x e i v : ℕ) → cell_at (unpacked_in s x e) i ≡ Some v → value_bits (value_of (element s e).kind v) ≡ get_or (cells_in (unpacked_at s e (element_content_at s x e))) i 0
 unfolding unpacked_in element_content_at section_length
 unpacked_bits_lem s x e i v q =
     let c = part s (section_at s x e + 4) (u32_at s (section_at s x e)) in
@@ -227,19 +225,19 @@ pub demand_2_bits : Demand2Bits
 unfolding meaning cell_by fill_of cell_in cell_from packed unpackable unpacked_in place_in element entry_at fill_bits
 demand_2_bits s b ci row column e = go (in_grid s row column e) refl (meant s (cell_tile s row column)) refl
   where
-    go : (c : Bool) → in_grid s row column e ≡ c → (f : Found) → meant s (cell_tile s row column) ≡ f → RightBits s ci row column e
+    go : (c : Bool) → in_grid s row column e ≡ c → (f : Option ℕ) → meant s (cell_tile s row column) ≡ f → RightBits s ci row column e
     go false i f j =
         record { stored = λ h. absurd (omega (arith, rw i at h)); fill = λ h. absurd (omega (arith, rw i at h)); unpacked = λ h. absurd (omega (arith, rw i at h)) }
-    go true i Nothing j =
+    go true i None j =
         record {
           stored = λ h. absurd (omega (arith, rw (i, j) at h));
           fill = λ h. rw (i, j) (value_bits_lem s b (element s e).kind _);
           unpacked = λ h. absurd (omega (arith, rw (i, j) at h));
         }
-    go true i (At x) j = by (packed s x e) refl (unpackable s ci x e) refl (cell_at (unpacked_in s x e) (cell_inside s row column)) refl
+    go true i (Some x) j = by (packed s x e) refl (unpackable s ci x e) refl (cell_at (unpacked_in s x e) (cell_inside s row column)) refl
       where
         by :
-            (d : Bool) → packed s x e ≡ d → (g : Bool) → unpackable s ci x e ≡ g → (r : Unpacked) → cell_at (unpacked_in s x e) (cell_inside s row column) ≡ r →
+            (d : Bool) → packed s x e ≡ d → (g : Bool) → unpackable s ci x e ≡ g → (r : Option ℕ) → cell_at (unpacked_in s x e) (cell_inside s row column) ≡ r →
             RightBits s ci row column e
         by false k g l r m =
             record {
@@ -253,13 +251,13 @@ demand_2_bits s b ci row column e = go (in_grid s row column e) refl (meant s (c
               fill = λ h. absurd (omega (arith, rw (i, j, k, l) at h));
               unpacked = λ h. absurd (omega (arith, rw (i, j, k, l) at h));
             }
-        by true k true l out.Malformed m =
+        by true k true l None m =
             record {
               stored = λ h. absurd (omega (arith, rw (i, j, k, l, m) at h));
               fill = λ h. absurd (omega (arith, rw (i, j, k, l, m) at h));
               unpacked = λ h. absurd (omega (arith, rw (i, j, k, l, m) at h));
             }
-        by true k true l (out.Cell v) m =
+        by true k true l (Some v) m =
             record {
               stored = λ h. absurd (omega (arith, rw (i, j, k, l, m) at h));
               fill = λ h. absurd (omega (arith, rw (i, j, k, l, m) at h));
@@ -270,18 +268,18 @@ pub short_bits : ShortBits
 unfolding meaning cell_by fill_of cell_in cell_from packed unpackable unpacked_in
 short_bits s ci row column e q = go (in_grid s row column e) refl (meant s (cell_tile s row column)) refl
   where
-    go : (c : Bool) → in_grid s row column e ≡ c → (f : Found) → meant s (cell_tile s row column) ≡ f → cell_bits (meaning s ci row column e) < 65536
+    go : (c : Bool) → in_grid s row column e ≡ c → (f : Option ℕ) → meant s (cell_tile s row column) ≡ f → cell_bits (meaning s ci row column e) < 65536
     go false i f j = rw i (omega arith)
-    go true i Nothing j = rw (i, j) (short_small _ _ q)
-    go true i (At x) j = by (packed s x e) refl (unpackable s ci x e) refl (cell_at (unpacked_in s x e) (cell_inside s row column)) refl
+    go true i None j = rw (i, j) (short_small _ _ q)
+    go true i (Some x) j = by (packed s x e) refl (unpackable s ci x e) refl (cell_at (unpacked_in s x e) (cell_inside s row column)) refl
       where
         by :
-            (d : Bool) → packed s x e ≡ d → (g : Bool) → unpackable s ci x e ≡ g → (r : Unpacked) → cell_at (unpacked_in s x e) (cell_inside s row column) ≡ r →
+            (d : Bool) → packed s x e ≡ d → (g : Bool) → unpackable s ci x e ≡ g → (r : Option ℕ) → cell_at (unpacked_in s x e) (cell_inside s row column) ≡ r →
             cell_bits (meaning s ci row column e) < 65536
         by false k g l r m = rw (i, j, k) (short_small _ _ q)
         by true k false l r m = rw (i, j, k, l) (omega arith)
-        by true k true l out.Malformed m = rw (i, j, k, l, m) (omega arith)
-        by true k true l (out.Cell v) m = rw (i, j, k, l, m) (short_small _ _ q)
+        by true k true l None m = rw (i, j, k, l, m) (omega arith)
+        by true k true l (Some v) m = rw (i, j, k, l, m) (short_small _ _ q)
 
 -- what the compressor index changes
 
@@ -298,7 +296,7 @@ unfolding cell_in cell_from packed unpackable unpacked_in
 unpacked_where s ci x row column e = go (packed s x e) refl (unpackable s ci x e) refl (cell_at (unpacked_in s x e) (cell_inside s row column)) refl
   where
     go :
-        (d : Bool) → packed s x e ≡ d → (g : Bool) → unpackable s ci x e ≡ g → (r : Unpacked) → cell_at (unpacked_in s x e) (cell_inside s row column) ≡ r →
+        (d : Bool) → packed s x e ≡ d → (g : Bool) → unpackable s ci x e ≡ g → (r : Option ℕ) → cell_at (unpacked_in s x e) (cell_inside s row column) ≡ r →
         OnlyPacked s ci x row column e
     go false k g l r m =
         record {
@@ -310,12 +308,12 @@ unpacked_where s ci x row column e = go (packed s x e) refl (unpackable s ci x e
           unpacked = λ v place y h. absurd (omega (arith, ap cell_kind (rw (k, l) at h)));
           malformed = λ y h. absurd (omega (arith, ap cell_kind (rw (k, l) at h)));
         }
-    go true k true l out.Malformed m =
+    go true k true l None m =
         record {
           unpacked = λ v place y h. absurd (omega (arith, ap cell_kind (rw (k, l, m) at h)));
           malformed = λ y h. (k, sym (ap cell_place (rw (k, l, m) at h)));
         }
-    go true k true l (out.Cell v) m =
+    go true k true l (Some v) m =
         record {
           unpacked = λ w place y h. (k, sym (ap cell_place (rw (k, l, m) at h)));
           malformed = λ y h. absurd (omega (arith, ap cell_kind (rw (k, l, m) at h)));
@@ -323,7 +321,7 @@ unpacked_where s ci x row column e = go (packed s x e) refl (unpackable s ci x e
 
 -- what is said of all cells of an element in a tile
 
-pub not_whole_cell : (x : Cells) (i : ℕ) → is_whole x ≡ false → cell_at x i ≡ out.Malformed
+pub not_whole_cell : (x : Cells) (i : ℕ) → is_whole x ≡ false → cell_at x i ≡ None
 unfolding is_whole cell_at
 not_whole_cell (cells vs) i e = not_both refl e
 not_whole_cell malformed i e = refl
@@ -356,7 +354,7 @@ sound_each s o ci row column e g = go (meant s (cell_tile s row column)) refl
 
     by :
         (x : ℕ) → (p : Bool) → packed s x e ≡ p → (q : Bool) → unpackable s ci x e ≡ q → (w : Bool) → is_whole (unpacked_in s x e) ≡ w →
-        meant s (cell_tile s row column) ≡ At x → EachCell s ci row column e (held_meaning s ci (cell_tile s row column) e)
+        meant s (cell_tile s row column) ≡ Some x → EachCell s ci row column e (held_meaning s ci (cell_tile s row column) e)
     by x false ep q eq w ew j =
         record {
           kind = rw (g, i, j, ep);
@@ -371,9 +369,9 @@ sound_each s o ci row column e g = go (meant s (cell_tile s row column)) refl
         let m = whole_cell (unpacked_in s x e) n ew in
         record { kind = rw (g, i, j, ep, eq, ew, m); verdict = rw (g, i, j, ep, eq, ew, m); bits = λ b h. rw (g, i, j, ep, eq, ew, m) (unpacked_bits_lem s x e n _ m) }
 
-    go : (f : Found) → meant s (cell_tile s row column) ≡ f → EachCell s ci row column e (held_meaning s ci (cell_tile s row column) e)
-    go Nothing j = record { kind = rw (g, i, j); verdict = rw (g, i, j); bits = λ b h. neither 33 (λ y. omega arith) (λ y. omega arith) (rw (i, j) at h) }
-    go (At x) j = by x (packed s x e) refl (unpackable s ci x e) refl (is_whole (unpacked_in s x e)) refl j
+    go : (f : Option ℕ) → meant s (cell_tile s row column) ≡ f → EachCell s ci row column e (held_meaning s ci (cell_tile s row column) e)
+    go None j = record { kind = rw (g, i, j); verdict = rw (g, i, j); bits = λ b h. neither 33 (λ y. omega arith) (λ y. omega arith) (rw (i, j) at h) }
+    go (Some x) j = by x (packed s x e) refl (unpackable s ci x e) refl (is_whole (unpacked_in s x e)) refl j
 
 pub held_each : HeldEach
 held_each s a = sound_each s (accepted_sound s a)
@@ -384,13 +382,13 @@ held_counted s ci tile e = go (in_tiles s tile e) refl (meant s tile) refl
   where
     by :
         (x : ℕ) → (p : Bool) → packed s x e ≡ p → (q : Bool) → unpackable s ci x e ≡ q → (w : Bool) → is_whole (unpacked_in s x e) ≡ w →
-        in_tiles s tile e ≡ true → meant s tile ≡ At x → length (held_bits s e (held_meaning s ci tile e)) ≡ held_count s (held_meaning s ci tile e)
+        in_tiles s tile e ≡ true → meant s tile ≡ Some x → length (held_bits s e (held_meaning s ci tile e)) ≡ held_count s (held_meaning s ci tile e)
     by x false ep q eq w ew i j = rw (i, j, ep) (stored_long s (element s e).kind (element_content_at s x e) (tile_rows s * tile_columns s))
     by x true ep false eq w ew i j = rw (i, j, ep, eq)
     by x true ep true eq false ew i j = rw (i, j, ep, eq, ew)
     by x true ep true eq true ew i j = rw (i, j, ep, eq, ew) (content_long s x e ew)
 
-    go : (b : Bool) → in_tiles s tile e ≡ b → (f : Found) → meant s tile ≡ f → length (held_bits s e (held_meaning s ci tile e)) ≡ held_count s (held_meaning s ci tile e)
+    go : (b : Bool) → in_tiles s tile e ≡ b → (f : Option ℕ) → meant s tile ≡ f → length (held_bits s e (held_meaning s ci tile e)) ≡ held_count s (held_meaning s ci tile e)
     go false i f j = rw i
-    go true i Nothing j = rw (i, j)
-    go true i (At x) j = by x (packed s x e) refl (unpackable s ci x e) refl (is_whole (unpacked_in s x e)) refl i j
+    go true i None j = rw (i, j)
+    go true i (Some x) j = by x (packed s x e) refl (unpackable s ci x e) refl (is_whole (unpacked_in s x e)) refl i j

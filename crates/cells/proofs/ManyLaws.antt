@@ -1,4 +1,5 @@
 -- Many reads after one check: a cell told from what is held, which on a sound page is its meaning. Assumes nothing.
+use Rattle.std.specs.Prelude.{Err, None, Ok, Option, Result, Some}
 use Prim.Native.Nat.{ℕ, ◌+◌, ◌*◌, ◌≤◌, ◌<◌}
 use mathlib.Core.Path.{◌≡◌, refl, sym, ap, ◌∙◌}
 use mathlib.Core.List.{List, [], ◌∷◌}
@@ -24,8 +25,6 @@ use Rattle.answer.specs.Values.{value_of}
 use Rattle.answer.specs.Answers.{held_kind}
 use Rattle.header.specs.Fields.{tile_rows, tile_columns, element_count}
 use Rattle.header.specs.Element.{cell_size, element}
-use Rattle.record.specs.declared.Found.{Found}
-use Rattle.record.specs.declared.Found.TheVariants.{At, Nothing}
 use Rattle.geometry.specs.Tiles.{tile_count, cell_tile, cell_inside}
 use Rattle.geometry.specs.Sizes.{cell_offset}
 use Rattle.geometry.proofs.GridLaws.{inside_less}
@@ -53,42 +52,42 @@ use Rattle.cells.proofs.DemandLaws.{stored_inside, not_whole_cell, content_long}
 module _ (s : List ℕ) (k at t i : ℕ) where
   pub stored_in :
       (o p n : ℕ) (v : Value) → at < length s → o ≡ cell_offset k i → p ≡ at + o → n ≡ number_at (cell_size k) s (p + 0) → v ≡ value_of k n →
-      cell.Stored v p (record { tile = t; inside = i }) ≡ stored_from s k at t i
+      Ok (cell.Stored v p (record { tile = t; inside = i })) ≡ stored_from s k at t i
   unfolding stored_from
   stored_in o p n v h q u e f =
       let z : p + 0 ≡ p = omega arith in
       let w : p ≡ at + cell_offset k i = u ∙ ap (λ (x : ℕ). at + x) q in
       rw (← yes ((at + 1 ≤? length s) ∷ []) (omega arith, tt), f, e, z, w)
 
-  pub stored_past : length s ≤ at → cell.Refused Directory ≡ stored_from s k at t i
+  pub stored_past : length s ≤ at → Err Directory ≡ stored_from s k at t i
   unfolding stored_from
   stored_past h = rw (← no ((at + 1 ≤? length s) ∷ []) (λ y. omega (arith, y.0)))
 
-module _ (s m : List ℕ) (k f t i : ℕ) (x : Held) where
+module _ (s m : List ℕ) (k f t i : ℕ) (x : Result Held Refusal) where
   abbrev here : Location
   here = record { tile = t; inside = i }
 
-  pub numbered_stored : {at : ℕ} (r : Cell) → x ≡ held.Stored at → r ≡ stored_from s k at t i → r ≡ numbered_cell s k f m t i x
+  pub numbered_stored : {at : ℕ} (r : Result Cell Refusal) → x ≡ Ok (held.Stored at) → r ≡ stored_from s k at t i → r ≡ numbered_cell s k f m t i x
   unfolding numbered_cell
   numbered_stored r p e = e ∙ rw p
 
-  pub numbered_unpacked : {at : ℕ} (n : ℕ) (v : Value) → x ≡ held.Unpacked at → n ≡ get_or m i 0 → v ≡ value_of k n → cell.Unpacked v at here ≡ numbered_cell s k f m t i x
+  pub numbered_unpacked : {at : ℕ} (n : ℕ) (v : Value) → x ≡ Ok (held.Unpacked at) → n ≡ get_or m i 0 → v ≡ value_of k n → Ok (cell.Unpacked v at here) ≡ numbered_cell s k f m t i x
   unfolding numbered_cell
   numbered_unpacked n v p q e = rw (e, q, p)
 
-  pub numbered_absent : (v : Value) → x ≡ held.Absent → v ≡ value_of k f → cell.Fill v here ≡ numbered_cell s k f m t i x
+  pub numbered_absent : (v : Value) → x ≡ Ok held.Absent → v ≡ value_of k f → Ok (cell.Fill v here) ≡ numbered_cell s k f m t i x
   unfolding numbered_cell
   numbered_absent v p e = rw (e, p)
 
-  pub numbered_alone : x ≡ held.Alone → cell.Refused Directory ≡ numbered_cell s k f m t i x
+  pub numbered_alone : x ≡ Ok held.Alone → Err Directory ≡ numbered_cell s k f m t i x
   unfolding numbered_cell
   numbered_alone p = rw p
 
-  pub numbered_refused : {r : Refusal} → x ≡ held.Refused r → cell.Refused r ≡ numbered_cell s k f m t i x
+  pub numbered_refused : {r : Refusal} → x ≡ Err r → Err r ≡ numbered_cell s k f m t i x
   unfolding numbered_cell
   numbered_refused p = rw p
 
-module _ (s : List ℕ) (ci : ℕ) (m : List ℕ) (row column e n : ℕ) (x : Held) (r : Cell) (q : n ≡ held_kind x) where
+module _ (s : List ℕ) (ci : ℕ) (m : List ℕ) (row column e n : ℕ) (x : Result Held Refusal) (r : Result Cell Refusal) (q : n ≡ held_kind x) where
   pub told_alone : n ≡ 0 → r ≡ looked_up s ci (referred_to s (tile_directory_at s)) row column e → r ≡ told_by s ci m row column e x
   unfolding told_by
   told_alone h f = f ∙ rw (eq-eqb (held_kind x) 0 (sym q ∙ h))
@@ -105,7 +104,7 @@ module _ (s : List ℕ) (o : Sound s) (ci row column e : ℕ) (m : List ℕ) (g 
   abbrev i : ℕ
   i = cell_inside s row column
 
-  means : (f : Found) → meant s (cell_tile s row column) ≡ f → meaning s ci row column e ≡ cell_of s ci row column e f
+  means : (f : Option ℕ) → meant s (cell_tile s row column) ≡ f → meaning s ci row column e ≡ cell_of s ci row column e f
   unfolding meaning cell_by
   means f j = rw (g, j)
 
@@ -113,10 +112,10 @@ module _ (s : List ℕ) (o : Sound s) (ci row column e : ℕ) (m : List ℕ) (g 
   unfolding cell_inside
   few = let d = sides_mean s (sound_lawful s o) in inside_less (tile_rows s) (tile_columns s) row column (omega (arith, d.tile_rows_lem.0)) (omega (arith, d.tile_columns_lem.0))
 
-  abbrev Told : ℕ → Held → Type 0
+  abbrev Told : ℕ → Result Held Refusal → Type 0
   Told x y = told_by s ci (put m 0 (unpacked_bits s e y)) row column e y ≡ cell_in s ci x row column e
 
-  by_record : (x : ℕ) → meant s (cell_tile s row column) ≡ At x → Told x (held_room s ci x e (length m))
+  by_record : (x : ℕ) → meant s (cell_tile s row column) ≡ Some x → Told x (held_room s ci x e (length m))
   unfolding cell_in cell_from packed unpackable unpacked_in told_by numbered_cell stored_from stored_at offset_in location_of
   by_record x j = go (packed s x e) refl (unpackable s ci x e) refl (is_whole (unpacked_in s x e)) refl
     where
@@ -125,14 +124,14 @@ module _ (s : List ℕ) (o : Sound s) (ci row column e : ℕ) (m : List ℕ) (g 
 
       go : (p : Bool) → packed s x e ≡ p → (u : Bool) → unpackable s ci x e ≡ u → (w : Bool) → is_whole (unpacked_in s x e) ≡ w → Told x (held_room s ci x e (length m))
       go false ep u eu w ew =
-          let q : meaning s ci row column e ≡ stored_at s (location_of s row column) e (at + offset_in s row column e) = means (At x) j ∙ rw ep in
+          let q : meaning s ci row column e ≡ stored_at s (location_of s row column) e (at + offset_in s row column e) = means (Some x) j ∙ rw ep in
           let l = stored_inside s o ci row column e _ _ _ q in
           let h : at < length s = omega (arith, l, (size_range (element s e).kind).0) in
           rw (room_stored s ci x e (length m) ep, ep, ← yes ((at + 1 ≤? length s) ∷ []) (omega arith, tt))
       go true ep false eu w ew = rw (room_packed s ci x e (length m) ep eu, ep, eu)
       go true ep true eu w ew =
           by_cases (dec_le (tile_rows s * tile_columns s) (length m)) (λ h. fits w ew h)
-          (λ h. rw (room_alone s ci x e (length m) ep eu (omega arith)) (looked_means s _ (sound_lawful s o) (sound_finds s o) ci row column e ∙ means (At x) j ∙ rw ep))
+          (λ h. rw (room_alone s ci x e (length m) ep eu (omega arith)) (looked_means s _ (sound_lawful s o) (sound_finds s o) ci row column e ∙ means (Some x) j ∙ rw ep))
         where
           fits : (w : Bool) → is_whole (unpacked_in s x e) ≡ w → tile_rows s * tile_columns s ≤ length m → Told x (held_room s ci x e (length m))
           fits false ew h = rw (room_malformed s ci x e (length m) ep eu h ew, ep, eu, not_whole_cell (unpacked_in s x e) i ew)
@@ -144,11 +143,11 @@ module _ (s : List ℕ) (o : Sound s) (ci row column e : ℕ) (m : List ℕ) (g 
               rw (room_unpacked s ci x e (length m) ep eu h ew, ep, eu, whole_cell (unpacked_in s x e) i ew, in_at s x e, c)
 
   by_found :
-      (f : Found) → meant s (cell_tile s row column) ≡ f →
+      (f : Option ℕ) → meant s (cell_tile s row column) ≡ f →
       told_by s ci (put m 0 (unpacked_bits s e (room_of s ci e (length m) f))) row column e (room_of s ci e (length m) f) ≡ meaning s ci row column e
   unfolding told_by numbered_cell fill_of location_of
-  by_found Nothing j = sym (means Nothing j)
-  by_found (At x) j = by_record x j ∙ sym (means (At x) j)
+  by_found None j = sym (means None j)
+  by_found (Some x) j = by_record x j ∙ sym (means (Some x) j)
 
 pub sound_holds :
     (s : List ℕ) → Sound s → (ci tile e : ℕ) (m : List ℕ) → tile < tile_count s → e < element_count s →
@@ -160,12 +159,12 @@ sound_holds s o ci tile e m t n =
       numbered = λ h row column g k. rw (ne_eqb (held_kind x) 0 h, k) at (found row column g k);
     }
   where
-    x : Held
+    x : Result Held Refusal
     x = held_by_directory s ci tile e (length m)
 
     b : x ≡ room_of s ci e (length m) (meant s tile)
     b =
-        tile_looked_means s _ (sound_lawful s o) (sound_finds s o) held.Refused (room_of s ci e (length m)) tile e ∙ rw (← tiles_in_lem s tile e _ _ refl refl t n)
+        tile_looked_means s _ (sound_lawful s o) (sound_finds s o) Err (room_of s ci e (length m)) tile e ∙ rw (← tiles_in_lem s tile e _ _ refl refl t n)
 
     found :
         (row column : ℕ) → in_grid s row column e ≡ true → cell_tile s row column ≡ tile →
@@ -176,10 +175,10 @@ pub holds_accepted : HoldsAccepted
 holds_accepted s a = sound_holds s (accepted_sound s a)
 
 -- and with memory of which is said only what it holds where a content is not malformed: of a refused one it is not asked
-pub holds_lent : (s : List ℕ) (ci tile e : ℕ) (x : Held) (v o : List ℕ) → (MemorySaid false x → o ≡ v) → Holds s ci tile e x v → Holds s ci tile e x o
+pub holds_lent : (s : List ℕ) (ci tile e : ℕ) (x : Result Held Refusal) (v o : List ℕ) → (MemorySaid false x → o ≡ v) → Holds s ci tile e x v → Holds s ci tile e x o
 unfolding held_cell told_by numbered_cell
-holds_lent s ci tile e (held.Refused r) v o f h = record { each = h.each; numbered = h.numbered }
-holds_lent s ci tile e (held.Stored at) v o f h = rw (f (λ k y g. absurd (omega (arith, ap held_kind g)))) h
-holds_lent s ci tile e (held.Unpacked at) v o f h = rw (f (λ k y g. absurd (omega (arith, ap held_kind g)))) h
-holds_lent s ci tile e held.Absent v o f h = rw (f (λ k y g. absurd (omega (arith, ap held_kind g)))) h
-holds_lent s ci tile e held.Alone v o f h = rw (f (λ k y g. absurd (omega (arith, ap held_kind g)))) h
+holds_lent s ci tile e (Err r) v o f h = record { each = h.each; numbered = h.numbered }
+holds_lent s ci tile e (Ok (held.Stored at)) v o f h = rw (f (λ k y g. absurd (omega (arith, ap held_kind g)))) h
+holds_lent s ci tile e (Ok (held.Unpacked at)) v o f h = rw (f (λ k y g. absurd (omega (arith, ap held_kind g)))) h
+holds_lent s ci tile e (Ok held.Absent) v o f h = rw (f (λ k y g. absurd (omega (arith, ap held_kind g)))) h
+holds_lent s ci tile e (Ok held.Alone) v o f h = rw (f (λ k y g. absurd (omega (arith, ap held_kind g)))) h

@@ -1,4 +1,6 @@
 -- Look-ups and reads: the check's refusal, or the answer by a way, which is the cell's meaning. Assumes nothing.
+use Rattle.std.specs.Prelude.{Err, None, Ok, Option, Result, Some, ⊤}
+use Rattle.answer.specs.declared.Extent.{Extent}
 use Prim.Native.Nat.{ℕ, ◌+◌, ◌<◌}
 use mathlib.Core.Path.{◌≡◌, refl, sym, ◌∙◌}
 use mathlib.Core.List.{List}
@@ -9,18 +11,12 @@ use Rattle.wire.specs.Bytes.{part, part_at}
 use Rattle.wire.proofs.TestLaws.{means, yes}
 use Rattle.answer.specs.declared.Refusal.{Refusal}
 use Rattle.answer.specs.declared.Refusal.TheVariants.{Directory, OutsideGrid}
-use Rattle.answer.specs.declared.Verdict.{Verdict}
-use Rattle.answer.specs.declared.Verdict.TheVariants.{Accepted, Refused}
 use Rattle.answer.specs.declared.Cell.{Cell}
 use Rattle.answer.specs.declared.Cell.TheVariants as cell
-use Rattle.answer.specs.declared.Content.{Content}
-use Rattle.answer.specs.declared.Content.TheVariants as content
 use Rattle.answer.specs.declared.Held.{Held}
 use Rattle.answer.specs.declared.Held.TheVariants as held
 use Rattle.answer.specs.Answers.{content_place, content_length}
 use Rattle.answer.proofs.VerdictLaws.{behind_passed, refusal_handed, answer_behind, same_behind}
-use Rattle.record.specs.declared.Found.{Found}
-use Rattle.record.specs.declared.Found.TheVariants.{At, Nothing}
 use Rattle.record.specs.Chain.{header_end, records}
 use Rattle.geometry.specs.Tiles.{cell_tile, tile_count}
 use Rattle.geometry.proofs.GridLaws.{tile_less}
@@ -64,13 +60,13 @@ module _ {A : Type 0} (refused : Refusal → A) (s : List ℕ) (there b : Bool) 
 
 module _ (s : List ℕ) (b c : Bool) (q : c ≡ sides_lawful s) (f : b ≡ true) (h : c ≡ true) where
   pub looked_found :
-      (way : ℕ → Found) (ci row column e : ℕ) → b ≡ in_grid s row column e → (i : ℕ) (g : Found) (x : Cell) → i ≡ cell_tile s row column → g ≡ way i →
+      (way : ℕ → Option ℕ) (ci row column e : ℕ) → b ≡ in_grid s row column e → (i : ℕ) (g : Option ℕ) (x : Result Cell Refusal) → i ≡ cell_tile s row column → g ≡ way i →
       x ≡ cell_reached s ci row column e g → x ≡ looked_up s ci way row column e
   unfolding looked_up
-  looked_found way ci row column e p i g x t m k = guarded_answer cell.Refused s _ b p _ c q f x h (k ∙ rw (m, t))
+  looked_found way ci row column e p i g x t m k = guarded_answer Err s _ b p _ c q f x h (k ∙ rw (m, t))
 
   pub tile_looked :
-      {A : Type 0} (refused : Refusal → A) (said : Found → A) (way : ℕ → Found) (tile e : ℕ) → b ≡ in_tiles s tile e → (i : ℕ) (g : Found) (x : A) → i ≡ tile → g ≡ way i →
+      {A : Type 0} (refused : Refusal → A) (said : Option ℕ → A) (way : ℕ → Option ℕ) (tile e : ℕ) → b ≡ in_tiles s tile e → (i : ℕ) (g : Option ℕ) (x : A) → i ≡ tile → g ≡ way i →
       x ≡ reached_by refused said s g → x ≡ looked_tile refused said s way tile e
   unfolding looked_tile
   tile_looked refused said way tile e p i g x t m k = guarded_answer refused s _ b p _ c q f x h (k ∙ rw (m, t))
@@ -80,11 +76,11 @@ module _ (s : List ℕ) (b c : Bool) (q : c ≡ sides_lawful s) (f : b ≡ true)
 reach_meant : (s : List ℕ) (i : ℕ) → in_reach s (meant s i) ≡ true
 reach_meant s i = go (meant s i) refl
   where
-    go : (f : Found) → meant s i ≡ f → in_reach s f ≡ true
-    go Nothing e = refl
-    go (At x) e = sym (yes _ (omega (arith, (meant_is s i x e).inside), tt))
+    go : (f : Option ℕ) → meant s i ≡ f → in_reach s f ≡ true
+    go None e = refl
+    go (Some x) e = sym (yes _ (omega (arith, (meant_is s i x e).inside), tt))
 
-module _ (s : List ℕ) (way : ℕ → Found) (lawful : sides_lawful s ≡ true) (finds : (i : ℕ) → i < tile_count s → way i ≡ meant s i) where
+module _ (s : List ℕ) (way : ℕ → Option ℕ) (lawful : sides_lawful s ≡ true) (finds : (i : ℕ) → i < tile_count s → way i ≡ meant s i) where
   pub way_means : (ci row column e : ℕ) → cell_by s ci way row column e ≡ meaning s ci row column e
   unfolding meaning
   way_means ci row column e =
@@ -103,7 +99,7 @@ module _ (s : List ℕ) (way : ℕ → Found) (lawful : sides_lawful s ≡ true)
           rw (f, lawful, finds (cell_tile s row column) t, reach_meant s (cell_tile s row column))
       go false f = rw f
 
-  pub tile_looked_means : {A : Type 0} (refused : Refusal → A) (said : Found → A) (tile e : ℕ) → looked_tile refused said s way tile e ≡ tile_by refused said s (meant s) tile e
+  pub tile_looked_means : {A : Type 0} (refused : Refusal → A) (said : Option ℕ → A) (tile e : ℕ) → looked_tile refused said s way tile e ≡ tile_by refused said s (meant s) tile e
   unfolding looked_tile guarded reached_by tile_by
   tile_looked_means refused said tile e = go (in_tiles s tile e) refl
     where
@@ -113,11 +109,11 @@ module _ (s : List ℕ) (way : ℕ → Found) (lawful : sides_lawful s ≡ true)
 
   pub content_way_means : (tile e : ℕ) → content_by s way tile e ≡ content_meaning s tile e
   unfolding content_meaning
-  content_way_means tile e = tile_same s way (meant s) finds content.Refused (content_of s e) tile e
+  content_way_means tile e = tile_same s way (meant s) finds Err (content_of s e) tile e
 
   pub content_looked_means : (tile e : ℕ) → looked_up_content s way tile e ≡ content_meaning s tile e
   unfolding content_meaning
-  content_looked_means tile e = tile_looked_means content.Refused (content_of s e) tile e
+  content_looked_means tile e = tile_looked_means Err (content_of s e) tile e
 
 -- lawful sides, from the check
 
@@ -125,17 +121,17 @@ lawful_of : (s : List ℕ) → Headed s (length s) → sides_lawful s ≡ true
 unfolding header_right within_ceilings sides_lawful
 lawful_of s h = sym (yes _ ((means _ h.header).1.0, ((means _ h.ceilings).1.0, tt)))
 
-pub bodies_lawful : (s : List ℕ) → check_to_bodies s ≡ Accepted → sides_lawful s ≡ true
+pub bodies_lawful : (s : List ℕ) → check_to_bodies s ≡ Ok tt → sides_lawful s ≡ true
 unfolding check_to_bodies
 bodies_lawful s e = lawful_of s (headed_if s (behind_passed _ _ e).0).0
 
 pub sound_lawful : (s : List ℕ) → Sound s → sides_lawful s ≡ true
 sound_lawful s o = lawful_of s o.headed
 
-pub check_lawful : (s : List ℕ) → check s ≡ Accepted → sides_lawful s ≡ true
+pub check_lawful : (s : List ℕ) → check s ≡ Ok tt → sides_lawful s ≡ true
 check_lawful s e = sound_lawful s (accepted_sound s e)
 
-pub passed_bodies : (s : List ℕ) → check s ≡ Accepted → check_to_bodies s ≡ Accepted
+pub passed_bodies : (s : List ℕ) → check s ≡ Ok tt → check_to_bodies s ≡ Ok tt
 passed_bodies s a = (behind_passed _ _ (sym (bodies_then s) ∙ a)).0
 
 -- so by the directory of a sound page, and by the walk
@@ -143,18 +139,18 @@ passed_bodies s a = (behind_passed _ _ (sym (bodies_then s) ∙ a)).0
 pub sound_finds : (s : List ℕ) → Sound s → (i : ℕ) → i < tile_count s → referred_to s (tile_directory_at s) i ≡ meant s i
 sound_finds s o i h = directory_finds s (sound_one s (records s) o) i h
 
-pub accepted_finds : (s : List ℕ) → check s ≡ Accepted → (i : ℕ) → i < tile_count s → referred_to s (tile_directory_at s) i ≡ meant s i
+pub accepted_finds : (s : List ℕ) → check s ≡ Ok tt → (i : ℕ) → i < tile_count s → referred_to s (tile_directory_at s) i ≡ meant s i
 accepted_finds s a = sound_finds s (accepted_sound s a)
 
 pub walked_finds : (s : List ℕ) (i : ℕ) → i < tile_count s → walked_to s (header_end s) i ≡ meant s i
 walked_finds s i h = walk_finds s i
 
-module _ (s : List ℕ) (at ci row column e : ℕ) (x : Cell) where
+module _ (s : List ℕ) (at ci row column e : ℕ) (x : Result Cell Refusal) where
   pub looked_directory : x ≡ looked_up s ci (found_by s (route.Directory at)) row column e → at ≡ tile_directory_at s → x ≡ looked_up s ci (referred_to s (tile_directory_at s)) row column e
   unfolding found_by
   looked_directory p q = p ∙ rw q
 
-  pub directory_answer : x ≡ looked_up s ci (found_by s (route.Directory at)) row column e → at ≡ tile_directory_at s → check s ≡ Accepted → x ≡ meaning s ci row column e
+  pub directory_answer : x ≡ looked_up s ci (found_by s (route.Directory at)) row column e → at ≡ tile_directory_at s → check s ≡ Ok tt → x ≡ meaning s ci row column e
   directory_answer p q a = looked_directory p q ∙ looked_means s _ (check_lawful s a) (accepted_finds s a) ci row column e
 
   pub walk_answer : x ≡ looked_up s ci (found_by s (route.Walk at)) row column e → at ≡ header_end s → sides_lawful s ≡ true → x ≡ meaning s ci row column e
@@ -162,22 +158,22 @@ module _ (s : List ℕ) (at ci row column e : ℕ) (x : Cell) where
   walk_answer p q l = p ∙ rw q (looked_means s _ l (walked_finds s) ci row column e)
 
 pub tile_answer :
-    {A : Type 0} (refused : Refusal → A) (said : Found → A) (s : List ℕ) (at tile e : ℕ) (x : A) → x ≡ looked_tile refused said s (found_by s (route.Directory at)) tile e →
-    at ≡ tile_directory_at s → check s ≡ Accepted → x ≡ tile_by refused said s (meant s) tile e
+    {A : Type 0} (refused : Refusal → A) (said : Option ℕ → A) (s : List ℕ) (at tile e : ℕ) (x : A) → x ≡ looked_tile refused said s (found_by s (route.Directory at)) tile e →
+    at ≡ tile_directory_at s → check s ≡ Ok tt → x ≡ tile_by refused said s (meant s) tile e
 unfolding found_by
 tile_answer refused said s at tile e x p q a = p ∙ rw q (tile_looked_means s _ (check_lawful s a) (accepted_finds s a) refused said tile e)
 
 pub content_answer :
-    (s : List ℕ) (at tile e : ℕ) (x : Content) → x ≡ looked_up_content s (found_by s (route.Directory at)) tile e → at ≡ tile_directory_at s → check s ≡ Accepted →
+    (s : List ℕ) (at tile e : ℕ) (x : Result (Option Extent) Refusal) → x ≡ looked_up_content s (found_by s (route.Directory at)) tile e → at ≡ tile_directory_at s → check s ≡ Ok tt →
     x ≡ content_meaning s tile e
 unfolding content_meaning
-content_answer s at tile e x p q a = tile_answer content.Refused (content_of s e) s at tile e x p q a
+content_answer s at tile e x p q a = tile_answer Err (content_of s e) s at tile e x p q a
 
 pub held_answer :
-    (s : List ℕ) (ci at tile e : ℕ) (x : Held) → x ≡ looked_up_held s ci (found_by s (route.Directory at)) tile e → at ≡ tile_directory_at s → check s ≡ Accepted →
+    (s : List ℕ) (ci at tile e : ℕ) (x : Result Held Refusal) → x ≡ looked_up_held s ci (found_by s (route.Directory at)) tile e → at ≡ tile_directory_at s → check s ≡ Ok tt →
     x ≡ held_meaning s ci tile e
 unfolding held_meaning
-held_answer s ci at tile e x p q a = tile_answer held.Refused (held_of s ci e) s at tile e x p q a
+held_answer s ci at tile e x p q a = tile_answer Err (held_of s ci e) s at tile e x p q a
 
 pub sound_cells : SoundCells
 sound_cells s o ci =
@@ -191,55 +187,55 @@ sound_cells s o ci =
 module _ (s : List ℕ) (ci row column e : ℕ) where
   pub directory_read : read_by_directory s ci row column e ≡ read_meaning s ci row column e
   unfolding read_by_directory read_meaning
-  directory_read = same_behind cell.Refused (check s) _ _ (λ a. way_means s _ (check_lawful s a) (accepted_finds s a) ci row column e)
+  directory_read = same_behind Err (check s) _ _ (λ a. way_means s _ (check_lawful s a) (accepted_finds s a) ci row column e)
 
   pub walk_read : read_by_walk s ci row column e ≡ read_meaning s ci row column e
   unfolding read_by_walk read_meaning
-  walk_read = same_behind cell.Refused (check s) _ _ (λ a. way_means s _ (check_lawful s a) (walked_finds s) ci row column e)
+  walk_read = same_behind Err (check s) _ _ (λ a. way_means s _ (check_lawful s a) (walked_finds s) ci row column e)
 
   pub records_read : read_by_records s ci row column e ≡ records_meaning s ci row column e
   unfolding read_by_records records_meaning
-  records_read = same_behind cell.Refused (check_to_bodies s) _ _ (λ a. way_means s _ (bodies_lawful s a) (walked_finds s) ci row column e)
+  records_read = same_behind Err (check_to_bodies s) _ _ (λ a. way_means s _ (bodies_lawful s a) (walked_finds s) ci row column e)
 
 -- a function that answers so
 
-module _ (s : List ℕ) (v : Verdict) (p : v ≡ check s) where
-  pub mean_refused : (ci row column e : ℕ) (x : Refusal) → v ≡ Refused x → cell.Refused x ≡ read_meaning s ci row column e
+module _ (s : List ℕ) (v : Result ⊤ Refusal) (p : v ≡ check s) where
+  pub mean_refused : (ci row column e : ℕ) (x : Refusal) → v ≡ Err x → Err x ≡ read_meaning s ci row column e
   unfolding read_meaning
-  mean_refused ci row column e x f = refusal_handed cell.Refused v (check s) p _ x f
+  mean_refused ci row column e x f = refusal_handed Err v (check s) p _ x f
 
-  pub mean_answer : (ci row column e : ℕ) (x : Cell) → v ≡ Accepted → (check s ≡ Accepted → x ≡ meaning s ci row column e) → x ≡ read_meaning s ci row column e
+  pub mean_answer : (ci row column e : ℕ) (x : Result Cell Refusal) → v ≡ Ok tt → (check s ≡ Ok tt → x ≡ meaning s ci row column e) → x ≡ read_meaning s ci row column e
   unfolding read_meaning
-  mean_answer ci row column e x f g = answer_behind cell.Refused v (check s) p _ x f g
+  mean_answer ci row column e x f g = answer_behind Err v (check s) p _ x f g
 
-  pub content_refused : (tile e : ℕ) (x : Refusal) → v ≡ Refused x → content.Refused x ≡ read_content s tile e
+  pub content_refused : (tile e : ℕ) (x : Refusal) → v ≡ Err x → Err x ≡ read_content s tile e
   unfolding read_content
-  content_refused tile e x f = refusal_handed content.Refused v (check s) p _ x f
+  content_refused tile e x f = refusal_handed Err v (check s) p _ x f
 
-  pub content_mean : (tile e : ℕ) (x : Content) → v ≡ Accepted → (check s ≡ Accepted → x ≡ content_meaning s tile e) → x ≡ read_content s tile e
+  pub content_mean : (tile e : ℕ) (x : Result (Option Extent) Refusal) → v ≡ Ok tt → (check s ≡ Ok tt → x ≡ content_meaning s tile e) → x ≡ read_content s tile e
   unfolding read_content
-  content_mean tile e x f g = answer_behind content.Refused v (check s) p _ x f g
+  content_mean tile e x f g = answer_behind Err v (check s) p _ x f g
 
-  pub held_refused : (ci tile e : ℕ) (x : Refusal) → v ≡ Refused x → held.Refused x ≡ read_held s ci tile e
+  pub held_refused : (ci tile e : ℕ) (x : Refusal) → v ≡ Err x → Err x ≡ read_held s ci tile e
   unfolding read_held
-  held_refused ci tile e x f = refusal_handed held.Refused v (check s) p _ x f
+  held_refused ci tile e x f = refusal_handed Err v (check s) p _ x f
 
-  pub held_mean : (ci tile e : ℕ) (x : Held) → v ≡ Accepted → (check s ≡ Accepted → x ≡ held_meaning s ci tile e) → x ≡ read_held s ci tile e
+  pub held_mean : (ci tile e : ℕ) (x : Result Held Refusal) → v ≡ Ok tt → (check s ≡ Ok tt → x ≡ held_meaning s ci tile e) → x ≡ read_held s ci tile e
   unfolding read_held
-  held_mean ci tile e x f g = answer_behind held.Refused v (check s) p _ x f g
+  held_mean ci tile e x f g = answer_behind Err v (check s) p _ x f g
 
-module _ (s : List ℕ) (v : Verdict) (p : v ≡ check_to_bodies s) (ci row column e : ℕ) where
-  pub bodies_refused : (x : Refusal) → v ≡ Refused x → cell.Refused x ≡ records_meaning s ci row column e
+module _ (s : List ℕ) (v : Result ⊤ Refusal) (p : v ≡ check_to_bodies s) (ci row column e : ℕ) where
+  pub bodies_refused : (x : Refusal) → v ≡ Err x → Err x ≡ records_meaning s ci row column e
   unfolding records_meaning
-  bodies_refused x f = refusal_handed cell.Refused v (check_to_bodies s) p _ x f
+  bodies_refused x f = refusal_handed Err v (check_to_bodies s) p _ x f
 
-  pub bodies_answer : (x : Cell) → v ≡ Accepted → (check_to_bodies s ≡ Accepted → x ≡ meaning s ci row column e) → x ≡ records_meaning s ci row column e
+  pub bodies_answer : (x : Result Cell Refusal) → v ≡ Ok tt → (check_to_bodies s ≡ Ok tt → x ≡ meaning s ci row column e) → x ≡ records_meaning s ci row column e
   unfolding records_meaning
-  bodies_answer x f g = answer_behind cell.Refused v (check_to_bodies s) p _ x f g
+  bodies_answer x f g = answer_behind Err v (check_to_bodies s) p _ x f g
 
 -- by its route, and by the meaning
 
-module _ (s : List ℕ) (ci row column e : ℕ) (x : Cell) where
+module _ (s : List ℕ) (ci row column e : ℕ) (x : Result Cell Refusal) where
   pub both_directory : x ≡ read_meaning s ci row column e → (x ≡ read_by_directory s ci row column e) × (x ≡ read_meaning s ci row column e)
   both_directory g = (g ∙ sym (directory_read s ci row column e), g)
 
@@ -252,11 +248,11 @@ module _ (s : List ℕ) (ci row column e : ℕ) (x : Cell) where
 -- an element's content as a part of the file
 
 pub part_is :
-    (s l : List ℕ) (a n : ℕ) (x y : Content) → x ≡ y → a ≡ content_place x → n ≡ content_length x → l ≡ part s a n →
+    (s l : List ℕ) (a n : ℕ) (x y : Result (Option Extent) Refusal) → x ≡ y → a ≡ content_place x → n ≡ content_length x → l ≡ part s a n →
     l ≡ part s (content_place y) (content_length y)
 part_is s l a n x y p q t f = f ∙ rw (q, t, p)
 
 pub offset_at :
-    (s : List ℕ) (a n o b : ℕ) (x y : Content) → x ≡ y → a ≡ content_place x → n ≡ content_length x → o ≡ b + part_at s a n →
+    (s : List ℕ) (a n o b : ℕ) (x y : Result (Option Extent) Refusal) → x ≡ y → a ≡ content_place x → n ≡ content_length x → o ≡ b + part_at s a n →
     o ≡ b + part_at s (content_place y) (content_length y)
 offset_at s a n o b x y p q t f = f ∙ rw (q, t, p)

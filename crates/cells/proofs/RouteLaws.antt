@@ -1,11 +1,11 @@
 -- Every way finds the record that is meant, so a cell and a content are by every way what they mean. Assumes nothing.
+use Rattle.std.specs.Prelude.{Option}
 use Prim.Native.Nat.{ℕ, ◌<◌}
 use mathlib.Core.Path.{◌≡◌, refl}
 use mathlib.Core.List.{List}
 use mathlib.Core.Bool.{Bool, true, false}
 use Rattle.header.specs.Fields.{tile_rows, tile_columns}
 use Rattle.answer.specs.declared.Refusal.{Refusal}
-use Rattle.record.specs.declared.Found.{Found}
 use Rattle.geometry.specs.Tiles.{cell_tile, tile_count}
 use Rattle.geometry.proofs.GridLaws.{tile_less}
 use Rattle.cells.specs.Asked.{in_grid, in_tiles}
@@ -14,7 +14,7 @@ use Rattle.cells.proofs.CellLaws.{grid_means, tiles_mean}
 
 -- two ways that find the same of each tile say the same of each cell and of each content
 
-module _ (s : List ℕ) (way other : ℕ → Found) (same : (i : ℕ) → i < tile_count s → way i ≡ other i) where
+module _ (s : List ℕ) (way other : ℕ → Option ℕ) (same : (i : ℕ) → i < tile_count s → way i ≡ other i) where
   pub cell_same : (ci row column e : ℕ) → 0 < tile_rows s → 0 < tile_columns s → cell_by s ci way row column e ≡ cell_by s ci other row column e
   unfolding cell_by
   cell_same ci row column e h w = go (in_grid s row column e) refl
@@ -27,7 +27,7 @@ module _ (s : List ℕ) (way other : ℕ → Found) (same : (i : ℕ) → i < ti
           rw (same (cell_tile s row column) (tile_less s row column h w g.0 g.1.0))
       go false f = rw f
 
-  pub tile_same : {A : Type 0} (refused : Refusal → A) (said : Found → A) (tile e : ℕ) → tile_by refused said s way tile e ≡ tile_by refused said s other tile e
+  pub tile_same : {A : Type 0} (refused : Refusal → A) (said : Option ℕ → A) (tile e : ℕ) → tile_by refused said s way tile e ≡ tile_by refused said s other tile e
   unfolding tile_by
   tile_same refused said tile e = go (in_tiles s tile e) refl
     where

@@ -5,7 +5,8 @@
 -- fill everywhere contradicts `fill` where a record is a tile record with the cell's index; one that never unpacks contradicts `unpacked`;
 -- one that ignores the index contradicts `unpacked` and `compressed` where the content's first byte is another, and one that unpacks a
 -- Float the same two; one that places 14 at the content contradicts `malformed`. `exact_cells` shows these five on a page.
-use Rattle.std.specs.Prelude.{ℕ, ◌+◌, ◌*◌, ◌<◌, ◌≡◌, ◌⊎◌, length, get_or, eqb}
+use Rattle.std.specs.Prelude.{ℕ, ◌+◌, ◌*◌, ◌<◌, ◌≡◌, ◌⊎◌, length, get_or, eqb, Err, Ok, Result}
+use Rattle.answer.specs.declared.Refusal.{Refusal}
 use mathlib.Core.List.{List, [], ◌∷◌, Memᴰ}
 use Rattle.wire.specs.Bytes.{Bytes, byte_at, part, number_at}
 use Rattle.answer.specs.declared.Refusal.TheVariants as refusal
@@ -13,7 +14,6 @@ use Rattle.answer.specs.declared.Value.{Value}
 use Rattle.answer.specs.declared.Location.{Location}
 use Rattle.answer.specs.declared.Cell.{Cell}
 use Rattle.answer.specs.declared.Cell.TheVariants as cell
-use Rattle.answer.specs.declared.Verdict.TheVariants.{Accepted}
 use Rattle.answer.specs.Values.{value_of}
 use Rattle.answer.specs.Answers.{cell_kind}
 use Rattle.header.specs.Fields.{grid_rows, grid_columns, tile_rows, tile_columns, element_count}
@@ -110,17 +110,17 @@ pub record IsCompressed (s : List ℕ) (ci row column e x : ℕ) : Type 0 where
   pub other : (byte_at s (element_content_at s x e) ≡ ci → ⊥) ⊎ ((element s e).kind ≡ float_kind)
 
 -- the six facts of an answer: 10, fill, stored, unpacked, 14, 11
-pub record CellIs (s : List ℕ) (ci row column e : ℕ) (c : Cell) : Type 0 where
-  pub outside : Exactly (c ≡ cell.Refused refusal.OutsideGrid) (OfGrid s row column e → ⊥)
-  pub fill : (v : Value) (w : Location) → Exactly (c ≡ cell.Fill v w) (IsFill s row column e v w)
-  pub stored : (v : Value) (place : ℕ) (w : Location) → Exactly (c ≡ cell.Stored v place w) (IsStored s row column e v place w)
-  pub unpacked : (v : Value) (place : ℕ) (w : Location) → Exactly (c ≡ cell.Unpacked v place w) (IsUnpacked s ci row column e v place w)
-  pub malformed : (x : ℕ) → Exactly (c ≡ cell.Refused (refusal.Malformed x)) (IsMalformed s ci row column e x)
-  pub compressed : (x : ℕ) → Exactly (c ≡ cell.Refused (refusal.Compressed x)) (IsCompressed s ci row column e x)
+pub record CellIs (s : List ℕ) (ci row column e : ℕ) (c : Result Cell Refusal) : Type 0 where
+  pub outside : Exactly (c ≡ Err refusal.OutsideGrid) (OfGrid s row column e → ⊥)
+  pub fill : (v : Value) (w : Location) → Exactly (c ≡ Ok (cell.Fill v w)) (IsFill s row column e v w)
+  pub stored : (v : Value) (place : ℕ) (w : Location) → Exactly (c ≡ Ok (cell.Stored v place w)) (IsStored s row column e v place w)
+  pub unpacked : (v : Value) (place : ℕ) (w : Location) → Exactly (c ≡ Ok (cell.Unpacked v place w)) (IsUnpacked s ci row column e v place w)
+  pub malformed : (x : ℕ) → Exactly (c ≡ Err (refusal.Malformed x)) (IsMalformed s ci row column e x)
+  pub compressed : (x : ℕ) → Exactly (c ≡ Err (refusal.Compressed x)) (IsCompressed s ci row column e x)
 
 -- on every page that is sound, accepted or open for writing, the meaning has the six facts, and no other answer has
 abbrev pub CellExactly : Type 0
-CellExactly = (s : List ℕ) → Bytes s → Sound s → (ci row column e : ℕ) (c : Cell) → Exactly (c ≡ meaning s ci row column e) (CellIs s ci row column e c)
+CellExactly = (s : List ℕ) → Bytes s → Sound s → (ci row column e : ℕ) (c : Result Cell Refusal) → Exactly (c ≡ meaning s ci row column e) (CellIs s ci row column e c)
 
 -- on an accepted file each route's answer has them, by demand 3
 pub record ReadIs (s : List ℕ) (ci row column e : ℕ) : Type 0 where
@@ -130,7 +130,7 @@ pub record ReadIs (s : List ℕ) (ci row column e : ℕ) : Type 0 where
   pub by_records : CellIs s ci row column e (read_by_records s ci row column e)
 
 abbrev pub ReadExactly : Type 0
-ReadExactly = (s : List ℕ) → Bytes s → check s ≡ Accepted → (ci row column e : ℕ) → ReadIs s ci row column e
+ReadExactly = (s : List ℕ) → Bytes s → check s ≡ Ok tt → (ci row column e : ℕ) → ReadIs s ci row column e
 
 -- so a cell of the grid is 32 stored, 33 fill, 34 unpacked, 11 or 14, and nothing else
 abbrev pub FiveKinds : Type 0

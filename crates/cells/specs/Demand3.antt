@@ -1,12 +1,10 @@
 -- Demand 3, whole: on every accepted file both routes, and the walk without stage 9, give the one answer that the cell's meaning
 -- fixes, whatever compressor index the caller names; two different stored cells never share a byte.
-use Rattle.std.specs.Prelude.{ℕ, ◌+◌, ◌*◌, ◌/◌, ◌%◌, ◌≤◌, ◌<◌, ◌≡◌, ◌⊎◌, length}
+use Rattle.std.specs.Prelude.{ℕ, ◌+◌, ◌*◌, ◌/◌, ◌%◌, ◌≤◌, ◌<◌, ◌≡◌, ◌⊎◌, length, Ok, Some}
 use mathlib.Core.List.{List, Memᴰ}
 use Rattle.answer.specs.declared.Value.{Value}
 use Rattle.answer.specs.declared.Location.{Location}
-use Rattle.answer.specs.declared.Verdict.TheVariants.{Accepted}
 use Rattle.answer.specs.declared.Cell.TheVariants.{Stored}
-use Rattle.answer.specs.declared.Content.TheVariants.{Present}
 use Rattle.answer.specs.Answers.{cell_kind, cell_place, cell_verdict, answer_tile, answer_inside}
 use Rattle.header.specs.Fields.{tile_rows, tile_columns}
 use Rattle.header.specs.Element.{cell_size, element}
@@ -42,13 +40,13 @@ pub record OneAnswer (s : List ℕ) (ci : ℕ) : Type 0 where
   -- Req 10: an answer that is no refusal names the cell's tile and its number inside the tile; both are in range, and give the row
   -- and the column back
   pub located :
-      (row column e : ℕ) → cell_verdict (meaning s ci row column e) ≡ Accepted →
+      (row column e : ℕ) → cell_verdict (meaning s ci row column e) ≡ Ok tt →
       (answer_tile (meaning s ci row column e) ≡ cell_tile s row column) × (answer_inside (meaning s ci row column e) ≡ cell_inside s row column)
   pub numbered :
-      (row column e : ℕ) → cell_verdict (meaning s ci row column e) ≡ Accepted →
+      (row column e : ℕ) → cell_verdict (meaning s ci row column e) ≡ Ok tt →
       (answer_tile (meaning s ci row column e) < tile_count s) × (answer_inside (meaning s ci row column e) < tile_rows s * tile_columns s)
   pub found_again :
-      (row column e : ℕ) → cell_verdict (meaning s ci row column e) ≡ Accepted →
+      (row column e : ℕ) → cell_verdict (meaning s ci row column e) ≡ Ok tt →
       (row ≡ answer_tile (meaning s ci row column e) / tiles_across s * tile_rows s + answer_inside (meaning s ci row column e) / tile_columns s)
       × (column ≡ answer_tile (meaning s ci row column e) % tiles_across s * tile_columns s + answer_inside (meaning s ci row column e) % tile_columns s)
   -- the place of a stored or an unpacked cell lies in the record of that tile
@@ -56,16 +54,16 @@ pub record OneAnswer (s : List ℕ) (ci : ℕ) : Type 0 where
       (row column e : ℕ) → (cell_kind (meaning s ci row column e) ≡ 32) ⊎ (cell_kind (meaning s ci row column e) ≡ 34) →
       InRecord s (answer_tile (meaning s ci row column e)) (cell_place (meaning s ci row column e))
   -- a stored cell's bytes lie in the file
-  pub inside : (row column e place : ℕ) (v : Value) (w : Location) → meaning s ci row column e ≡ Stored v place w → place + bytes_of_cell s e ≤ length s
+  pub inside : (row column e place : ℕ) (v : Value) (w : Location) → meaning s ci row column e ≡ Ok (Stored v place w) → place + bytes_of_cell s e ≤ length s
   -- two stored cells are one cell, or one ends before the other starts
   pub apart :
       (row column e place : ℕ) (v : Value) (w : Location) (row2 column2 e2 place2 : ℕ) (v2 : Value) (w2 : Location) →
-      meaning s ci row column e ≡ Stored v place w → meaning s ci row2 column2 e2 ≡ Stored v2 place2 w2 →
+      meaning s ci row column e ≡ Ok (Stored v place w) → meaning s ci row2 column2 e2 ≡ Ok (Stored v2 place2 w2) →
       ((row ≡ row2) × ((column ≡ column2) × (e ≡ e2)))
       ⊎ ((place + bytes_of_cell s e ≤ place2) ⊎ (place2 + bytes_of_cell s e2 ≤ place))
 
 abbrev pub Demand3 : Type 0
-Demand3 = (s : List ℕ) → check s ≡ Accepted → (ci : ℕ) → OneAnswer s ci
+Demand3 = (s : List ℕ) → check s ≡ Ok tt → (ci : ℕ) → OneAnswer s ci
 
 -- Req 03: what of it asks for no check. On every page that is sound, open for writing or closed, both ways to a tile's record give the
 -- cell's meaning
@@ -78,4 +76,4 @@ SoundCells = (s : List ℕ) → Sound s → (ci : ℕ) → OneMeaning s ci
 
 -- beside it, of an element's content: where it is present, its bytes lie in the file
 abbrev pub ContentInside : Type 0
-ContentInside = (s : List ℕ) → check s ≡ Accepted → (tile e at n : ℕ) → content_meaning s tile e ≡ Present at n → at + n ≤ length s
+ContentInside = (s : List ℕ) → check s ≡ Ok tt → (tile e at n : ℕ) → content_meaning s tile e ≡ Ok (Some (record { start = at; length = n })) → at + n ≤ length s

@@ -11,7 +11,6 @@ use crate::tile_cells;
 use answer::{Held, Refusal};
 use geometry::sizes;
 use header::{entries, fields};
-use record::Found;
 
 // How many cells a tile has.
 fn tile_cells_of(s: &[u8]) -> usize
@@ -30,10 +29,8 @@ pub(crate) fn put_stored(s: &[u8], e: usize, at: usize, out: &mut [u32])
     if out.len() < n {
         return;
     }
-    let mut i = 0;
-    while i < n {
+    for i in 0..n {
         out[i] = tile_cells::bits_at(s, kind, at, sizes::cell_offset(kind, i as u32) as usize);
-        i += 1;
     }
 }
 
@@ -63,7 +60,7 @@ fn hold_in(
     room: usize,
     keep: bool,
     memory: &mut [u32],
-) -> Held
+) -> Result<Held, Refusal>
     requires { x < length s.now }
     ensures is { result ≡ held_room s.now compressor x e room }
     ensures holds { MemorySaid keep result → memory.new ≡ put memory.old 0 (unpacked_bits s.now e result) }
@@ -72,38 +69,38 @@ fn hold_in(
     if tile_cells::is_packed(s, x, e) {
         if tile_cells::is_unpackable(s, compressor, x, e) {
             if room < tile_cells_of(s) {
-                return Held::Alone;
+                return Ok(Held::Alone);
             }
             if put_unpacked(s, x, e, keep, memory) {
-                return Held::Unpacked(at);
+                return Ok(Held::Unpacked(at));
             }
-            return Held::Refused(Refusal::Malformed(x));
+            return Err(Refusal::Malformed(x));
         }
-        return Held::Refused(Refusal::Compressed(x));
+        return Err(Refusal::Compressed(x));
     }
-    Held::Stored(at)
+    Ok(Held::Stored(at))
 }
 
 // By the record that was found for the tile: 9 where that starts past the file.
 pub(crate) fn hold_reached(
     s: &[u8],
     compressor: u32,
-    found: Found,
+    found: Option<usize>,
     e: u32,
     room: usize,
     keep: bool,
     memory: &mut [u32],
-) -> Held
+) -> Result<Held, Refusal>
     ensures is { result ≡ room_reached s.now compressor e room found }
     ensures holds { MemorySaid keep result → memory.new ≡ put memory.old 0 (unpacked_bits s.now e result) }
 {
     match found {
-        Found::Nothing => Held::Absent,
-        Found::At(x) => {
+        None => Ok(Held::Absent),
+        Some(x) => {
             if x < s.len() {
                 return hold_in(s, compressor, x, e, room, keep, memory);
             }
-            Held::Refused(Refusal::Directory)
+            Err(Refusal::Directory)
         }
     }
 }

@@ -7,7 +7,7 @@ ghost use Rattle.cells.specs.TileCells.{held_bits, unpacked_bits, MemorySaid};
 ghost use Rattle.tile_routes.specs.Ways.{found_by};
 
 use crate::{asked, held, tile_cells};
-use answer::{Cell, Content, Held, Refusal};
+use answer::{Cell, Extent, Held, Refusal};
 use check_header::{ceilings, header_record};
 use geometry::tiles;
 use tile_routes::{Route, routes};
@@ -26,7 +26,14 @@ pub(crate) fn sides_lawful(s: &[u8]) -> bool
 }
 
 // A cell by a route.
-pub fn look_up(s: &[u8], compressor: u32, route: Route, row: u64, column: u64, e: u64) -> Cell
+pub fn look_up(
+    s: &[u8],
+    compressor: u32,
+    route: Route,
+    row: u64,
+    column: u64,
+    e: u64,
+) -> Result<Cell, Refusal>
     ensures { result ≡ looked_up s.now compressor (found_by s.now route) row column e }
 {
     if asked::in_grid(s, row, column, e) {
@@ -42,13 +49,13 @@ pub fn look_up(s: &[u8], compressor: u32, route: Route, row: u64, column: u64, e
                 e as u32,
             );
         }
-        return Cell::Refused(Refusal::Directory);
+        return Err(Refusal::Directory);
     }
-    Cell::Refused(Refusal::OutsideGrid)
+    Err(Refusal::OutsideGrid)
 }
 
 // An element's content in a tile, by a route.
-pub fn look_up_content(s: &[u8], route: Route, tile: u64, e: u64) -> Content
+pub fn look_up_content(s: &[u8], route: Route, tile: u64, e: u64) -> Result<Option<Extent>, Refusal>
     ensures { result ≡ looked_up_content s.now (found_by s.now route) tile e }
 {
     if asked::in_tiles(s, tile, e) {
@@ -56,9 +63,9 @@ pub fn look_up_content(s: &[u8], route: Route, tile: u64, e: u64) -> Content
             let found = routes::found_by(s, route, tile as u32);
             return tile_cells::content_reached(s, found, e as u32);
         }
-        return Content::Refused(Refusal::Directory);
+        return Err(Refusal::Directory);
     }
-    Content::Refused(Refusal::OutsideGrid)
+    Err(Refusal::OutsideGrid)
 }
 
 // What is said of all cells of an element in a tile, by a route; with memory that is kept or not where a content is malformed.
@@ -71,7 +78,7 @@ fn look_up_keeping(
     room: usize,
     keep: bool,
     memory: &mut [u32],
-) -> Held
+) -> Result<Held, Refusal>
     ensures is { result ≡ looked_up_room s.now compressor (found_by s.now route) tile e room }
     ensures holds { MemorySaid keep result → memory.new ≡ put memory.old 0 (unpacked_bits s.now e result) }
 {
@@ -80,9 +87,9 @@ fn look_up_keeping(
             let found = routes::found_by(s, route, tile as u32);
             return held::hold_reached(s, compressor, found, e as u32, room, keep, memory);
         }
-        return Held::Refused(Refusal::Directory);
+        return Err(Refusal::Directory);
     }
-    Held::Refused(Refusal::OutsideGrid)
+    Err(Refusal::OutsideGrid)
 }
 
 // The same, for who goes on from cell to cell: stored ones stay where they are, compressed ones are unpacked into the memory, where they
@@ -95,7 +102,7 @@ pub fn look_up_room(
     e: u64,
     room: usize,
     memory: &mut [u32],
-) -> Held
+) -> Result<Held, Refusal>
     ensures is { result ≡ looked_up_room s.now compressor (found_by s.now route) tile e room }
     ensures holds { memory.new ≡ put memory.old 0 (unpacked_bits s.now e result) }
 {
@@ -110,7 +117,7 @@ pub fn look_up_lent(
     tile: u64,
     e: u64,
     memory: &mut [u32],
-) -> Held
+) -> Result<Held, Refusal>
     ensures is { result ≡ looked_up_room s.now compressor (found_by s.now route) tile e (length memory.old) }
     ensures holds { MemorySaid false result → memory.new ≡ put memory.old 0 (unpacked_bits s.now e result) }
 {
@@ -126,18 +133,13 @@ pub fn look_up_held(
     tile: u64,
     e: u64,
     out: &mut [u32],
-) -> Held
+) -> Result<Held, Refusal>
     ensures is { result ≡ looked_up_held s.now compressor (found_by s.now route) tile e }
     ensures holds { out.new ≡ put out.old 0 (held_bits s.now e result) }
 {
-    match look_up_room(s, compressor, route, tile, e, MOST_CELLS, out) {
-        Held::Stored(at) => {
-            held::put_stored(s, e as usize, at, out);
-            Held::Stored(at)
-        }
-        Held::Unpacked(at) => Held::Unpacked(at),
-        Held::Absent => Held::Absent,
-        Held::Alone => Held::Alone,
-        Held::Refused(r) => Held::Refused(r),
+    let held = look_up_room(s, compressor, route, tile, e, MOST_CELLS, out)?;
+    if let Held::Stored(at) = held {
+        held::put_stored(s, e as usize, at, out);
     }
+    Ok(held)
 }

@@ -10,21 +10,21 @@ use geometry::{sizes, tiles};
 use header::entries;
 
 // A stored cell, by where its element's content starts, its tile and its number inside that: 9 where that start is past the file.
-fn stored_from(s: &[u8], kind: u32, at: usize, tile: u64, inside: u32) -> Cell
+fn stored_from(s: &[u8], kind: u32, at: usize, tile: u64, inside: u32) -> Result<Cell, Refusal>
     ensures { result ≡ stored_from s.now kind at tile inside }
 {
     if at < s.len() {
         let place = at + sizes::cell_offset(kind, inside) as usize;
-        return Cell::Stored {
+        return Ok(Cell::Stored {
             value: answer::value_of(kind, tile_cells::bits_at(s, kind, place, 0)),
             place,
             location: Location {
                 tile,
                 inside: inside as u64,
             },
-        };
+        });
     }
-    Cell::Refused(Refusal::Directory)
+    Err(Refusal::Directory)
 }
 
 // The cell with a number inside its tile, of an element of a type code and a fill: in a step or two, without a look at the grid. 9 where
@@ -33,30 +33,29 @@ pub fn numbered_cell(
     s: &[u8],
     kind: u32,
     fill: u32,
-    held: Held,
+    held: Result<Held, Refusal>,
     memory: &[u32],
     tile: u64,
     inside: u32,
-) -> Cell
+) -> Result<Cell, Refusal>
     ensures { result ≡ numbered_cell s.now kind fill memory.now tile inside held }
 {
     let location = Location {
         tile,
         inside: inside as u64,
     };
-    match held {
+    match held? {
         Held::Stored(at) => stored_from(s, kind, at, tile, inside),
-        Held::Unpacked(at) => Cell::Unpacked {
+        Held::Unpacked(at) => Ok(Cell::Unpacked {
             value: answer::value_of(kind, wire::number_in(memory, inside as usize)),
             place: at,
             location,
-        },
-        Held::Absent => Cell::Fill {
+        }),
+        Held::Absent => Ok(Cell::Fill {
             value: answer::value_of(kind, fill),
             location,
-        },
-        Held::Alone => Cell::Refused(Refusal::Directory),
-        Held::Refused(r) => Cell::Refused(r),
+        }),
+        Held::Alone => Err(Refusal::Directory),
     }
 }
 
@@ -64,12 +63,12 @@ pub fn numbered_cell(
 fn told_by(
     s: &[u8],
     compressor: u32,
-    held: Held,
+    held: Result<Held, Refusal>,
     memory: &[u32],
     row: u32,
     column: u32,
     e: u32,
-) -> Cell
+) -> Result<Cell, Refusal>
     requires { sides_lawful s.now ≡ true }
     ensures { result ≡ told_by s.now compressor memory.now row column e held }
 {
@@ -86,12 +85,12 @@ fn told_by(
 pub fn cell_held(
     s: &[u8],
     compressor: u32,
-    held: Held,
+    held: Result<Held, Refusal>,
     memory: &[u32],
     row: u64,
     column: u64,
     e: u64,
-) -> Cell
+) -> Result<Cell, Refusal>
     ensures { result ≡ held_cell s.now compressor held memory.now row column e }
 {
     if asked::in_grid(s, row, column, e) {
@@ -106,7 +105,7 @@ pub fn cell_held(
                 e as u32,
             );
         }
-        return Cell::Refused(Refusal::Directory);
+        return Err(Refusal::Directory);
     }
-    Cell::Refused(Refusal::OutsideGrid)
+    Err(Refusal::OutsideGrid)
 }

@@ -9,12 +9,10 @@ ghost use Rattle.unpack.specs.Unpack.{cell_at};
 ghost use Rattle.cells.specs.TileCells.{location_of, packed, offset_in, place_in, stored_at, unpackable, unpacked_in, packed_cell, cell_in, fill_of, content_in};
 ghost use Rattle.cells.specs.inner.Lookups.{sides_lawful, cell_reached, content_reached};
 
-use answer::{Cell, Content, Location, Refusal};
+use answer::{Cell, Extent, Location, Refusal};
 use bodies::tile_record;
 use geometry::{sizes, tiles};
 use header::{entries, fields};
-use record::Found;
-use unpack::Unpacked;
 
 // The type code of element e, without the rest of its entry.
 pub(crate) fn kind_of(s: &[u8], e: u32) -> u32
@@ -82,15 +80,15 @@ pub(crate) fn bits_at(s: &[u8], kind: u32, at: usize, d: usize) -> u32
 }
 
 // The cell that is stored there.
-pub(crate) fn stored_at(s: &[u8], location: Location, e: u32, place: usize) -> Cell
+pub(crate) fn stored_at(s: &[u8], location: Location, e: u32, place: usize) -> Result<Cell, Refusal>
     ensures { result ≡ stored_at s.now location e place }
 {
     let kind = kind_of(s, e);
-    Cell::Stored {
+    Ok(Cell::Stored {
         value: answer::value_of(kind, bits_at(s, kind, place, 0)),
         place,
         location,
-    }
+    })
 }
 
 // Whether its compressed content is unpacked: its first byte is the caller's compressor index, and the element is no Float.
@@ -122,7 +120,7 @@ pub(crate) fn content_of(s: &[u8], x: usize, e: u32) -> &[u8]
 }
 
 // What it holds for a cell.
-fn unpacked_at(s: &[u8], x: usize, row: u32, column: u32, e: u32) -> Unpacked
+fn unpacked_at(s: &[u8], x: usize, row: u32, column: u32, e: u32) -> Option<u32>
     requires { (x < length s.now) × (sides_lawful s.now ≡ true) }
     ensures { result ≡ cell_at (unpacked_in s.now x e) (cell_inside s.now row column) }
 {
@@ -138,25 +136,39 @@ fn unpacked_at(s: &[u8], x: usize, row: u32, column: u32, e: u32) -> Unpacked
 }
 
 // A cell of compressed content.
-fn packed_cell(s: &[u8], compressor: u32, x: usize, row: u32, column: u32, e: u32) -> Cell
+fn packed_cell(
+    s: &[u8],
+    compressor: u32,
+    x: usize,
+    row: u32,
+    column: u32,
+    e: u32,
+) -> Result<Cell, Refusal>
     requires { (x < length s.now) × (sides_lawful s.now ≡ true) }
     ensures { result ≡ packed_cell s.now compressor x row column e }
 {
     if is_unpackable(s, compressor, x, e) {
         return match unpacked_at(s, x, row, column, e) {
-            Unpacked::Cell(bits) => Cell::Unpacked {
+            Some(bits) => Ok(Cell::Unpacked {
                 value: answer::value_of(kind_of(s, e), bits),
                 place: section(s, x, e) + 4,
                 location: location_of(s, row, column),
-            },
-            Unpacked::Malformed => Cell::Refused(Refusal::Malformed(x)),
+            }),
+            None => Err(Refusal::Malformed(x)),
         };
     }
-    Cell::Refused(Refusal::Compressed(x))
+    Err(Refusal::Compressed(x))
 }
 
 // The cell, as the tile record at x has it.
-fn cell_in(s: &[u8], compressor: u32, x: usize, row: u32, column: u32, e: u32) -> Cell
+fn cell_in(
+    s: &[u8],
+    compressor: u32,
+    x: usize,
+    row: u32,
+    column: u32,
+    e: u32,
+) -> Result<Cell, Refusal>
     requires { (x < length s.now) × (sides_lawful s.now ≡ true) }
     ensures { result ≡ cell_in s.now compressor x row column e }
 {
@@ -168,68 +180,72 @@ fn cell_in(s: &[u8], compressor: u32, x: usize, row: u32, column: u32, e: u32) -
 }
 
 // A cell of an absent tile.
-pub(crate) fn fill_of(s: &[u8], location: Location, e: u32) -> Cell
+pub(crate) fn fill_of(s: &[u8], location: Location, e: u32) -> Result<Cell, Refusal>
     ensures { result ≡ fill_of s.now location e }
 {
     let x = entries::element(s, e as usize);
     let kind = x.kind;
     let fill = x.fill;
-    Cell::Fill {
+    Ok(Cell::Fill {
         value: answer::value_of(kind, fill),
         location,
-    }
+    })
 }
 
 // An element's content, as the tile record at x has it.
-fn content_in(s: &[u8], x: usize, e: u32) -> Content
+fn content_in(s: &[u8], x: usize, e: u32) -> Result<Option<Extent>, Refusal>
     requires { (x < length s.now) × (sides_lawful s.now ≡ true) }
     ensures { result ≡ content_in s.now x e }
 {
     if is_packed(s, x, e) {
-        return Content::Refused(Refusal::Compressed(x));
+        return Err(Refusal::Compressed(x));
     }
     let at = section(s, x, e);
-    Content::Present {
+    Ok(Some(Extent {
         start: at + 4,
         length: sizes::element_bytes(s, e as usize) as usize,
-    }
+    }))
 }
 
 // The cell, by the record that was found for its tile: 9 where that starts past the file.
 pub(crate) fn cell_reached(
     s: &[u8],
     compressor: u32,
-    found: Found,
+    found: Option<usize>,
     row: u32,
     column: u32,
     e: u32,
-) -> Cell
+) -> Result<Cell, Refusal>
     requires { sides_lawful s.now ≡ true }
     ensures { result ≡ cell_reached s.now compressor row column e found }
 {
     match found {
-        Found::Nothing => fill_of(s, location_of(s, row, column), e),
-        Found::At(x) => {
+        None => fill_of(s, location_of(s, row, column), e),
+        Some(x) => {
             if x < s.len() {
                 return cell_in(s, compressor, x, row, column, e);
             }
-            Cell::Refused(Refusal::Directory)
+            Err(Refusal::Directory)
         }
     }
 }
 
 // An element's content, by the record that was found.
-pub(crate) fn content_reached(s: &[u8], found: Found, e: u32) -> Content
+pub(crate) fn content_reached(
+    s: &[u8],
+    found: Option<usize>,
+    e: u32,
+) -> Result<Option<Extent>, Refusal>
     requires { sides_lawful s.now ≡ true }
     ensures { result ≡ content_reached s.now e found }
 {
     match found {
-        Found::Nothing => Content::Absent,
-        Found::At(x) => {
+        None => Ok(None),
+        Some(x) => {
             if x < s.len() {
                 return content_in(s, x, e);
             }
-            Content::Refused(Refusal::Directory)
+            Err(Refusal::Directory)
         }
     }
 }

@@ -107,11 +107,9 @@ fn references_given(s: &[u8]) -> u64
     ensures { result ≡ count_below (reference_count s.now) (gives s.now) }
 {
     let n = tile_directory::reference_count(s);
-    let mut k = 0;
     let mut given = 0;
-    while k < n {
+    for k in 0..n {
         given += given_at(s, k);
-        k += 1;
     }
     given
 }

@@ -1,12 +1,12 @@
 -- What stages 1 to 4 give where they pass. Assumes nothing.
+use Rattle.std.specs.Prelude.{Ok, Result, ⊤}
+use Rattle.answer.specs.declared.Refusal.{Refusal}
 use Prim.Native.Nat.{ℕ, min, ◌≤◌}
 use mathlib.Core.Path.{◌≡◌}
 use mathlib.Core.List.{List}
 use mathlib.Core.Bool.{Bool, true}
 use native.Mathlib.Omega.{arith}
 use Rattle.wire.proofs.TestLaws.{means, below_each}
-use Rattle.answer.specs.declared.Verdict.{Verdict}
-use Rattle.answer.specs.declared.Verdict.TheVariants.{Accepted}
 use Rattle.answer.proofs.VerdictLaws.{gate_passed}
 use Rattle.header.specs.Fields.{element_count}
 use Rattle.header.specs.Element.{entries_read}
@@ -18,8 +18,8 @@ use Rattle.check_header.proofs.Judged.{header_long}
 
 -- stages 1 to 4, where `header` says whether stage 3 passes, and what comes behind them
 pub stages_passed :
-    (s : List ℕ) (n : ℕ) (header : Bool) (behind : Verdict) → stages s n header behind ≡ Accepted → (header ≡ true → header_right s n ≡ true) →
-    Headed s n × ((header ≡ true) × (behind ≡ Accepted))
+    (s : List ℕ) (n : ℕ) (header : Bool) (behind : Result ⊤ Refusal) → stages s n header behind ≡ Ok tt → (header ≡ true → header_right s n ≡ true) →
+    Headed s n × ((header ≡ true) × (behind ≡ Ok tt))
 unfolding stages first_two next_two
 stages_passed s n header behind e f =
     let a = gate_passed _ _ _ e in

@@ -15,7 +15,7 @@ pub const MOST_FILE_BYTES: usize = 16777216;
 
 const MOST_TILES: u64 = 65536;
 
-const MOST_TILE_BYTES: u64 = 1048576;
+pub const MOST_TILE_BYTES: u64 = 1048576;
 
 pub fn sides_within(s: &[u8]) -> bool
     ensures { result ≡ sides_within s.now }

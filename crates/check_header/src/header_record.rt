@@ -96,15 +96,7 @@ fn names_differ(s: &[u8], e: usize, d: usize) -> bool
 fn name_new(s: &[u8], e: usize) -> bool
     ensures { result ≡ all_below e (names_differ s.now e) }
 {
-    let mut d = 0;
-    while d < e {
-        if names_differ(s, e, d) {
-            d += 1;
-        } else {
-            return false;
-        }
-    }
-    true
+    (0..e).all(|d| names_differ(s, e, d))
 }
 
 // The type, the name and the texts of element e.
@@ -127,15 +119,7 @@ fn element_right(s: &[u8], e: usize) -> bool
 fn each_right(s: &[u8], n: usize) -> bool
     ensures { result ≡ all_below n (element_right s.now) }
 {
-    let mut e = 0;
-    while e < n {
-        if element_right(s, e) {
-            e += 1;
-        } else {
-            return false;
-        }
-    }
-    true
+    (0..n).all(|e| element_right(s, e))
 }
 
 fn elements_right(s: &[u8]) -> bool

@@ -1,4 +1,5 @@
 -- Rules over the records that a list names, by a search for a record that breaks them. Assumes nothing.
+use Rattle.std.specs.Prelude.{None, Option, Some}
 use Prim.Native.Nat.{ℕ}
 use mathlib.Core.Path.{◌≡◌, refl, sym, ap, ◌∙◌}
 use mathlib.Core.List.{List, [], ◌∷◌}
@@ -9,8 +10,6 @@ use lib.Dec.{eqb}
 use borrow.Author.Tests.{eqb-true, eqb-false}
 use Rattle.wire.specs.Tests.{both, passes}
 use Rattle.wire.proofs.TestLaws.{yes, no, not_both, either_way, below_each, below_all}
-use Rattle.record.specs.declared.Found.{Found}
-use Rattle.record.specs.declared.Found.TheVariants.{At, Nothing}
 use Rattle.record.specs.Record.{type_at}
 use Rattle.record.specs.Chain.{starts, first_record, header_end, records, records_of}
 use Rattle.wire.proofs.CountLaws.{count_all, count_both, count_same, count_named}
@@ -63,11 +62,11 @@ unlisted_not s l x t e = go (eqb (count_below (list_count s l) (list_entry_is s 
 
 -- every record is listed once just where none of those is found
 pub once_found :
-    (s : List ℕ) (l : ListKind) (f : Found) → f ≡ first_record s (header_end s) (not_listed_once s l) →
+    (s : List ℕ) (l : ListKind) (f : Option ℕ) → f ≡ first_record s (header_end s) (not_listed_once s l) →
     not (is_found f) ≡ listed_once s (listed_kind l) (list_count s l) (list_entry_is s l)
 unfolding listed_once records_of records first_record not_listed_once passes
 once_found s l f e =
-    ap (λ (g : Found). not (is_found g)) e
+    ap (λ (g : Option ℕ). not (is_found g)) e
     ∙ sym
     (every_found (λ x. eqb (count_below (list_count s l) (list_entry_is s l x)) 1) (λ x. eqb (type_at s x) (listed_kind l)) (not_listed_once s l)
     (λ x. go (eqb (type_at s x) (listed_kind l)) (eqb (count_below (list_count s l) (list_entry_is s l x)) 1)) (starts s (header_end s)))
@@ -80,11 +79,11 @@ once_found s l f e =
 -- the first of them, where the list fits
 
 module _ (s : List ℕ) (l : ListKind) (b : Bool) (p : b ≡ list_fits s l) where
-  pub unlisted_fits : (r : Found) → b ≡ true → r ≡ first_record s (header_end s) (not_listed_once s l) → r ≡ first_unlisted s l
+  pub unlisted_fits : (r : Option ℕ) → b ≡ true → r ≡ first_record s (header_end s) (not_listed_once s l) → r ≡ first_unlisted s l
   unfolding first_unlisted
   unlisted_fits r e q = rw (← p, e) q
 
-  pub unlisted_loose : b ≡ false → Nothing ≡ first_unlisted s l
+  pub unlisted_loose : b ≡ false → None ≡ first_unlisted s l
   unfolding first_unlisted
   unlisted_loose e = rw (← p, e)
 
@@ -111,10 +110,10 @@ module _ (s : List ℕ) (l : ListKind) (n m i : ℕ) (p : n ≡ list_count s l) 
   list_none b f g h e = list_is b true f g h (none_once s (listed_kind l) (list_count s l) (list_entry_is s l) (sym (q ∙ rw t) ∙ e))
 
   module _
-      (b : Bool) (f : Found) (u : b ≡ list_fits s l) (v : b ≡ true) (h : n ≡ m) (e : f ≡ first_record s (header_end s) (not_listed_once s l))
+      (b : Bool) (f : Option ℕ) (u : b ≡ list_fits s l) (v : b ≡ true) (h : n ≡ m) (e : f ≡ first_record s (header_end s) (not_listed_once s l))
     where
-      pub list_found : (x : ℕ) → f ≡ At x → false ≡ list_right s l
-      list_found x g = list_is b false u v h (ap (λ (z : Found). not (is_found z)) (sym g) ∙ once_found s l f e)
+      pub list_found : (x : ℕ) → f ≡ Some x → false ≡ list_right s l
+      list_found x g = list_is b false u v h (ap (λ (z : Option ℕ). not (is_found z)) (sym g) ∙ once_found s l f e)
 
-      pub list_all : f ≡ Nothing → true ≡ list_right s l
-      list_all g = list_is b true u v h (ap (λ (z : Found). not (is_found z)) (sym g) ∙ once_found s l f e)
+      pub list_all : f ≡ None → true ≡ list_right s l
+      list_all g = list_is b true u v h (ap (λ (z : Option ℕ). not (is_found z)) (sym g) ∙ once_found s l f e)

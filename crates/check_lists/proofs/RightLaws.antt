@@ -1,4 +1,5 @@
 -- A window without a record that is not listed once, and the loop over the windows by it. Assumes nothing.
+use Rattle.std.specs.Prelude.{None, Option, Some}
 use Prim.Native.Nat.{ℕ, ◌+◌, ◌-◌, ◌%◌, ◌≤◌, ◌<◌}
 use mathlib.Core.Path.{◌≡◌, refl, sym, ap, ◌∙◌}
 use mathlib.Core.List.{List, Memᴰ}
@@ -11,8 +12,6 @@ use Rattle.std.proofs.lemmas.Bool.{not-false}
 use Rattle.wire.specs.Lists.{every, count_below}
 use Rattle.wire.proofs.TestLaws.{no, no_true, not_both}
 use Rattle.wire.proofs.ListLaws.{every_member, member_every}
-use Rattle.record.specs.declared.Found.{Found}
-use Rattle.record.specs.declared.Found.TheVariants.{At, Nothing}
 use Rattle.record.specs.Chain.{first_record, header_end, records_of}
 use Rattle.record.proofs.FindLaws.{is_found}
 use Rattle.check_lists.specs.declared.ListKind.{ListKind}
@@ -25,13 +24,13 @@ use Rattle.check_lists.proofs.WindowLaws.{Passed, counts_length, not_one_before,
 -- a window holds no such record
 
 module _
-    (s : List ℕ) (l : ListKind) (base : ℕ) (f : Found) (e : f ≡ first_record s (header_end s) (not_once_in s l base (window_counts s l base)))
+    (s : List ℕ) (l : ListKind) (base : ℕ) (f : Option ℕ) (e : f ≡ first_record s (header_end s) (not_once_in s l base (window_counts s l base)))
   where
-    pub window_not : (x : ℕ) → f ≡ At x → false ≡ window_right s l base
-    window_not x p = ap (λ (g : Found). not (is_found g)) (sym p) ∙ window_found s l base (window_counts s l base) f refl e
+    pub window_not : (x : ℕ) → f ≡ Some x → false ≡ window_right s l base
+    window_not x p = ap (λ (g : Option ℕ). not (is_found g)) (sym p) ∙ window_found s l base (window_counts s l base) f refl e
 
-    pub window_yes : f ≡ Nothing → true ≡ window_right s l base
-    window_yes p = ap (λ (g : Found). not (is_found g)) (sym p) ∙ window_found s l base (window_counts s l base) f refl e
+    pub window_yes : f ≡ None → true ≡ window_right s l base
+    window_yes p = ap (λ (g : Option ℕ). not (is_found g)) (sym p) ∙ window_found s l base (window_counts s l base) f refl e
 
 -- in the window, at a place, a record is right just where it is listed once
 

@@ -1,5 +1,6 @@
 -- A list is judged a window of the file at a time: each record of its type starts at a place of one window, and the place's count
 -- says whether it is listed once. Assumes nothing.
+use Rattle.std.specs.Prelude.{None, Option, Some}
 use Prim.Native.Nat.{ℕ, zero, suc, ◌+◌, ◌*◌, ◌-◌, ◌/◌, ◌%◌, ◌≤◌, ◌<◌}
 use mathlib.Core.Path.{◌≡◌, refl, sym, ap, ◌∙◌}
 use mathlib.Core.List.{List, Memᴰ}
@@ -14,8 +15,6 @@ use Rattle.wire.specs.Pick.{pick}
 use Rattle.wire.specs.Tests.{both, passes}
 use Rattle.wire.specs.Bytes.{u64_at}
 use Rattle.wire.proofs.TestLaws.{means, yes, no, not_both, iff}
-use Rattle.record.specs.declared.Found.{Found}
-use Rattle.record.specs.declared.Found.TheVariants.{At, Nothing}
 use Rattle.record.specs.Record.{type_at}
 use Rattle.record.specs.Chain.{starts, first_record, header_end, records, records_of}
 use Rattle.record.proofs.FindLaws.{of_type, type_of, is_found, every_found}
@@ -257,7 +256,7 @@ module _ (s : List ℕ) (l : ListKind) (base : ℕ) (cs : List ℕ) (x : ℕ) wh
 
 -- the first such record, by the counts of the window whole
 pub window_first :
-    (s : List ℕ) (l : ListKind) (base : ℕ) (zs cs : List ℕ) (f : Found) → zs ≡ replicate window_places 0 → cs ≡ tallied s l base zs (list_count s l) →
+    (s : List ℕ) (l : ListKind) (base : ℕ) (zs cs : List ℕ) (f : Option ℕ) → zs ≡ replicate window_places 0 → cs ≡ tallied s l base zs (list_count s l) →
     f ≡ first_record s (header_end s) (not_once_in s l base cs) → f ≡ first_record s (header_end s) (not_once_in s l base (window_counts s l base))
 unfolding window_counts
 window_first s l base zs cs f z q e =
@@ -335,8 +334,8 @@ module _ (s : List ℕ) (l : ListKind) (base : ℕ) (g : Passed s l base) where
           (count_same x (type_of s (listed_kind l) m (eqb-true _ _ e)) h)
       go false e = rw e
 
-  module _ (f : Found) (q : f ≡ first_record s (header_end s) (not_once_in s l base (window_counts s l base))) where
-    pub passed_more : f ≡ Nothing → Passed s l (base + window_bytes)
+  module _ (f : Option ℕ) (q : f ≡ first_record s (header_end s) (not_once_in s l base (window_counts s l base))) where
+    pub passed_more : f ≡ None → Passed s l (base + window_bytes)
     unfolding records
     passed_more e =
         record {
@@ -347,7 +346,7 @@ module _ (s : List ℕ) (l : ListKind) (base : ℕ) (g : Passed s l base) where
               unlisted_not s l x t.1 (sym (window_same x t.0 h) ∙ none_means (not_once_in s l base (window_counts s l base)) s x (header_end s) (sym q ∙ e) t.0);
         }
 
-    pub passed_found : (x : ℕ) → f ≡ At x → At x ≡ first_record s (header_end s) (not_listed_once s l)
+    pub passed_found : (x : ℕ) → f ≡ Some x → Some x ≡ first_record s (header_end s) (not_listed_once s l)
     passed_found x e =
         let k = first_means (not_once_in s l base (window_counts s l base)) s x (header_end s) (sym q ∙ e) in
         let i = not_once_inside s l base x k.holds in
@@ -358,7 +357,7 @@ module _ (s : List ℕ) (l : ListKind) (base : ℕ) (g : Passed s l base) where
           before = λ y m h. sym (window_same y m (omega (arith, i, h))) ∙ k.before y m h;
         })
 
-  pub passed_all : length s ≤ base → Nothing ≡ first_record s (header_end s) (not_listed_once s l)
+  pub passed_all : length s ≤ base → None ≡ first_record s (header_end s) (not_listed_once s l)
   unfolding not_listed_once records
   passed_all h =
       none_is (not_listed_once s l) s (header_end s)
@@ -368,11 +367,11 @@ module _ (s : List ℕ) (l : ListKind) (base : ℕ) (g : Passed s l base) where
 
 -- a window holds no such record just where it is right
 pub window_found :
-    (s : List ℕ) (l : ListKind) (base : ℕ) (cs : List ℕ) (f : Found) → cs ≡ window_counts s l base → f ≡ first_record s (header_end s) (not_once_in s l base cs) →
+    (s : List ℕ) (l : ListKind) (base : ℕ) (cs : List ℕ) (f : Option ℕ) → cs ≡ window_counts s l base → f ≡ first_record s (header_end s) (not_once_in s l base cs) →
     not (is_found f) ≡ window_right s l base
 unfolding window_right records_of records first_record not_once_in passes
 window_found s l base cs f d e =
-    ap (λ (g : Found). not (is_found g)) e
+    ap (λ (g : Option ℕ). not (is_found g)) e
     ∙ sym
     (rw (← d)
     (every_found (λ x. not (count_not_one base cs x)) (λ x. eqb (type_at s x) (listed_kind l)) (not_once_in s l base cs) (λ x. go (eqb (type_at s x) (listed_kind l)) (count_not_one base cs x)) (starts s (header_end s))))

@@ -18,7 +18,7 @@ ghost use Rattle.check_lists.specs.inner.Search.{listed_kind, list_count, list_f
 
 use crate::{ListKind, file_space, metadata};
 use bodies::list_directories;
-use record::{Cursor, Found, Step, chain, frame};
+use record::{chain, frame};
 
 // A window's places, and the bytes that they lie over.
 const WINDOW_PLACES: usize = 131072;
@@ -145,12 +145,10 @@ fn tally(s: &[u8], list: ListKind, base: usize, counts: &mut [u8])
 {
     let n = list_count(s, list);
     let mut p = first_entry(s, list);
-    let mut k = 0;
-    while k < n {
+    for k in 0..n {
         let j = slot_of(s, list, base, p);
         note(counts, j);
         p += entry_size(s, list, p);
-        k += 1;
     }
 }
 
@@ -176,31 +174,16 @@ fn is_not_once(s: &[u8], list: ListKind, base: usize, counts: &[u8], kind: u32, 
 }
 
 // The first such record.
-fn find_not_once(s: &[u8], list: ListKind, base: usize, counts: &[u8]) -> Found
+fn find_not_once(s: &[u8], list: ListKind, base: usize, counts: &[u8]) -> Option<usize>
     ensures { result ≡ first_record s.now (header_end s.now) (not_once_in s.now list base counts.now) }
 {
-    let mut c = Cursor {
-        at: chain::header_end(s),
-    };
-    loop {
-        let Step::Record {
-            kind,
-            start,
-            length: _,
-            next,
-        } = c.step(s)
-        else {
-            return Found::Nothing;
-        };
-        if is_not_once(s, list, base, counts, kind, start) {
-            return Found::At(start);
-        }
-        c = next;
-    }
+    chain::find(s, chain::header_end(s), |kind, start| {
+        is_not_once(s, list, base, counts, kind, start)
+    })
 }
 
 // The first record of the list's type in the window that is not listed once.
-fn find_in_window(s: &[u8], list: ListKind, base: usize) -> Found
+fn find_in_window(s: &[u8], list: ListKind, base: usize) -> Option<usize>
     requires { list_fits s.now list ≡ true }
     ensures { result ≡ first_record s.now (header_end s.now) (not_once_in s.now list base (window_counts s.now list base)) }
 {
@@ -210,28 +193,26 @@ fn find_in_window(s: &[u8], list: ListKind, base: usize) -> Found
 }
 
 // The first of the file, which is looked at a window at a time.
-fn find_unlisted(s: &[u8], list: ListKind) -> Found
+fn find_unlisted(s: &[u8], list: ListKind) -> Option<usize>
     requires { list_fits s.now list ≡ true }
     ensures { result ≡ first_record s.now (header_end s.now) (not_listed_once s.now list) }
 {
-    let mut base = chain::header_end(s);
-    while base < s.len() {
-        if let Found::At(x) = find_in_window(s, list, base) {
-            return Found::At(x);
+    for base in (chain::header_end(s)..s.len()).step_by(WINDOW_BYTES) {
+        if let Some(x) = find_in_window(s, list, base) {
+            return Some(x);
         }
-        base += WINDOW_BYTES;
     }
-    Found::Nothing
+    None
 }
 
 // The first record of the list's type that is not listed once; nothing where the list does not fit its record.
-pub fn first_unlisted(s: &[u8], list: ListKind) -> Found
+pub fn first_unlisted(s: &[u8], list: ListKind) -> Option<usize>
     ensures { result ≡ first_unlisted s.now list }
 {
     if list_fits(s, list) {
         return find_unlisted(s, list);
     }
-    Found::Nothing
+    None
 }
 
 // Every record of the list's type that starts in the window is listed once.
@@ -239,7 +220,7 @@ fn window_right(s: &[u8], list: ListKind, base: usize) -> bool
     requires { list_fits s.now list ≡ true }
     ensures { result ≡ window_right s.now list base }
 {
-    if let Found::At(_) = find_in_window(s, list, base) {
+    if let Some(_) = find_in_window(s, list, base) {
         return false;
     }
     true
@@ -250,11 +231,8 @@ fn listed_once(s: &[u8], list: ListKind) -> bool
     requires { list_fits s.now list ≡ true }
     ensures { result ≡ listed_once s.now (listed_kind list) (list_count s.now list) (list_entry_is s.now list) }
 {
-    let mut base = chain::header_end(s);
-    while base < s.len() {
-        if window_right(s, list, base) {
-            base += WINDOW_BYTES;
-        } else {
+    for base in (chain::header_end(s)..s.len()).step_by(WINDOW_BYTES) {
+        if !window_right(s, list, base) {
             return false;
         }
     }

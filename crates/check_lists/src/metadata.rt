@@ -35,14 +35,13 @@ fn entries_end(s: &[u8]) -> usize
 {
     let at = list_directories::metadata_at(s);
     let limit = frame::record_limit(s, at);
-    let mut left = list_directories::metadata_count(s);
+    let n = list_directories::metadata_count(s);
     let mut p = at + 12;
-    while 0 < left {
+    for k in 0..n {
         if limit < p {
             return p;
         }
         p += list_directories::metadata_entry_size(s, p);
-        left -= 1;
     }
     p
 }

@@ -1,4 +1,5 @@
 -- Checksums, sections, bodies and faults, from what the functions below them answer. Assumes nothing.
+use Rattle.std.specs.Prelude.{None, Option, Some}
 use Prim.Native.Nat.{ℕ, ◌+◌, ◌-◌, ◌≤◌, ◌<◌}
 use mathlib.Core.Path.{◌≡◌, refl, sym, ap, ◌∙◌}
 use mathlib.Core.List.{List, [], ◌++◌}
@@ -18,8 +19,6 @@ use Rattle.crc32c.proofs.Range.{crc_small}
 use Rattle.header.specs.Fields.{checksum_enabled, element_count}
 use Rattle.header.specs.Element.{string_size, string_end}
 use Rattle.header.proofs.NameLaws.{identifier_empty}
-use Rattle.record.specs.declared.Found.{Found}
-use Rattle.record.specs.declared.Found.TheVariants.{At, Nothing}
 use Rattle.record.specs.Record.{length_at, type_at, record_limit, Told}
 use Rattle.record.specs.Chain.{header_end, records, records_end, find, find_not, Whole}
 use Rattle.record.proofs.ChainLaws.{chain_ends, stand_starts, stand_end, whole_starts}
@@ -158,16 +157,16 @@ keeps_body s w at r p q = rw p q
 
 -- stage 6
 
-pub chain_fault_lem : (s : List ℕ) (e : ℕ) → e ≡ records_end s → e < length s → At e ≡ chain_fault s
+pub chain_fault_lem : (s : List ℕ) (e : ℕ) → e ≡ records_end s → e < length s → Some e ≡ chain_fault s
 unfolding chain_fault
 chain_fault_lem s e p h = rw (← p, lt-leb (length s) e h)
 
-pub chain_fine : (s : List ℕ) (e : ℕ) → e ≡ records_end s → length s ≤ e → Nothing ≡ chain_fault s
+pub chain_fine : (s : List ℕ) (e : ℕ) → e ≡ records_end s → length s ≤ e → None ≡ chain_fault s
 unfolding chain_fault
 chain_fine s e p h = rw (← p, le-leb (length s) e h)
 
 -- a chain without a fault is whole, and a whole one has none
-pub chain_whole : (s : List ℕ) → header_end s ≤ length s → chain_fault s ≡ Nothing → Whole s (header_end s) (records s)
+pub chain_whole : (s : List ℕ) → header_end s ≤ length s → chain_fault s ≡ None → Whole s (header_end s) (records s)
 unfolding records records_end
 chain_whole s h e = go (leb (length s) (records_end s)) refl
   where
@@ -178,7 +177,7 @@ chain_whole s h e = go (leb (length s) (records_end s)) refl
         rw z at x.stand
     go false i = found_not (chain_fault_lem s (records_end s) refl (leb-false (length s) (records_end s) i)) e
 
-pub whole_chain : (s xs : List ℕ) → Whole s (header_end s) xs → chain_fault s ≡ Nothing
+pub whole_chain : (s xs : List ℕ) → Whole s (header_end s) xs → chain_fault s ≡ None
 unfolding records_end records
 whole_chain s xs w =
     let r = whole_starts s (header_end s) xs w in
@@ -189,7 +188,7 @@ pub chain_fault_exactly : ChainFaultExactly
 unfolding records_end records
 chain_fault_exactly s x = (λ e. go e (leb (length s) (records_end s)) refl, back)
   where
-    go : chain_fault s ≡ At x → (b : Bool) → leb (length s) (records_end s) ≡ b → BrokenAt s x
+    go : chain_fault s ≡ Some x → (b : Bool) → leb (length s) (records_end s) ≡ b → BrokenAt s x
     go e true i = found_not (sym e) (sym (chain_fine s (records_end s) refl (leb-true _ _ i)))
     go e false i =
         let l = leb-false _ _ i in
@@ -198,7 +197,7 @@ chain_fault_exactly s x = (λ e. go e (leb (length s) (records_end s)) refl, bac
         let y = chain_ends s (header_end s) in
         record { before = records s; stand = rw z at y.stand; inside = rw z at l; bad = rw z at y.bad }
 
-    back : BrokenAt s x → chain_fault s ≡ At x
+    back : BrokenAt s x → chain_fault s ≡ Some x
     back b =
         let r = stand_starts s (header_end s) b.before x b.stand b.bad in
         let e : records_end s ≡ x = rw r (stand_end s (header_end s) b.before x b.stand) in
@@ -206,11 +205,11 @@ chain_fault_exactly s x = (λ e. go e (leb (length s) (records_end s)) refl, bac
 
 -- stages 7 and 8
 
-pub header_wrong : (s : List ℕ) (r : Bool) → r ≡ right_of s Checksum 16 → r ≡ false → At 16 ≡ checksum_fault s
+pub header_wrong : (s : List ℕ) (r : Bool) → r ≡ right_of s Checksum 16 → r ≡ false → Some 16 ≡ checksum_fault s
 unfolding checksum_fault first_wrong find find_not
 header_wrong s r p q = rw (← p, q)
 
-pub header_right_lem : (s : List ℕ) (r : Bool) (f : Found) → r ≡ right_of s Checksum 16 → r ≡ true → f ≡ first_wrong s Checksum (records s) → f ≡ checksum_fault s
+pub header_right_lem : (s : List ℕ) (r : Bool) (f : Option ℕ) → r ≡ right_of s Checksum 16 → r ≡ true → f ≡ first_wrong s Checksum (records s) → f ≡ checksum_fault s
 unfolding checksum_fault first_wrong find find_not
 header_right_lem s r f p q e = rw (← p, q) e
 

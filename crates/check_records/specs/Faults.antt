@@ -1,8 +1,6 @@
 -- Document 01, stages 6 to 8: the start of the first record that fails.
-use Rattle.std.specs.Prelude.{ℕ, ◌<◌, ◌≡◌, List, ◌∷◌, Bool, true, false, length, leb, eqb}
+use Rattle.std.specs.Prelude.{ℕ, ◌<◌, ◌≡◌, List, ◌∷◌, Bool, true, false, length, leb, eqb, None, Option, Some}
 use Rattle.wire.specs.Pick.{pick}
-use Rattle.record.specs.declared.Found.{Found}
-use Rattle.record.specs.declared.Found.TheVariants.{At, Nothing}
 use Rattle.record.specs.Record.{type_at, record_ok}
 use Rattle.record.specs.Chain.{header_end, records, records_end, find_not, Stand}
 use Rattle.record.specs.Types.{metadata_type, tile_type}
@@ -13,8 +11,8 @@ use Rattle.check_records.specs.TileBody.{tile_right}
 use Rattle.check_records.specs.MetadataBody.{metadata_right}
 
 -- stage 6: the records end before the file does
-unfoldable pub chain_fault : List ℕ → Found
-chain_fault s = pick (leb (length s) (records_end s)) Nothing (At (records_end s))
+unfoldable pub chain_fault : List ℕ → Option ℕ
+chain_fault s = pick (leb (length s) (records_end s)) None (Some (records_end s))
 
 -- that is: records stand from the header's end up to x without a gap, and what stands there is none
 pub record BrokenAt (s : List ℕ) (x : ℕ) : Type 0 where
@@ -24,7 +22,7 @@ pub record BrokenAt (s : List ℕ) (x : ℕ) : Type 0 where
   pub bad : record_ok s x ≡ false
 
 abbrev pub ChainFaultExactly : Type 0
-ChainFaultExactly = (s : List ℕ) (x : ℕ) → (chain_fault s ≡ At x → BrokenAt s x) × (BrokenAt s x → chain_fault s ≡ At x)
+ChainFaultExactly = (s : List ℕ) (x : ℕ) → (chain_fault s ≡ Some x → BrokenAt s x) × (BrokenAt s x → chain_fault s ≡ Some x)
 
 -- stage 8: the body of a tile or metadata record; no other record's body is judged there
 unfoldable pub body_right : List ℕ → ℕ → Bool
@@ -36,13 +34,13 @@ right_of s Checksum = checksum_right s
 right_of s Body = body_right s
 
 -- the first of some records that does not
-unfoldable pub first_wrong : List ℕ → Rule → List ℕ → Found
+unfoldable pub first_wrong : List ℕ → Rule → List ℕ → Option ℕ
 first_wrong s rule xs = find_not (right_of s rule) xs
 
 -- stage 7: the first record, the header included, whose checksum is at fault
-unfoldable pub checksum_fault : List ℕ → Found
+unfoldable pub checksum_fault : List ℕ → Option ℕ
 checksum_fault s = first_wrong s Checksum (16 ∷ records s)
 
 -- stage 8: the first tile or metadata record whose body is at fault
-unfoldable pub body_fault : List ℕ → Found
+unfoldable pub body_fault : List ℕ → Option ℕ
 body_fault s = first_wrong s Body (records s)

@@ -1,19 +1,9 @@
 // Stage 7: the checksum of a record, the header's too.
-ghost use Rattle.std.specs.Prelude.{◌≡◌, ◌-◌};
+ghost use Rattle.std.specs.Prelude.{◌≡◌};
 ghost use Rattle.record.specs.Record.{Told};
 ghost use Rattle.check_records.specs.Checksum.{summed_bytes, checksum_of, checksum_at, checksum_right};
 
 use header::fields;
-
-// A record's length less its last four bytes, 0 where it has fewer.
-fn before_last_four(length: usize) -> usize
-    ensures { result ≡ length - 4 }
-{
-    if length < 4 {
-        return 0;
-    }
-    length - 4
-}
 
 // How many bytes of a record of a type and length are summed: of a free-space record the first eight only.
 fn summed_bytes(kind: u32, length: usize) -> usize
@@ -22,7 +12,7 @@ fn summed_bytes(kind: u32, length: usize) -> usize
     if kind == record::FREE {
         return 8;
     }
-    before_last_four(length)
+    length.saturating_sub(4)
 }
 
 // What the last four bytes have to be.
@@ -41,7 +31,7 @@ fn checksum_at(s: &[u8], kind: u32, at: usize, length: usize) -> u32
     requires { Told s.now kind at length }
     ensures { result ≡ checksum_at s.now at }
 {
-    wire::u32_off(s, at, before_last_four(length))
+    wire::u32_off(s, at, length.saturating_sub(4))
 }
 
 pub(crate) fn checksum_right(s: &[u8], kind: u32, at: usize, length: usize) -> bool

@@ -1,5 +1,5 @@
 // Where a record's fields end.
-ghost use Rattle.std.specs.Prelude.{◌≡◌, ◌-◌};
+ghost use Rattle.std.specs.Prelude.{◌≡◌};
 ghost use Rattle.check_records.specs.Frame.{end_right};
 
 use geometry::sizes;
@@ -7,16 +7,6 @@ use record::frame;
 
 // The largest number of a length field of four bytes.
 const LARGEST_LENGTH: usize = 4294967295;
-
-// How far behind a position another lies.
-fn distance(at: usize, end: usize) -> usize
-    ensures { result ≡ end - at }
-{
-    if end < at {
-        return 0;
-    }
-    end - at
-}
 
 // Stage 8: the record's fields end at `end`, before its checksum, and its length is the least that holds them.
 pub fn end_right(s: &[u8], at: usize, end: usize) -> bool
@@ -26,7 +16,7 @@ pub fn end_right(s: &[u8], at: usize, end: usize) -> bool
     if frame::record_limit(s, at) < end {
         return false;
     }
-    let n = distance(at, end);
+    let n = end.saturating_sub(at);
     if LARGEST_LENGTH < n {
         return false;
     }

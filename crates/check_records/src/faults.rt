@@ -5,17 +5,17 @@ ghost use Rattle.record.specs.Chain.{records};
 ghost use Rattle.check_records.specs.Faults.{body_right, right_of, first_wrong, chain_fault, checksum_fault, body_fault};
 
 use crate::{Rule, checksum, metadata_body, tile_body};
-use record::{Cursor, Found, Step, chain};
+use record::chain;
 
 // Stage 6.
-pub fn chain_fault(s: &[u8]) -> Found
+pub fn chain_fault(s: &[u8]) -> Option<usize>
     ensures { result ≡ chain_fault s.now }
 {
     let end = chain::records_end(s);
     if end < s.len() {
-        return Found::At(end);
+        return Some(end);
     }
-    Found::Nothing
+    None
 }
 
 // Stage 8 of one record, of a type and length.
@@ -44,32 +44,17 @@ fn keeps(s: &[u8], rule: Rule, kind: u32, at: usize, length: usize) -> bool
 }
 
 // The first record behind the header that does not.
-fn first_wrong(s: &[u8], rule: Rule) -> Found
+fn first_wrong(s: &[u8], rule: Rule) -> Option<usize>
     ensures { result ≡ first_wrong s.now rule (records s.now) }
 {
-    let mut c = Cursor {
-        at: chain::header_end(s),
-    };
-    loop {
-        let Step::Record {
-            kind,
-            start,
-            length,
-            next,
-        } = c.step(s)
-        else {
-            return Found::Nothing;
-        };
-        if keeps(s, rule, kind, start, length) {
-            c = next;
-        } else {
-            return Found::At(start);
-        }
-    }
+    chain::find(s, chain::header_end(s), |kind, at| {
+        let length = wire::u32_at(s, at) as usize;
+        !keeps(s, rule, kind, at, length)
+    })
 }
 
 // Stage 7: the header first.
-pub fn checksum_fault(s: &[u8]) -> Found
+pub fn checksum_fault(s: &[u8]) -> Option<usize>
     ensures { result ≡ checksum_fault s.now }
 {
     let kind = wire::byte_at(s, 20);
@@ -77,11 +62,11 @@ pub fn checksum_fault(s: &[u8]) -> Found
     if keeps(s, Rule::Checksum, kind, 16, length) {
         return first_wrong(s, Rule::Checksum);
     }
-    Found::At(16)
+    Some(16)
 }
 
 // Stage 8.
-pub fn body_fault(s: &[u8]) -> Found
+pub fn body_fault(s: &[u8]) -> Option<usize>
     ensures { result ≡ body_fault s.now }
 {
     first_wrong(s, Rule::Body)

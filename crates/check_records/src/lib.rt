@@ -7,7 +7,7 @@ pub mod faults;
 pub mod metadata_body;
 pub mod tile_body;
 
-// What a record is judged by, a rule for each stage.
+// What a record is judged by, a rule for each stage. It stays an enum: the theorems on edited pages speak of every rule by its name.
 #[derive(Clone, Copy)]
 pub enum Rule {
     Checksum,

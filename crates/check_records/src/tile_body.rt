@@ -30,17 +30,14 @@ fn sections_right(s: &[u8], at: usize, n: u32) -> bool
     requires { at < length s.now }
     ensures { result ≡ all_below n (section_right s.now at) }
 {
-    let mut e: u32 = 0;
     let mut p = tile_record::section_start(s, at, 0);
     let mut q = entries::entry_start(s, 0);
-    while e < n {
-        if section_right(s, at, e, p, q) {
-            p = tile_record::next_section(s, at, p);
-            q = entries::next_entry(s, q);
-            e += 1;
-        } else {
+    for e in 0..n {
+        if !section_right(s, at, e, p, q) {
             return false;
         }
+        p = tile_record::next_section(s, at, p);
+        q = entries::next_entry(s, q);
     }
     true
 }

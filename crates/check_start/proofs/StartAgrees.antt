@@ -1,5 +1,6 @@
 -- The first half answers as stages 1 to 5 do on each file that begins so, unless more is given than the file has, or too little. Assumes
 -- nothing.
+use Rattle.std.specs.Prelude.{Err, Ok, Result, ⊤}
 use Prim.Native.Nat.{ℕ, min, max, ◌≤◌, ◌<◌}
 use mathlib.Core.Path.{◌≡◌, refl, sym, ap, ◌∙◌}
 use mathlib.Core.List.{List, [], ◌∷◌}
@@ -14,8 +15,6 @@ use Rattle.wire.specs.Tests.{◌≤?◌, passes}
 use Rattle.wire.proofs.TestLaws.{yes, no, means, fails}
 use Rattle.answer.specs.declared.Refusal.{Refusal}
 use Rattle.answer.specs.declared.Refusal.TheVariants.{Identification, Version, Header, Ceiling, Opened, Input, Incomplete}
-use Rattle.answer.specs.declared.Verdict.{Verdict}
-use Rattle.answer.specs.declared.Verdict.TheVariants.{Accepted, Refused}
 use Rattle.answer.specs.Refusals.{refusal_number, verdict_number, gate}
 use Rattle.record.specs.Chain.{header_end}
 use Rattle.check_header.specs.Identification.{identified, version_right}
@@ -82,17 +81,17 @@ whole_file s =
 
 -- a number that no stage gives
 
-not_number : (x : ℕ) (b : Bool) (r : Refusal) (v : Verdict) → (refusal_number r ≡ x → ⊥) → (verdict_number v ≡ x → ⊥) → verdict_number (gate b r v) ≡ x → ⊥
+not_number : (x : ℕ) (b : Bool) (r : Refusal) (v : Result ⊤ Refusal) → (refusal_number r ≡ x → ⊥) → (verdict_number v ≡ x → ⊥) → verdict_number (gate b r v) ≡ x → ⊥
 unfolding gate
 not_number x true r v f g = g
 not_number x false r v f g = f
 
 module _ (s : List ℕ) (n x : ℕ) (big : 11 < x) where
-  behind_two : verdict_number (next_two s n (header_right s n) (gate (closed s) Opened Accepted)) ≡ x → ⊥
+  behind_two : verdict_number (next_two s n (header_right s n) (gate (closed s) Opened (Ok tt))) ≡ x → ⊥
   unfolding next_two
   behind_two =
       not_number x (header_right s n) Header _ (λ e. omega arith)
-      (not_number x (within_ceilings s n) Ceiling _ (λ e. omega arith) (not_number x (closed s) Opened Accepted (λ e. omega arith) (λ e. omega arith)))
+      (not_number x (within_ceilings s n) Ceiling _ (λ e. omega arith) (not_number x (closed s) Opened (Ok tt) (λ e. omega arith) (λ e. omega arith)))
 
 pub twelve_exactly : Twelve
 unfolding check_start first_two gate
@@ -124,7 +123,7 @@ module _ (s : List ℕ) (n : ℕ) where
   unfolding given
   gives_not k h = sym (no ((min k n ≤? length s) ∷ []) (λ l. omega arith))
 
-  lacking_one : check_start s n ≡ Refused Incomplete → Lacks s n (needed s n)
+  lacking_one : check_start s n ≡ Err Incomplete → Lacks s n (needed s n)
   unfolding check_start first_two gate
   lacking_one e = go (no_more s n) refl (given 16 s n) refl (identified s n) refl (version_right s) refl (given 24 s n) refl (header_given s n) refl (ap verdict_number e)
     where
@@ -151,14 +150,14 @@ module _ (s : List ℕ) (n : ℕ) where
       go true ea true eb true ec true ed true ef true eg z = absurd (behind_two s n 16 (omega arith) (rw (ea, eb, ec, ed, ef, eg) at z))
 
   module _ (k : ℕ) where
-    lacks_block : LacksBlock s n k → (check_start s n ≡ Refused Incomplete) × (k ≡ needed s n)
+    lacks_block : LacksBlock s n k → (check_start s n ≡ Err Incomplete) × (k ≡ needed s n)
     unfolding check_start gate
     lacks_block l =
         let e = l.needs in
         let h = l.lacks in
         (rw (few (omega arith), gives_not 16 (omega arith)), needs_16 s n k (omega arith) (omega arith))
 
-    lacks_length : LacksLength s n k → (check_start s n ≡ Refused Incomplete) × (k ≡ needed s n)
+    lacks_length : LacksLength s n k → (check_start s n ≡ Err Incomplete) × (k ≡ needed s n)
     unfolding check_start first_two gate
     lacks_length l =
         let e = l.needs in
@@ -168,7 +167,7 @@ module _ (s : List ℕ) (n : ℕ) where
           needs_24 s n k (omega arith) (omega arith) (omega arith),
         )
 
-    lacks_header : LacksHeader s n k → (check_start s n ≡ Refused Incomplete) × (k ≡ needed s n)
+    lacks_header : LacksHeader s n k → (check_start s n ≡ Err Incomplete) × (k ≡ needed s n)
     unfolding check_start first_two gate
     lacks_header l =
         let e = l.needs in
@@ -200,7 +199,7 @@ record Enough (s : List ℕ) (n : ℕ) : Type 0 where
   same : check_start s n ≡ check_header s n
   far : min (reach s n) n ≤ length s
 
-enough : (s : List ℕ) (n : ℕ) → (check_start s n ≡ Refused Input → ⊥) → (check_start s n ≡ Refused Incomplete → ⊥) → Enough s n
+enough : (s : List ℕ) (n : ℕ) → (check_start s n ≡ Err Input → ⊥) → (check_start s n ≡ Err Incomplete → ⊥) → Enough s n
 unfolding check_start check_header stages first_two gate reach passes
 enough s n i m = go (no_more s n) refl (given 16 s n) refl (identified s n) refl (version_right s) refl (given 24 s n) refl (header_given s n) refl
   where

@@ -1,4 +1,6 @@
 -- The first half of the check, a return at a time. Assumes nothing.
+use Rattle.std.specs.Prelude.{Err, Result, ⊤}
+use Rattle.answer.specs.declared.Refusal.{Refusal}
 use Prim.Native.Nat.{ℕ, min, ◌≤◌, ◌<◌}
 use mathlib.Core.Path.{◌≡◌}
 use mathlib.Core.List.{List, [], ◌∷◌}
@@ -7,8 +9,6 @@ use lib.ListN.{length}
 use Rattle.wire.proofs.TestLaws.{yes, no}
 use Rattle.wire.specs.Tests.{◌≤?◌}
 use Rattle.answer.specs.declared.Refusal.TheVariants.{Input}
-use Rattle.answer.specs.declared.Verdict.{Verdict}
-use Rattle.answer.specs.declared.Verdict.TheVariants.{Refused}
 use Rattle.answer.specs.Refusals.{gate}
 use native.Mathlib.Omega.{arith}
 use borrow.Author.Tests.{le-leb, lt-leb}
@@ -17,11 +17,11 @@ use Rattle.check_header.specs.HeaderRecord.{length_right}
 use Rattle.check_start.specs.Start.{no_more, header_given, needed}
 
 module _ (s : List ℕ) (n : ℕ) where
-  pub more : (v : Verdict) → n < length s → Refused Input ≡ gate (no_more s n) Input v
+  pub more : (v : Result ⊤ Refusal) → n < length s → Err Input ≡ gate (no_more s n) Input v
   unfolding no_more gate
   more v h = rw (← no ((length s ≤? n) ∷ []) (λ k. omega arith))
 
-  pub no_more_lem : (v w : Verdict) → length s ≤ n → w ≡ v → w ≡ gate (no_more s n) Input v
+  pub no_more_lem : (v w : Result ⊤ Refusal) → length s ≤ n → w ≡ v → w ≡ gate (no_more s n) Input v
   unfolding no_more gate
   no_more_lem v w h e = rw (← yes ((length s ≤? n) ∷ []) (omega arith, tt)) e
 

@@ -1,13 +1,12 @@
 // The first half of the check: stages 1 to 5, from the first bytes of a file and its stated length.
-ghost use Rattle.std.specs.Prelude.{◌≡◌, min};
+ghost use Rattle.std.specs.Prelude.{◌≡◌, min, Ok};
 ghost use Rattle.answer.specs.declared.Refusal.TheVariants.{Opened, Incomplete};
-ghost use Rattle.answer.specs.declared.Verdict.TheVariants.{Accepted};
 ghost use Rattle.answer.specs.Refusals.{gate};
 ghost use Rattle.check_header.specs.HeaderRecord.{header_right};
 ghost use Rattle.check_header.specs.Stages.{closed, next_two};
 ghost use Rattle.check_start.specs.Start.{given, header_given, check_start, needed};
 
-use answer::{Refusal, Verdict};
+use answer::Refusal;
 use check_header::{header_record, identification, stages};
 use record::chain;
 
@@ -36,34 +35,34 @@ fn header_given(s: &[u8], length: usize) -> bool
 }
 
 // Stages 3 to 5, where stages 1 and 2 pass.
-fn behind_first_two(s: &[u8], length: usize) -> Verdict
-    ensures { result ≡ gate (given 24 s.now length) Incomplete (gate (header_given s.now length) Incomplete (next_two s.now length (header_right s.now length) (gate (closed s.now) Opened Accepted))) }
+fn behind_first_two(s: &[u8], length: usize) -> Result<(), Refusal>
+    ensures { result ≡ gate (given 24 s.now length) Incomplete (gate (header_given s.now length) Incomplete (next_two s.now length (header_right s.now length) (gate (closed s.now) Opened (Ok tt)))) }
 {
     if is_given(s, length, 24) {
         if header_given(s, length) {
             return stages::last_three(s, length);
         }
     }
-    Verdict::Refused(Refusal::Incomplete)
+    Err(Refusal::Incomplete)
 }
 
 // Stages 1 to 5, of the first bytes of a file and its stated length.
-pub fn check_start(s: &[u8], length: usize) -> Verdict
+pub fn check_start(s: &[u8], length: usize) -> Result<(), Refusal>
     ensures { result ≡ check_start s.now length }
 {
     if length < s.len() {
-        return Verdict::Refused(Refusal::Input);
+        return Err(Refusal::Input);
     }
     if is_given(s, length, 16) {
         if identification::is_identified(s, length) {
             if identification::version_right(s) {
                 return behind_first_two(s, length);
             }
-            return Verdict::Refused(Refusal::Version);
+            return Err(Refusal::Version);
         }
-        return Verdict::Refused(Refusal::Identification);
+        return Err(Refusal::Identification);
     }
-    Verdict::Refused(Refusal::Incomplete)
+    Err(Refusal::Incomplete)
 }
 
 fn least(a: usize, b: usize) -> usize

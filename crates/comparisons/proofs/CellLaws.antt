@@ -1,4 +1,5 @@
 -- Two cells compared, and the first refusal of two. Assumes nothing.
+use Rattle.std.specs.Prelude.{Err, Ok, Result, ⊤}
 use Prim.Native.Nat.{ℕ, ◌≤◌, ◌<◌}
 use mathlib.Core.Path.{◌≡◌, refl, sym, ap, ◌∙◌}
 use mathlib.Core.List.{[], ◌∷◌}
@@ -9,8 +10,6 @@ use borrow.Author.Tests.{eqb-true, eqb-false, eq-eqb, ne_eqb}
 use Rattle.wire.specs.Tests.{◌≡?◌, passes}
 use Rattle.wire.proofs.TestLaws.{not_both, means, yes, no}
 use Rattle.answer.specs.declared.Refusal.{Refusal}
-use Rattle.answer.specs.declared.Verdict.{Verdict}
-use Rattle.answer.specs.declared.Verdict.TheVariants as verdict
 use Rattle.answer.specs.declared.Cell.{Cell}
 use Rattle.answer.specs.Answers.{cell_kind, cell_bits, cell_verdict}
 use Rattle.blocks.specs.Folds.{fold_below, Joins}
@@ -23,7 +22,7 @@ use Rattle.comparisons.specs.Comparisons.{compared_kind, differ, join_halt, firs
 
 -- the kind that is compared
 
-module _ (x : Cell) (k : ℕ) (e : k ≡ cell_kind x) where
+module _ (x : Result Cell Refusal) (k : ℕ) (e : k ≡ cell_kind x) where
   pub kind_packed : k ≡ 34 → 32 ≡ compared_kind x
   unfolding compared_kind
   kind_packed h = rw (← e, h)
@@ -32,13 +31,13 @@ module _ (x : Cell) (k : ℕ) (e : k ≡ cell_kind x) where
   unfolding compared_kind
   kind_other h = rw (← e, ne_eqb k 34 h)
 
-pub same_kind : (x y : Cell) → cell_kind x ≡ cell_kind y → compared_kind x ≡ compared_kind y
+pub same_kind : (x y : Result Cell Refusal) → cell_kind x ≡ cell_kind y → compared_kind x ≡ compared_kind y
 unfolding compared_kind
 same_kind x y e = rw e
 
 -- whether two cells differ
 
-module _ (x y : Cell) where
+module _ (x y : Result Cell Refusal) where
   pub differ_kind : (compared_kind x ≡ compared_kind y → ⊥) → differ x y ≡ true
   unfolding differ
   differ_kind f = rw (← no ((compared_kind x ≡? compared_kind y) ∷ (cell_bits x ≡? cell_bits y) ∷ []) (λ h. f h.0))
@@ -52,14 +51,14 @@ module _ (x y : Cell) where
       go false f = rw (f, ← no ((compared_kind x ≡? compared_kind y) ∷ (cell_bits x ≡? cell_bits y) ∷ []) (λ h. eqb-false (cell_bits x) (cell_bits y) f h.1.0))
 
 -- as the functions below give it
-module _ (x y : Cell) (u v : ℕ) (p : u ≡ compared_kind x) (q : v ≡ compared_kind y) where
+module _ (x y : Result Cell Refusal) (u v : ℕ) (p : u ≡ compared_kind x) (q : v ≡ compared_kind y) where
   pub kinds_differ : (u ≡ v → ⊥) → true ≡ differ x y
   kinds_differ f = sym (differ_kind x y (λ e. f (p ∙ e ∙ sym q)))
 
   pub bits_differ : (m n : ℕ) → u ≡ v → m ≡ cell_bits x → n ≡ cell_bits y → not (eqb m n) ≡ differ x y
   bits_differ m n e f g = rw (f, g) (sym (differ_bits x y (sym p ∙ e ∙ q)))
 
-pub differ_swapped : (x y : Cell) → differ x y ≡ differ y x
+pub differ_swapped : (x y : Result Cell Refusal) → differ x y ≡ differ y x
 unfolding differ
 differ_swapped x y = ap not (either (passes ((compared_kind x ≡? compared_kind y) ∷ (cell_bits x ≡? cell_bits y) ∷ [])) refl (passes ((compared_kind y ≡? compared_kind x) ∷ (cell_bits y ≡? cell_bits x) ∷ [])) refl)
   where
@@ -72,7 +71,7 @@ differ_swapped x y = ap not (either (passes ((compared_kind x ≡? compared_kind
     either true p false q = let h = means _ p in not_both (sym (yes ((compared_kind y ≡? compared_kind x) ∷ (cell_bits y ≡? cell_bits x) ∷ []) (sym h.0, (sym h.1.0, tt)))) q
     either false p true q = let h = means _ q in not_both (sym (yes ((compared_kind x ≡? compared_kind y) ∷ (cell_bits x ≡? cell_bits y) ∷ []) (sym h.0, (sym h.1.0, tt)))) p
 
-pub differ_same : (x : Cell) → differ x x ≡ false
+pub differ_same : (x : Result Cell Refusal) → differ x x ≡ false
 differ_same x = differ_bits x x refl ∙ rw (eq-eqb (cell_bits x) (cell_bits x) refl)
 
 -- the first refusal
@@ -110,32 +109,32 @@ pub second_not : (h : Halt) (r : Refusal) → h ≡ halt.Second r → h ≡ halt
 second_not h r e f = let z : ◌≡◌ {A = ℕ} 0 1 = cc in omega arith
 
 -- of two cells
-module _ (x y : Cell) (v : Verdict) (p : v ≡ cell_verdict x) where
-  pub halt_first : (r : Refusal) → v ≡ verdict.Refused r → halt.First r ≡ cell_halt x y
+module _ (x y : Result Cell Refusal) (v : Result ⊤ Refusal) (p : v ≡ cell_verdict x) where
+  pub halt_first : (r : Refusal) → v ≡ Err r → halt.First r ≡ cell_halt x y
   unfolding cell_halt join_halt first_halt
   halt_first r e = rw (← p, e)
 
-  module _ (w : Verdict) (q : w ≡ cell_verdict y) (e : v ≡ verdict.Accepted) where
-    pub halt_second : (r : Refusal) → w ≡ verdict.Refused r → halt.Second r ≡ cell_halt x y
+  module _ (w : Result ⊤ Refusal) (q : w ≡ cell_verdict y) (e : v ≡ Ok tt) where
+    pub halt_second : (r : Refusal) → w ≡ Err r → halt.Second r ≡ cell_halt x y
     unfolding cell_halt join_halt first_halt second_halt
     halt_second r f = rw (← p, e, ← q, f)
 
-    pub halt_none : w ≡ verdict.Accepted → halt.None ≡ cell_halt x y
+    pub halt_none : w ≡ Ok tt → halt.None ≡ cell_halt x y
     unfolding cell_halt join_halt first_halt second_halt
     halt_none f = rw (← p, e, ← q, f)
 
 -- where none of two is refused, neither is
-pub none_halts : (x y : Cell) → cell_halt x y ≡ halt.None → (cell_verdict x ≡ verdict.Accepted) × (cell_verdict y ≡ verdict.Accepted)
+pub none_halts : (x y : Result Cell Refusal) → cell_halt x y ≡ halt.None → (cell_verdict x ≡ Ok tt) × (cell_verdict y ≡ Ok tt)
 unfolding cell_halt join_halt first_halt second_halt
 none_halts x y e = go (cell_verdict x) refl (cell_verdict y) refl
   where
-    go : (v : Verdict) → cell_verdict x ≡ v → (w : Verdict) → cell_verdict y ≡ w → (cell_verdict x ≡ verdict.Accepted) × (cell_verdict y ≡ verdict.Accepted)
-    go verdict.Accepted p verdict.Accepted q = (p, q)
-    go verdict.Accepted p (verdict.Refused r) q =
+    go : (v : Result ⊤ Refusal) → cell_verdict x ≡ v → (w : Result ⊤ Refusal) → cell_verdict y ≡ w → (cell_verdict x ≡ Ok tt) × (cell_verdict y ≡ Ok tt)
+    go (Ok accepted) p (Ok also) q = (p, q)
+    go (Ok accepted) p (Err r) q =
         let f : join_halt (first_halt (cell_verdict x)) (second_halt (cell_verdict y)) ≡ halt.Second r = rw (p, q) in
         let z : ◌≡◌ {A = ℕ} 0 1 = cc in
         absurd (omega arith)
-    go (verdict.Refused r) p w q =
+    go (Err r) p w q =
         let f : join_halt (first_halt (cell_verdict x)) (second_halt (cell_verdict y)) ≡ halt.First r = rw p in
         let z : ◌≡◌ {A = ℕ} 0 1 = cc in
         absurd (omega arith)
@@ -161,7 +160,7 @@ halted_says (halt.First r) x f = refl
 halted_says (halt.Second r) x f = refl
 
 -- cells with the same verdicts have the same refusal
-pub halt_alike : (x y u v : Cell) → cell_verdict x ≡ cell_verdict u → cell_verdict y ≡ cell_verdict v → cell_halt x y ≡ cell_halt u v
+pub halt_alike : (x y u v : Result Cell Refusal) → cell_verdict x ≡ cell_verdict u → cell_verdict y ≡ cell_verdict v → cell_halt x y ≡ cell_halt u v
 unfolding cell_halt
 halt_alike x y u v e f = rw (e, f)
 

@@ -1,4 +1,5 @@
 -- Two pages: whether they are alike, and what is said of them. Assumes nothing.
+use Rattle.std.specs.Prelude.{Err, Ok, Result, ⊤}
 use Prim.Native.Nat.{ℕ, ◌+◌, ◌<◌}
 use mathlib.Core.Path.{◌≡◌, refl, sym, ◌∙◌}
 use mathlib.Core.List.{List, [], ◌∷◌}
@@ -12,8 +13,6 @@ use Rattle.wire.specs.Tests.{Test, ◌≡?◌, is, all_below}
 use Rattle.wire.proofs.TestLaws.{means, yes, no_true, either_way, below_more, below_each, below_not, below_all}
 use Rattle.wire.proofs.PutLaws.{put_nil}
 use Rattle.answer.specs.declared.Refusal.{Refusal}
-use Rattle.answer.specs.declared.Verdict.{Verdict}
-use Rattle.answer.specs.declared.Verdict.TheVariants as verdict
 use Rattle.answer.specs.Refusals.{unless_refused}
 use Rattle.store.specs.Face.{grid_rows, grid_columns, tile_rows, tile_columns, element_count, element, check, meaning, SameGrid}
 use Rattle.row_lists.specs.Entries.{count_in}
@@ -93,17 +92,17 @@ module _ (s t : List ℕ) where
 
 -- what is said of two pages: one refused, or unlike, or compared
 
-module _ (s : List ℕ) (k : ℕ) (t : List ℕ) (j : ℕ) (v : Verdict) (p : v ≡ check s) where
-  pub compared_first : (r : Refusal) → v ≡ verdict.Refused r → First r ≡ comparison s k t j
+module _ (s : List ℕ) (k : ℕ) (t : List ℕ) (j : ℕ) (v : Result ⊤ Refusal) (p : v ≡ check s) where
+  pub compared_first : (r : Refusal) → v ≡ Err r → First r ≡ comparison s k t j
   unfolding comparison unless_refused
   compared_first r e = rw (← p, e)
 
-  module _ (a : v ≡ verdict.Accepted) (w : Verdict) (q : w ≡ check t) where
-    pub compared_second : (r : Refusal) → w ≡ verdict.Refused r → Second r ≡ comparison s k t j
+  module _ (a : v ≡ Ok tt) (w : Result ⊤ Refusal) (q : w ≡ check t) where
+    pub compared_second : (r : Refusal) → w ≡ Err r → Second r ≡ comparison s k t j
     unfolding comparison unless_refused
     compared_second r e = rw (← p, a, ← q, e)
 
-    module _ (b : w ≡ verdict.Accepted) (c : Bool) (o : c ≡ alike s t) where
+    module _ (b : w ≡ Ok tt) (c : Bool) (o : c ≡ alike s t) where
       pub compared_unlike : c ≡ false → Unlike ≡ comparison s k t j
       unfolding comparison unless_refused
       compared_unlike e = rw (← p, a, ← q, b, ← o, e)

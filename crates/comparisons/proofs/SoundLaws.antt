@@ -1,4 +1,5 @@
 -- What an answer tells of two pages. Assumes nothing.
+use Rattle.std.specs.Prelude.{Err, Ok, Result, ⊤}
 use Prim.Native.Nat.{ℕ, zero, suc, ◌+◌, ◌<◌}
 use mathlib.Core.Path.{◌≡◌, refl, sym, ap, ap₂, ◌∙◌}
 use mathlib.Core.List.{List}
@@ -8,8 +9,6 @@ use lib.ListN.{length}
 use Rattle.wire.specs.Pick.{pick}
 use Rattle.wire.specs.Lists.{one_if, count_below}
 use Rattle.answer.specs.declared.Refusal.{Refusal}
-use Rattle.answer.specs.declared.Verdict.{Verdict}
-use Rattle.answer.specs.declared.Verdict.TheVariants as verdict
 use Rattle.answer.specs.declared.Cell.{Cell}
 use Rattle.answer.specs.Refusals.{unless_refused}
 use Rattle.answer.specs.Answers.{cell_verdict}
@@ -31,10 +30,10 @@ use Rattle.comparisons.proofs.PageLaws.{halt_of, count_of, alike_means, shape_gr
 
 -- an answer that is a number
 
-passed : (refused : Refusal → Comparison) (v : Verdict) (x : Comparison) (n : ℕ) → ((r : Refusal) → refused r ≡ Count n → ⊥) → unless_refused refused v x ≡ Count n → (v ≡ verdict.Accepted) × (x ≡ Count n)
+passed : (refused : Refusal → Comparison) (v : Result ⊤ Refusal) (x : Comparison) (n : ℕ) → ((r : Refusal) → refused r ≡ Count n → ⊥) → unless_refused refused v x ≡ Count n → (v ≡ Ok tt) × (x ≡ Count n)
 unfolding unless_refused
-passed refused verdict.Accepted x n f e = (refl, e)
-passed refused (verdict.Refused r) x n f e = absurd (f r e)
+passed refused (Ok accepted) x n f e = (refl, e)
+passed refused (Err r) x n f e = absurd (f r e)
 
 first_none : (n : ℕ) (r : Refusal) → First r ≡ Count n → ⊥
 first_none n r e = let z : ◌≡◌ {A = ℕ} 0 1 = cc in omega arith
@@ -51,7 +50,7 @@ module _ (s : List ℕ) (k : ℕ) (t : List ℕ) (j : ℕ) where
   d = differ_at (meaning s k) (meaning t j)
 
   pub record Counts (n : ℕ) : Type 0 where
-    pub accepted : (check s ≡ verdict.Accepted) × (check t ≡ verdict.Accepted)
+    pub accepted : (check s ≡ Ok tt) × (check t ≡ Ok tt)
     pub shape : EqualShape s t
     pub read : halt_of s k t j ≡ halt.None
     pub number : n ≡ length (differing_cells s k t j)
@@ -70,7 +69,7 @@ module _ (s : List ℕ) (k : ℕ) (t : List ℕ) (j : ℕ) where
       record { accepted = (a.0, b.0); shape = alike_means s t c.0; read = f.0; number = f.1 ∙ cells_counted }
 
   -- the other way: where no cell is refused
-  compared : (x : Comparison) → check s ≡ verdict.Accepted → check t ≡ verdict.Accepted → EqualShape s t → x ≡ compared_pages s k t j → comparison s k t j ≡ x
+  compared : (x : Comparison) → check s ≡ Ok tt → check t ≡ Ok tt → EqualShape s t → x ≡ compared_pages s k t j → comparison s k t j ≡ x
   compared x a b h e = sym (compared_alike s k t j (check s) refl a (check t) refl b (alike s t) refl x (sym (means_alike s t h)) e)
 
   halted_pages : (h : Halt) → halt_of s k t j ≡ h → unless_halted h (Count (length (differing_cells s k t j))) ≡ compared_pages s k t j
@@ -78,15 +77,15 @@ module _ (s : List ℕ) (k : ℕ) (t : List ℕ) (j : ℕ) where
   halted_pages h e = rw (e, cells_counted)
 
   says :
-      (h : Halt) → check s ≡ verdict.Accepted → check t ≡ verdict.Accepted → EqualShape s t → halt_of s k t j ≡ h →
+      (h : Halt) → check s ≡ Ok tt → check t ≡ Ok tt → EqualShape s t → halt_of s k t j ≡ h →
       comparison s k t j ≡ unless_halted h (Count (length (differing_cells s k t j)))
   says h a b f e = compared _ a b f (halted_pages h e)
 
   -- cells that can be read halt nothing
-  cell_none : (r c e : ℕ) → cell_verdict (meaning s k r c e) ≡ verdict.Accepted → cell_verdict (meaning t j r c e) ≡ verdict.Accepted → cell_halt (meaning s k r c e) (meaning t j r c e) ≡ halt.None
+  cell_none : (r c e : ℕ) → cell_verdict (meaning s k r c e) ≡ Ok tt → cell_verdict (meaning t j r c e) ≡ Ok tt → cell_halt (meaning s k r c e) (meaning t j r c e) ≡ halt.None
   cell_none r c e a b = sym (halt_none (meaning s k r c e) (meaning t j r c e) _ refl _ refl a b)
 
-  row_none : (r c : ℕ) → ((e : ℕ) → e < element_count s → (cell_verdict (meaning s k r c e) ≡ verdict.Accepted) × (cell_verdict (meaning t j r c e) ≡ verdict.Accepted)) →
+  row_none : (r c : ℕ) → ((e : ℕ) → e < element_count s → (cell_verdict (meaning s k r c e) ≡ Ok tt) × (cell_verdict (meaning t j r c e) ≡ Ok tt)) →
       halt_at (meaning s k) (meaning t j) (element_count s) r c ≡ halt.None
   unfolding halt_at
   row_none r c f =
@@ -95,7 +94,7 @@ module _ (s : List ℕ) (k : ℕ) (t : List ℕ) (j : ℕ) where
       (omega arith))
 
   none_refused :
-      ((r c e : ℕ) → r < grid_rows s → c < grid_columns s → e < element_count s → (cell_verdict (meaning s k r c e) ≡ verdict.Accepted) × (cell_verdict (meaning t j r c e) ≡ verdict.Accepted)) →
+      ((r c e : ℕ) → r < grid_rows s → c < grid_columns s → e < element_count s → (cell_verdict (meaning s k r c e) ≡ Ok tt) × (cell_verdict (meaning t j r c e) ≡ Ok tt)) →
       halt_of s k t j ≡ halt.None
   unfolding halt_in
   none_refused f = inside_none join_halt halt.None halts 0 (grid_rows s) 0 (grid_columns s) _ (λ r c h. row_none r c (λ e l. f r c e (omega arith) (omega arith) l))
@@ -103,7 +102,7 @@ module _ (s : List ℕ) (k : ℕ) (t : List ℕ) (j : ℕ) where
   -- and where nothing halts each can be read
   each_read :
       halt_of s k t j ≡ halt.None → (r c e : ℕ) → r < grid_rows s → c < grid_columns s → e < element_count s →
-      (cell_verdict (meaning s k r c e) ≡ verdict.Accepted) × (cell_verdict (meaning t j r c e) ≡ verdict.Accepted)
+      (cell_verdict (meaning s k r c e) ≡ Ok tt) × (cell_verdict (meaning t j r c e) ≡ Ok tt)
   unfolding halt_in halt_at
   each_read f r c e h i l =
       none_halts (meaning s k r c e) (meaning t j r c e)
@@ -136,7 +135,7 @@ compared_once s k t j n e = once s k t j n (counts s k t j n e)
 
 -- swapped
 
-differ_at_swapped : (A B : ℕ → ℕ → ℕ → Cell) (r c e : ℕ) → differ_at A B r c e ≡ differ_at B A r c e
+differ_at_swapped : (A B : ℕ → ℕ → ℕ → Result Cell Refusal) (r c e : ℕ) → differ_at A B r c e ≡ differ_at B A r c e
 unfolding differ_at
 differ_at_swapped A B r c e = differ_swapped (A r c e) (B r c e)
 
@@ -187,11 +186,11 @@ unfolding count_below one_if
 none_counted zero p f = refl
 none_counted (suc n) p f = rw (none_counted n p f, f n)
 
-differ_at_same : (A : ℕ → ℕ → ℕ → Cell) (r c e : ℕ) → differ_at A A r c e ≡ false
+differ_at_same : (A : ℕ → ℕ → ℕ → Result Cell Refusal) (r c e : ℕ) → differ_at A A r c e ≡ false
 unfolding differ_at
 differ_at_same A r c e = differ_same (A r c e)
 
-none_differ : (A : ℕ → ℕ → ℕ → Cell) (n rows columns : ℕ) → count_in (differ_at A A) n 0 rows 0 columns ≡ 0
+none_differ : (A : ℕ → ℕ → ℕ → Result Cell Refusal) (n rows columns : ℕ) → count_in (differ_at A A) n 0 rows 0 columns ≡ 0
 unfolding count_in
 none_differ A n rows columns = inside_none ◌+◌ 0 sums 0 rows 0 columns _ (λ r c h. none_counted n (differ_at A A r c) (λ e. differ_at_same A r c e))
 

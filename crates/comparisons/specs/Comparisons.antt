@@ -2,12 +2,11 @@
 -- index that the caller names: s and k of the first, t and j of the second. `A r c e` is the cell of the first in row r, column c and
 -- element e, `B r c e` that of the second, and n is the number of elements; what is counted or listed goes by the rows from `top` to below
 -- `bottom` and the columns from `left` to below `right`.
-use Rattle.std.specs.Prelude.{ℕ, List, [], ◌∷◌, Bool, not, eqb}
+use Rattle.std.specs.Prelude.{ℕ, List, [], ◌∷◌, Bool, not, eqb, Err, Ok, Result, ⊤}
+use Rattle.answer.specs.declared.Refusal.{Refusal}
 use Rattle.wire.specs.Pick.{pick}
 use Rattle.wire.specs.Tests.{◌≡?◌, is, passes, all_below}
 use Rattle.answer.specs.declared.Refusal.TheVariants.{Input}
-use Rattle.answer.specs.declared.Verdict.{Verdict}
-use Rattle.answer.specs.declared.Verdict.TheVariants as verdict
 use Rattle.answer.specs.declared.Cell.{Cell}
 use Rattle.answer.specs.Refusals.{refusal_number, refusal_place, unless_refused}
 use Rattle.answer.specs.Answers.{cell_kind, cell_bits, cell_verdict}
@@ -28,14 +27,14 @@ alike s t =
 
 -- the kind that is compared: "Here and later, stored includes unpacked" (Req 07), so a packed cell and a stored one of equal bits do not
 -- differ
-unfoldable pub compared_kind : Cell → ℕ
+unfoldable pub compared_kind : Result Cell Refusal → ℕ
 compared_kind x = pick (eqb (cell_kind x) 34) 32 (cell_kind x)
 
 -- "differing in kind or bits": places do not count
-unfoldable pub differ : Cell → Cell → Bool
+unfoldable pub differ : Result Cell Refusal → Result Cell Refusal → Bool
 differ x y = not (passes ((compared_kind x ≡? compared_kind y) ∷ (cell_bits x ≡? cell_bits y) ∷ []))
 
-unfoldable pub differ_at : (ℕ → ℕ → ℕ → Cell) → (ℕ → ℕ → ℕ → Cell) → ℕ → ℕ → ℕ → Bool
+unfoldable pub differ_at : (ℕ → ℕ → ℕ → Result Cell Refusal) → (ℕ → ℕ → ℕ → Result Cell Refusal) → ℕ → ℕ → ℕ → Bool
 differ_at A B r c e = differ (A r c e) (B r c e)
 
 -- "then 11 or 14 at the first unreadable cell in that order, on a tie the first page's": by row, then column, then element, the first
@@ -45,21 +44,21 @@ join_halt halt.None y = y
 join_halt (halt.First r) y = halt.First r
 join_halt (halt.Second r) y = halt.Second r
 
-unfoldable pub first_halt : Verdict → Halt
-first_halt verdict.Accepted = halt.None
-first_halt (verdict.Refused r) = halt.First r
+unfoldable pub first_halt : Result ⊤ Refusal → Halt
+first_halt (Ok accepted) = halt.None
+first_halt (Err r) = halt.First r
 
-unfoldable pub second_halt : Verdict → Halt
-second_halt verdict.Accepted = halt.None
-second_halt (verdict.Refused r) = halt.Second r
+unfoldable pub second_halt : Result ⊤ Refusal → Halt
+second_halt (Ok accepted) = halt.None
+second_halt (Err r) = halt.Second r
 
-unfoldable pub cell_halt : Cell → Cell → Halt
+unfoldable pub cell_halt : Result Cell Refusal → Result Cell Refusal → Halt
 cell_halt x y = join_halt (first_halt (cell_verdict x)) (second_halt (cell_verdict y))
 
-unfoldable pub halt_at : (ℕ → ℕ → ℕ → Cell) → (ℕ → ℕ → ℕ → Cell) → ℕ → ℕ → ℕ → Halt
+unfoldable pub halt_at : (ℕ → ℕ → ℕ → Result Cell Refusal) → (ℕ → ℕ → ℕ → Result Cell Refusal) → ℕ → ℕ → ℕ → Halt
 halt_at A B n r c = fold_below join_halt halt.None n (λ e. cell_halt (A r c e) (B r c e))
 
-unfoldable pub halt_in : (ℕ → ℕ → ℕ → Cell) → (ℕ → ℕ → ℕ → Cell) → ℕ → ℕ → ℕ → ℕ → ℕ → Halt
+unfoldable pub halt_in : (ℕ → ℕ → ℕ → Result Cell Refusal) → (ℕ → ℕ → ℕ → Result Cell Refusal) → ℕ → ℕ → ℕ → ℕ → ℕ → Halt
 halt_in A B n top bottom left right = fold_inside join_halt halt.None top bottom left right (halt_at A B n)
 
 -- what is said of cells: the first refusal, or "the full number of them"
@@ -68,7 +67,7 @@ unless_halted halt.None x = x
 unless_halted (halt.First r) x = First r
 unless_halted (halt.Second r) x = Second r
 
-unfoldable pub compared_in : (ℕ → ℕ → ℕ → Cell) → (ℕ → ℕ → ℕ → Cell) → ℕ → ℕ → ℕ → ℕ → ℕ → Comparison
+unfoldable pub compared_in : (ℕ → ℕ → ℕ → Result Cell Refusal) → (ℕ → ℕ → ℕ → Result Cell Refusal) → ℕ → ℕ → ℕ → ℕ → ℕ → Comparison
 compared_in A B n top bottom left right = unless_halted (halt_in A B n top bottom left right) (Count (count_in (differ_at A B) n top bottom left right))
 
 -- of two pages that are alike: all cells of the grid, by their meaning

@@ -1,8 +1,7 @@
 -- What an answer tells: each differing cell once and no other, the same cells for swapped pages, no cell for a page against itself; and the
 -- refusals in their order.
-use Rattle.std.specs.Prelude.{ℕ, ◌<◌, ◌≡◌, List, length}
+use Rattle.std.specs.Prelude.{ℕ, ◌<◌, ◌≡◌, List, length, Err, Ok}
 use Rattle.answer.specs.declared.Refusal.{Refusal}
-use Rattle.answer.specs.declared.Verdict.TheVariants.{Accepted, Refused}
 use Rattle.answer.specs.Answers.{cell_verdict}
 use Rattle.store.specs.Face.{grid_rows, grid_columns, tile_rows, tile_columns, element_count, element, check, meaning}
 use Rattle.row_lists.specs.Entries.{EachOnce}
@@ -27,10 +26,10 @@ Swapped = (s : List ℕ) (k : ℕ) (t : List ℕ) (j n : ℕ) → comparison s k
 
 -- every cell of the grid can be read
 pub record Readable (s : List ℕ) (k : ℕ) : Type 0 where
-  pub each : (r c e : ℕ) → r < grid_rows s → c < grid_columns s → e < element_count s → cell_verdict (meaning s k r c e) ≡ Accepted
+  pub each : (r c e : ℕ) → r < grid_rows s → c < grid_columns s → e < element_count s → cell_verdict (meaning s k r c e) ≡ Ok tt
 
 abbrev pub Same : Type 0
-Same = (s : List ℕ) (k : ℕ) → check s ≡ Accepted → Readable s k → comparison s k s k ≡ Count 0
+Same = (s : List ℕ) (k : ℕ) → check s ≡ Ok tt → Readable s k → comparison s k s k ≡ Count 0
 
 -- "equal grid, tile sides and element types", in plain words
 pub record EqualShape (s t : List ℕ) : Type 0 where
@@ -44,24 +43,24 @@ pub record EqualShape (s t : List ℕ) : Type 0 where
 -- every cell of the grid before one, by row, then column, then element, can be read in both pages
 pub record ReadBefore (s : List ℕ) (k : ℕ) (t : List ℕ) (j r c e : ℕ) : Type 0 where
   pub above :
-      (i l m : ℕ) → i < r → l < grid_columns s → m < element_count s → (cell_verdict (meaning s k i l m) ≡ Accepted) × (cell_verdict (meaning t j i l m) ≡ Accepted)
-  pub left : (l m : ℕ) → l < c → m < element_count s → (cell_verdict (meaning s k r l m) ≡ Accepted) × (cell_verdict (meaning t j r l m) ≡ Accepted)
-  pub element : (m : ℕ) → m < e → (cell_verdict (meaning s k r c m) ≡ Accepted) × (cell_verdict (meaning t j r c m) ≡ Accepted)
+      (i l m : ℕ) → i < r → l < grid_columns s → m < element_count s → (cell_verdict (meaning s k i l m) ≡ Ok tt) × (cell_verdict (meaning t j i l m) ≡ Ok tt)
+  pub left : (l m : ℕ) → l < c → m < element_count s → (cell_verdict (meaning s k r l m) ≡ Ok tt) × (cell_verdict (meaning t j r l m) ≡ Ok tt)
+  pub element : (m : ℕ) → m < e → (cell_verdict (meaning s k r c m) ≡ Ok tt) × (cell_verdict (meaning t j r c m) ≡ Ok tt)
 
 -- the refusals in their order
 pub record InOrder (s : List ℕ) (k : ℕ) (t : List ℕ) (j : ℕ) : Type 0 where
-  pub first : (x : Refusal) → check s ≡ Refused x → comparison s k t j ≡ First x
-  pub second : (x : Refusal) → check s ≡ Accepted → check t ≡ Refused x → comparison s k t j ≡ Second x
-  pub unlike : check s ≡ Accepted → check t ≡ Accepted → (EqualShape s t → ⊥) → comparison s k t j ≡ Unlike
+  pub first : (x : Refusal) → check s ≡ Err x → comparison s k t j ≡ First x
+  pub second : (x : Refusal) → check s ≡ Ok tt → check t ≡ Err x → comparison s k t j ≡ Second x
+  pub unlike : check s ≡ Ok tt → check t ≡ Ok tt → (EqualShape s t → ⊥) → comparison s k t j ≡ Unlike
   pub cell_first :
-      check s ≡ Accepted → check t ≡ Accepted → EqualShape s t → (r c e : ℕ) → r < grid_rows s → c < grid_columns s → e < element_count s → ReadBefore s k t j r c e →
-      (x : Refusal) → cell_verdict (meaning s k r c e) ≡ Refused x → comparison s k t j ≡ First x
+      check s ≡ Ok tt → check t ≡ Ok tt → EqualShape s t → (r c e : ℕ) → r < grid_rows s → c < grid_columns s → e < element_count s → ReadBefore s k t j r c e →
+      (x : Refusal) → cell_verdict (meaning s k r c e) ≡ Err x → comparison s k t j ≡ First x
   pub cell_second :
-      check s ≡ Accepted → check t ≡ Accepted → EqualShape s t → (r c e : ℕ) → r < grid_rows s → c < grid_columns s → e < element_count s → ReadBefore s k t j r c e →
-      (x : Refusal) → cell_verdict (meaning s k r c e) ≡ Accepted → cell_verdict (meaning t j r c e) ≡ Refused x → comparison s k t j ≡ Second x
+      check s ≡ Ok tt → check t ≡ Ok tt → EqualShape s t → (r c e : ℕ) → r < grid_rows s → c < grid_columns s → e < element_count s → ReadBefore s k t j r c e →
+      (x : Refusal) → cell_verdict (meaning s k r c e) ≡ Ok tt → cell_verdict (meaning t j r c e) ≡ Err x → comparison s k t j ≡ Second x
   -- and no other
   pub counted :
-      check s ≡ Accepted → check t ≡ Accepted → EqualShape s t → Readable s k → Readable t j → comparison s k t j ≡ Count (length (differing_cells s k t j))
+      check s ≡ Ok tt → check t ≡ Ok tt → EqualShape s t → Readable s k → Readable t j → comparison s k t j ≡ Count (length (differing_cells s k t j))
 
 abbrev pub RefusedInOrder : Type 0
 RefusedInOrder = (s : List ℕ) (k : ℕ) (t : List ℕ) (j : ℕ) → InOrder s k t j

@@ -9,7 +9,7 @@ ghost use Rattle.comparisons.specs.Comparisons as says;
 ghost use Rattle.comparisons.specs.Comparisons.{compared_kind, differ, cell_halt, unless_halted, comparison_number, comparison_page, comparison_count};
 ghost use Rattle.comparisons.specs.declared.Comparison.TheVariants as comparison;
 
-use answer::{Cell, Refusal, Verdict};
+use answer::{Cell, Refusal};
 use store::description;
 
 // What is said of two pages: how many cells differ, or whose refusal it is, or that they are unlike.
@@ -68,7 +68,7 @@ pub fn alike(first: &[u8], second: &[u8]) -> bool
 }
 
 // Stored and unpacked are one kind.
-pub fn compared_kind(x: Cell) -> u32
+pub fn compared_kind(x: Result<Cell, Refusal>) -> u32
     ensures { result ≡ compared_kind x }
 {
     let kind = answer::cell_kind(x);
@@ -79,7 +79,7 @@ pub fn compared_kind(x: Cell) -> u32
 }
 
 // Whether two cells differ in kind or bits.
-pub fn differs(x: Cell, y: Cell) -> bool
+pub fn differs(x: Result<Cell, Refusal>, y: Result<Cell, Refusal>) -> bool
     ensures { result ≡ differ x y }
 {
     if compared_kind(x) == compared_kind(y) {
@@ -89,14 +89,14 @@ pub fn differs(x: Cell, y: Cell) -> bool
 }
 
 // The refusal of two cells, the first page's before the second's.
-pub fn cell_halt(x: Cell, y: Cell) -> Halt
+pub fn cell_halt(x: Result<Cell, Refusal>, y: Result<Cell, Refusal>) -> Halt
     ensures { result ≡ cell_halt x y }
 {
     match answer::cell_verdict(x) {
-        Verdict::Refused(r) => Halt::First(r),
-        Verdict::Accepted => match answer::cell_verdict(y) {
-            Verdict::Refused(r) => Halt::Second(r),
-            Verdict::Accepted => Halt::None,
+        Err(r) => Halt::First(r),
+        Ok(()) => match answer::cell_verdict(y) {
+            Err(r) => Halt::Second(r),
+            Ok(()) => Halt::None,
         },
     }
 }

@@ -1,14 +1,15 @@
 -- The fields of the header as they are stored. Assumes nothing.
-use Prim.Native.Nat.{ℕ, suc, ◌+◌, ◌-◌, ◌≤◌, ◌<◌}
-use mathlib.Core.Path.{◌≡◌, refl, ap, ◌∙◌}
+use Prim.Native.Nat.{ℕ, suc, ◌+◌, ◌-◌, ◌≤◌}
+use mathlib.Core.Path.{◌≡◌, refl, ◌∙◌}
 use mathlib.Core.List.{List, [], ◌∷◌}
 use mathlib.Core.Bool.{Bool, true, false}
 use native.Mathlib.Omega.{arith}
-use native.Mathlib.Numerals.{add-one}
-use lib.ListN.{length, get_or, drop, drop_of_length-le}
-use lib.Seq.{drop-cons}
-use lib.Dec.{eqb}
-use borrow.Author.Tests.{ne_eqb, eqb-true, eqb-false}
+use lib.ListN.{length}
+use lib.Dec.{eqb, ltb}
+use borrow.Author.Tests.{eqb-true, eqb-false, ltb-false}
+use Rattle.std.specs.Prelude.{not, Some, None, cond}
+use Rattle.std.specs.List.{position, position_or_len}
+use Rattle.std.specs.Option.{unwrap_or}
 use Rattle.wire.specs.Pick.{pick}
 use Rattle.wire.specs.Bytes.{number, part, bytes_of, put, zeros}
 use Rattle.crc32c.specs.Crc.{crc_part, crc_without}
@@ -17,31 +18,7 @@ use Rattle.stores.specs.Writes.{one_write, seal_write}
 use Rattle.stores.proofs.JoinLaws.{Ran, ran_on, ran_then, ran_none}
 use Rattle.correct.specs.FieldWrites.{first_set, Lowest, set_writes, opened_field_writes, refer_to, closed_field_writes, seal_without, closed_front_writes}
 
--- the lowest byte that is not zero: those before it are passed
-
-abbrev pub Passed : List ℕ → ℕ → Type 0
-Passed v i = first_set v ≡ i + first_set (drop i v)
-
-pub passed_none : (v : List ℕ) → Passed v 0
-passed_none v = omega arith
-
-pub passed_more : (v : List ℕ) (i : ℕ) → Passed v i → i < length v → get_or v i 0 ≡ 0 → Passed v (i + 1)
-unfolding first_set
-passed_more v i p h z =
-    let e : drop i v ≡ get_or v i 0 ∷ drop (suc i) v = drop-cons v i 0 h in
-    let f : first_set (drop i v) ≡ suc (first_set (drop (suc i) v)) = ap first_set e ∙ rw z in
-    rw (add-one i) (omega arith)
-
-pub passed_here : (v : List ℕ) (i : ℕ) → Passed v i → i < length v → (get_or v i 0 ≡ 0 → ⊥) → i ≡ first_set v
-unfolding first_set
-passed_here v i p h z =
-    let e : drop i v ≡ get_or v i 0 ∷ drop (suc i) v = drop-cons v i 0 h in
-    let f : first_set (drop i v) ≡ 0 = ap first_set e ∙ rw (ne_eqb (get_or v i 0) 0 z) in
-    omega arith
-
-pub passed_all : (v : List ℕ) (i : ℕ) → Passed v i → length v ≤ i → i ≡ first_set v
-unfolding first_set
-passed_all v i p h = let f : first_set (drop i v) ≡ 0 = ap first_set (drop_of_length-le v h) in omega arith
+-- the lowest byte that is not zero
 
 pub first_most : (v : List ℕ) → first_set v ≤ length v
 unfolding first_set
@@ -51,6 +28,22 @@ first_most (b ∷ bs) = go (eqb b 0) (first_most bs)
     go : (c : Bool) → first_set bs ≤ length bs → pick c (suc (first_set bs)) 0 ≤ suc (length bs)
     go true h = omega arith
     go false h = omega arith
+
+first_is : (v : List ℕ) → position_or_len (λ b. not (eqb b 0)) v ≡ first_set v
+unfolding first_set
+first_is [] = refl
+first_is (b ∷ bs) = go (eqb b 0) (first_is bs)
+  where
+    go : (c : Bool) → position_or_len (λ b'. not (eqb b' 0)) bs ≡ first_set bs → pick (not (not c)) (1 + position_or_len (λ b'. not (eqb b' 0)) bs) 0 ≡ pick c (suc (first_set bs)) 0
+    go true e = omega arith
+    go false e = refl
+
+pub lowest_first : (v : List ℕ) (r : ℕ) → r ≡ unwrap_or (position (λ b. not (eqb b 0)) v) (length v) → r ≡ first_set v
+lowest_first v r e = e ∙ go (ltb (position_or_len _ v) (length v)) _ _ (λ f. omega (arith, ltb-false (position_or_len (λ b. not (eqb b 0)) v) (length v) f, first_is v, first_most v)) ∙ first_is v
+  where
+    go : (t : Bool) (a b : ℕ) → (t ≡ false → b ≡ a) → unwrap_or (cond t (Some a) None) b ≡ a
+    go true a b f = refl
+    go false a b f = f refl
 
 pub lowest_set : (v : List ℕ) → (number v ≡ 0 → ⊥) → Lowest v
 unfolding first_set number

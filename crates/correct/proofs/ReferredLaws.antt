@@ -1,11 +1,10 @@
 -- The tile's record by the directory is that of the walk. Assumes nothing.
+use Rattle.std.specs.Prelude.{None, Option, Some}
 use Prim.Native.Nat.{ℕ, ◌<◌}
 use mathlib.Core.Path.{◌≡◌, refl, sym, ap, ◌∙◌}
 use mathlib.Core.List.{List}
 use mathlib.Core.Bool.{true}
 use Rattle.wire.proofs.TestLaws.{yes}
-use Rattle.record.specs.declared.Found.{Found}
-use Rattle.record.specs.declared.Found.TheVariants.{At, Nothing}
 use Rattle.record.specs.Chain.{records}
 use Rattle.record.proofs.FindLaws.{of_type}
 use Rattle.geometry.specs.Tiles.{tile_count}
@@ -16,16 +15,16 @@ use Rattle.tile_routes.proofs.WayLaws.{walk_finds, meant_is, directory_finds}
 use Rattle.writable.proofs.OpenLaws.{open_sound}
 use Rattle.correct.specs.Storing.{tile_at, carrying, tile_referred, ReferredIsWalked}
 
-carries_meant : (s : List ℕ) (i x : ℕ) → meant s i ≡ At x → carries s i x ≡ true
+carries_meant : (s : List ℕ) (i x : ℕ) → meant s i ≡ Some x → carries s i x ≡ true
 unfolding carries
 carries_meant s i x e = let m = meant_is s i x e in sym (yes _ ((of_type s 2 m.among).1, (m.index, tt)))
 
 carrying_meant : (s : List ℕ) (i : ℕ) → carrying s i (meant s i) ≡ meant s i
 carrying_meant s i = go (meant s i) refl
   where
-    go : (f : Found) → meant s i ≡ f → carrying s i f ≡ f
-    go Nothing e = refl
-    go (At x) e = rw (carries_meant s i x e)
+    go : (f : Option ℕ) → meant s i ≡ f → carrying s i f ≡ f
+    go None e = refl
+    go (Some x) e = rw (carries_meant s i x e)
 
 pub referred_is : (s : List ℕ) → Sound s → (i : ℕ) → i < tile_count s → tile_referred s i ≡ tile_at s i
 unfolding tile_referred tile_at

@@ -1,12 +1,9 @@
 -- Req 03, Req 05 and Req 11: the calls. A call is one value; what it does to a page in a buffer is one line of a table, and what it answers, what
 -- the buffer holds afterwards and which byte stores it makes are said of every line at once. b is the buffer, n the page's length.
-use Rattle.std.specs.Prelude.{ℕ, ◌<◌, min, List, [], ◌∷◌, Bool, true, false, length, eqb}
+use Rattle.std.specs.Prelude.{ℕ, ◌<◌, min, List, [], ◌∷◌, Bool, true, false, length, eqb, Err, Ok, Result, ⊤}
+use Rattle.answer.specs.declared.Refusal.{Refusal}
 use Rattle.wire.specs.Pick.{pick}
 use Rattle.wire.specs.Bytes.{Bytes}
-use Rattle.answer.specs.declared.Verdict.{Verdict}
-use Rattle.answer.specs.declared.Verdict.TheVariants.{Accepted}
-use Rattle.answer.specs.declared.Laid.{Laid}
-use Rattle.answer.specs.declared.Laid.TheVariants.{Length, Refused}
 use Rattle.answer.specs.Answers.{written}
 use Rattle.stores.specs.Stores.{Write, store_count, stopped}
 use Rattle.correct.specs.Front.{page_in}
@@ -73,7 +70,7 @@ named_then call named j = pick ((kind_of call).names j) true (named j)
 -- what a call is to do to a page in a buffer: what it is judged by; where it is not refused, the page that it makes, how long that is, and
 -- the byte stores that make it, in their order
 pub record Change : Type 0 where
-  pub verdict : Verdict
+  pub verdict : Result ⊤ Refusal
   pub page : List ℕ
   pub long : ℕ
   pub writes : List Write
@@ -89,19 +86,19 @@ line_of (Storing i c) b s =
       long = stored_length s i;
       writes = store_writes b s i c;
     }
-line_of (Removing i) b s = record { verdict = tile_then s i Accepted; page = removed_page s i; long = length s; writes = remove_writes b s i }
+line_of (Removing i) b s = record { verdict = tile_then s i (Ok tt); page = removed_page s i; long = length s; writes = remove_writes b s i }
 line_of (Closing t) b s =
     record { verdict = time_then t (room_left b (closed_length s)); page = closed_page s t; long = closed_length s; writes = close_writes b s t }
 line_of (Squeezing ps) b s =
-    record { verdict = plan_then s ps Accepted; page = squeezed_page s ps; long = planned_end s ps; writes = squeeze_writes b s ps }
+    record { verdict = plan_then s ps (Ok tt); page = squeezed_page s ps; long = planned_end s ps; writes = squeeze_writes b s ps }
 
 -- which page a call is made on, by its role
-unfoldable pub admitted : Role → List ℕ → ℕ → Verdict → Verdict
+unfoldable pub admitted : Role → List ℕ → ℕ → Result ⊤ Refusal → Result ⊤ Refusal
 admitted Opens b n behind = on_accepted_page b n behind
 admitted Works b n behind = on_open_page b n behind
 admitted Closes b n behind = on_open_page b n behind
 
-abbrev pub judged_by : Verdict → Change → Change
+abbrev pub judged_by : Result ⊤ Refusal → Change → Change
 judged_by v c = record { verdict = v; page = c.page; long = c.long; writes = c.writes }
 
 -- what a call does to the first n bytes of b, which are taken to be such a page; and what it does where that is asked first
@@ -112,7 +109,7 @@ unfoldable pub change_of : Call → List ℕ → ℕ → Change
 change_of call b n = judged_by (admitted (kind_of call).role b n (change_on call b n).verdict) (change_on call b n)
 
 -- Req 03, reading 1: the answer is the new length, or the refusal
-unfoldable pub answer_by : Change → Laid
+unfoldable pub answer_by : Change → Result ℕ Refusal
 answer_by c = answered c.verdict c.long
 
 -- "Every refusal changes nothing; bytes behind the page's end stay"
@@ -120,9 +117,9 @@ unfoldable pub out_by : Change → List ℕ → List ℕ
 out_by c b = written (answer_by c) c.page b
 
 -- Req 05, reading 8: nothing is stored before all is judged, so a refused call makes no store
-abbrev pub unless_refused_writes : Laid → List Write → List Write
-unless_refused_writes (Length m) ws = ws
-unless_refused_writes (Refused r) ws = []
+abbrev pub unless_refused_writes : Result ℕ Refusal → List Write → List Write
+unless_refused_writes (Ok m) ws = ws
+unless_refused_writes (Err r) ws = []
 
 unfoldable pub stores_by : Change → List Write
 stores_by c = unless_refused_writes (answer_by c) c.writes
@@ -146,7 +143,7 @@ page_of st = page_in st.buffer st.long
 abbrev pub change_in : Call → State → Change
 change_in call st = change_of call st.buffer st.long
 
-abbrev pub answer_of : Call → State → Laid
+abbrev pub answer_of : Call → State → Result ℕ Refusal
 answer_of call st = answer_by (change_in call st)
 
 abbrev pub out_of : Call → State → List ℕ
@@ -156,9 +153,9 @@ abbrev pub stores_of : Call → State → List Write
 stores_of call st = stores_by (change_in call st)
 
 -- the page's length then: the answer, or as it was where the call is refused
-abbrev pub long_then : Laid → ℕ → ℕ
-long_then (Length m) n = m
-long_then (Refused r) n = n
+abbrev pub long_then : Result ℕ Refusal → ℕ → ℕ
+long_then (Ok m) n = m
+long_then (Err r) n = n
 
 unfoldable pub after : Call → State → State
 after call st = record { buffer = out_of call st; long = long_then (answer_of call st) st.long }

@@ -1,17 +1,15 @@
 -- Req 03, removing: "removing an absent tile succeeds and changes nothing". s is the page, i the tile's index.
-use Rattle.std.specs.Prelude.{ℕ, List, ◌++◌, map, Bool, true, false, take}
+use Rattle.std.specs.Prelude.{ℕ, List, ◌++◌, map, Bool, true, false, take, None, Option, Some}
 use Rattle.wire.specs.Pick.{pick}
-use Rattle.record.specs.declared.Found.{Found}
-use Rattle.record.specs.declared.Found.TheVariants.{At, Nothing}
 use Rattle.record.specs.Chain.{header_end, joined}
 use Rattle.pieces.specs.Pieces.{pieces}
 use Rattle.pieces.specs.Edits.{with_reference}
 use Rattle.correct.specs.Storing.{tile_referred, freed_of}
 
 -- the tile has a record
-abbrev pub is_found : Found → Bool
-is_found Nothing = false
-is_found (At x) = true
+abbrev pub is_found : Option ℕ → Bool
+is_found None = false
+is_found (Some x) = true
 
 unfoldable pub is_there : List ℕ → ℕ → Bool
 is_there s i = is_found (tile_referred s i)

@@ -2,14 +2,12 @@
 -- first. A new record, its reserved fields and padding zero, takes the start of the lowest free record of its length or at least 16
 -- more, else the end". s is the page, i the tile's index, c its cell bytes: all elements in order, no lengths, no padding (Req 03,
 -- reading 14).
-use Rattle.std.specs.Prelude.{ℕ, zero, suc, ◌+◌, ◌<◌, max, ◌≡◌, List, ◌++◌, map, Bool, true, false, length, take, eqb}
+use Rattle.std.specs.Prelude.{ℕ, zero, suc, ◌+◌, ◌<◌, max, ◌≡◌, List, ◌++◌, map, Bool, true, false, length, take, eqb, None, Option, Some}
 use Rattle.wire.specs.Pick.{pick}
 use Rattle.wire.specs.Tests.{all_below, sum_below}
 use Rattle.wire.specs.Bytes.{part, put}
 use Rattle.wire.specs.Lists.{below}
 use Rattle.record.specs.Record.{content_at}
-use Rattle.record.specs.declared.Found.{Found}
-use Rattle.record.specs.declared.Found.TheVariants.{At, Nothing}
 use Rattle.record.specs.Chain.{header_end, joined}
 use Rattle.header.specs.Fields.{checksum_enabled, element_count}
 use Rattle.geometry.specs.Tiles.{tile_count}
@@ -23,16 +21,16 @@ use Rattle.pieces.specs.Edits.{place_for, placed, resealed, with_reference}
 use Rattle.writable.specs.Writable.{open_for_writing}
 
 -- the tile's record; a page that is open for writing has one at most
-unfoldable pub tile_at : List ℕ → ℕ → Found
+unfoldable pub tile_at : List ℕ → ℕ → Option ℕ
 tile_at s i = walked_to s (header_end s) i
 
 -- the same by the tile directory, as storing and removing find it: what the reference gives, if that is a tile record with the index. On a
 -- page that is open for writing it is the record that the walk finds, on other bytes it may be none
-abbrev pub carrying : List ℕ → ℕ → Found → Found
-carrying s i Nothing = Nothing
-carrying s i (At x) = pick (carries s i x) (At x) Nothing
+abbrev pub carrying : List ℕ → ℕ → Option ℕ → Option ℕ
+carrying s i None = None
+carrying s i (Some x) = pick (carries s i x) (Some x) None
 
-unfoldable pub tile_referred : List ℕ → ℕ → Found
+unfoldable pub tile_referred : List ℕ → ℕ → Option ℕ
 tile_referred s i = carrying s i (referred_to s (tile_directory_at s) i)
 
 abbrev pub ReferredIsWalked : Type 0
@@ -43,9 +41,9 @@ unfoldable pub is_plain : List ℕ → ℕ → Bool
 is_plain s x = all_below (element_count s) (λ e. eqb (section_length s x e) (element_bytes s e))
 
 -- Req 03, reading 10: the tile is stored over where it has a record and that one is plain
-abbrev pub plain_in : List ℕ → Found → Bool
-plain_in s Nothing = false
-plain_in s (At x) = is_plain s x
+abbrev pub plain_in : List ℕ → Option ℕ → Bool
+plain_in s None = false
+plain_in s (Some x) = is_plain s x
 
 unfoldable pub stored_over : List ℕ → ℕ → Bool
 stored_over s i = plain_in s (tile_referred s i)

@@ -1,11 +1,9 @@
 -- Req 05: the byte stores of each call, in their order. d is the buffer, s the page in it. Where a value depends on what was written
 -- before, as a checksum over the buffer's own bytes does, the list is `xs ++ more (run xs d)`.
 -- They are said of any bytes. That they make the page that the call is to make, where it is not refused, is a law.
-use Rattle.std.specs.Prelude.{ℕ, ◌+◌, ◌-◌, List, [], ◌++◌, Bool, false, not, length}
+use Rattle.std.specs.Prelude.{ℕ, ◌+◌, ◌-◌, List, [], ◌++◌, Bool, false, not, length, None, Option, Some}
 use Rattle.wire.specs.Pick.{pick}
 use Rattle.wire.specs.Bytes.{part, bytes_of}
-use Rattle.record.specs.declared.Found.{Found}
-use Rattle.record.specs.declared.Found.TheVariants.{At, Nothing}
 use Rattle.record.specs.Record.{length_at, content_at}
 use Rattle.record.specs.Chain.{header_end, records, joined}
 use Rattle.header.specs.Fields.{checksum_enabled, metadata_reference, tile_directory_reference}
@@ -58,9 +56,9 @@ new_writes room s i c =
     ++ rest_writes room (checksum_enabled s) (stored_at s i + plain_tile_length s) (room_for (plain_tile_length s) (freed_of s i) - plain_tile_length s)
 
 -- storing over the plain record at x
-abbrev pub over_found : List ℕ → List ℕ → List ℕ → Found → List Write
-over_found d s c Nothing = []
-over_found d s c (At x) = over_writes (checksum_enabled s) x (length_at s x) (element_bytes s) (entries_read s) c d
+abbrev pub over_found : List ℕ → List ℕ → List ℕ → Option ℕ → List Write
+over_found d s c None = []
+over_found d s c (Some x) = over_writes (checksum_enabled s) x (length_at s x) (element_bytes s) (entries_read s) c d
 
 unfoldable pub store_writes : List ℕ → List ℕ → ℕ → List ℕ → List Write
 store_writes d s i c =

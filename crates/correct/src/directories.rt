@@ -46,11 +46,9 @@ fn put_references_cut(out: &mut [u8], n: usize, at: usize, count: usize, k: usiz
     ensures holds { out.new ≡ stopped k (one_write at (references_of (compact_of (page_in out.old n)) count)) out.old }
 {
     let mut left = k;
-    let mut i = 0;
-    while i < count {
+    for i in 0..count {
         let v = compact_of(wire::part_of(out, 0, n), i as u32);
         left = stores::put_u32_cut(out, at + 4 * i, v, left);
-        i += 1;
     }
     left
 }

@@ -1,6 +1,7 @@
 // The fields of the header put into a lent buffer, in Req 05's order: opening's first store sets a byte of the opened time that is not
 // zero, closing's last store clears it.
-ghost use Rattle.std.specs.Prelude.{◌≡◌, ◌-◌, ◌≤◌, length};
+ghost use Rattle.std.specs.Prelude.{◌≡◌, ◌-◌, ◌≤◌, length, not, eqb};
+ghost use Rattle.std.specs.List.{position};
 ghost use Rattle.wire.specs.Bytes.{part, put, zeros};
 ghost use Rattle.written_records.specs.Pieces.{checksum_for};
 ghost use Rattle.stores.specs.Stores.{store_count, stopped};
@@ -11,19 +12,19 @@ use stores;
 use wire::writing;
 use written_records::pieces as parts;
 
-// The number of the lowest byte that is not zero, as many as there are where all are.
+// The number of the lowest byte that is not zero, if one is not.
+fn lowest_nonzero(bytes: &[u8]) -> Option<usize>
+    ensures { result ≡ position (λ b. not (eqb b 0)) bytes.now }
+{
+    bytes.iter().position(|b| *b != 0)
+}
+
+// The same, as many as there are where all are.
 pub fn first_set(bytes: &[u8]) -> usize
     ensures is { result ≡ first_set bytes.now }
     ensures small { result ≤ length bytes.now }
 {
-    let mut i = 0;
-    while i < bytes.len() {
-        if bytes[i] != 0 {
-            return i;
-        }
-        i += 1;
-    }
-    i
+    lowest_nonzero(bytes).unwrap_or(bytes.len())
 }
 
 // Bytes at a position, byte number p of them first.

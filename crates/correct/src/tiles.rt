@@ -44,13 +44,11 @@ fn sections_length(sizes: &[u32], m: usize, cells: &[u8]) -> usize
 {
     let mut sum = 0;
     let mut from = 0;
-    let mut e = 0;
-    while e < m {
+    for e in 0..m {
         let u = wire::number_in(sizes, e) as usize;
         let n = wire::part_of(cells, from, u).len();
         sum += stored_length(n);
         from += u;
-        e += 1;
     }
     sum
 }
@@ -71,14 +69,12 @@ fn put_sections_cut(
     let mut left = k;
     let mut p = at;
     let mut from = 0;
-    let mut e = 0;
-    while e < m {
+    for e in 0..m {
         let u = wire::number_in(sizes, e) as usize;
         let bytes = wire::part_of(cells, from, u);
         left = put_section_cut(out, p, bytes, left);
         p += stored_length(bytes.len());
         from += u;
-        e += 1;
     }
     left
 }
@@ -131,13 +127,11 @@ fn put_cells_cut(out: &mut [u8], x: usize, sizes: &[u32], m: usize, cells: &[u8]
     let mut left = k;
     let mut p = x + 16;
     let mut from = 0;
-    let mut e = 0;
-    while e < m {
+    for e in 0..m {
         let u = wire::number_in(sizes, e) as usize;
         left = stores::put_cut(out, p, wire::part_of(cells, from, u), left);
         p += stored_length(u);
         from += u;
-        e += 1;
     }
     left
 }

@@ -1,4 +1,5 @@
 -- Req 03: how the cells of a corrected page read, by the map. Assumes nothing.
+use Rattle.std.specs.Prelude.{Err, None}
 use Prim.Native.Nat.{ℕ, ◌+◌, ◌≤◌, ◌<◌}
 use native.Mathlib.Omega.{arith}
 use mathlib.Core.Logic.{⊎_elim, by_cases}
@@ -10,7 +11,6 @@ use lib.ListN.{length, get_or}
 use Rattle.wire.specs.Bytes.{byte_at, number_at, part}
 use Rattle.wire.proofs.TestLaws.{fails}
 use Rattle.wire.proofs.ByteLaws.{part_whole}
-use Rattle.record.specs.declared.Found.TheVariants.{Nothing}
 use Rattle.record.specs.Chain.{records}
 use Rattle.header.specs.Fields.{element_count}
 use Rattle.header.specs.Element.{element, cell_size, entries_read}
@@ -117,7 +117,7 @@ module _ (s t : List ℕ) (o : Sound s) (q : Sound t) (j : SameJudged s t) (row 
       offset_within s row column e (omega (arith, r.sides.tile_rows_lem.0)) (omega (arith, r.sides.tile_columns_lem.0))
 
   -- a tile that is not stored
-  filled : (ci : ℕ) → tile_at t (cell_tile s row column) ≡ Nothing → meaning t ci row column e ≡ fill_of s (location_of s row column) e
+  filled : (ci : ℕ) → tile_at t (cell_tile s row column) ≡ None → meaning t ci row column e ≡ fill_of s (location_of s row column) e
   unfolding fill_of
   filled ci h = meant_too ci ∙ ap (cell_of t ci row column e) h ∙ rw (← element_too, ← location_too) refl
 
@@ -166,7 +166,7 @@ module _ (s t : List ℕ) (o : Sound s) (q : Sound t) (j : SameJudged s t) (row 
 
 -- outside the grid
 
-outside_is : (t : List ℕ) (ci row column e : ℕ) → in_grid t row column e ≡ false → meaning t ci row column e ≡ cell.Refused refusal.OutsideGrid
+outside_is : (t : List ℕ) (ci row column e : ℕ) → in_grid t row column e ≡ false → meaning t ci row column e ≡ Err refusal.OutsideGrid
 unfolding meaning cell_by
 outside_is t ci row column e h = rw h
 

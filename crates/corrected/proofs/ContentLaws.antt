@@ -1,4 +1,5 @@
 -- Req 03: the contents of a corrected page's elements, by the map. Assumes nothing.
+use Rattle.std.specs.Prelude.{Err, None, Ok, Option, Some}
 use Prim.Native.Nat.{ℕ, zero, suc, ◌+◌, ◌≤◌, ◌<◌}
 use native.Mathlib.Omega.{arith}
 use mathlib.Core.Path.{◌≡◌, refl, sym, ◌∙◌, ap}
@@ -13,8 +14,6 @@ use Rattle.wire.proofs.TestLaws.{means, not_both, below_each}
 use borrow.Author.Tests.{eqb-true, eqb-false, leb-true}
 use Rattle.wire.proofs.ByteLaws.{part_length, part_whole}
 use Rattle.wire.proofs.ListLaws.{below_at}
-use Rattle.record.specs.declared.Found.{Found}
-use Rattle.record.specs.declared.Found.TheVariants.{At, Nothing}
 use Rattle.record.specs.Chain.{header_end, records}
 use Rattle.record.proofs.ChainLaws.{whole_extent}
 use Rattle.record.proofs.FindLaws.{of_type}
@@ -24,7 +23,6 @@ use Rattle.geometry.specs.declared.Packing.TheVariants.{Uncompressed, Compressed
 use Rattle.check_records.specs.TileBody.{not_fault, section_packing, section_right, tile_right}
 use Rattle.bodies.specs.TileRecord.{section_length, element_content_at}
 use Rattle.answer.specs.declared.Refusal.TheVariants as refusal
-use Rattle.answer.specs.declared.Content.TheVariants as content
 use Rattle.check_header.specs.Judged.{SameJudged}
 use Rattle.page_check.specs.Accepted.{Sound}
 use Rattle.page_check.proofs.GivenLaws.{sound_tile}
@@ -86,7 +84,7 @@ pub record Content (s : List ℕ) (x e : ℕ) : Type 0 where
   pub is : get_or (contents_in s x) e [] ≡ part s (element_content_at s x e) (section_length s x e)
   pub long : length (get_or (contents_in s x) e []) ≡ section_length s x e
 
-pub content_of_lem : (s : List ℕ) → Sound s → (i x e : ℕ) → tile_at s i ≡ At x → e < element_count s → Content s x e
+pub content_of_lem : (s : List ℕ) → Sound s → (i x e : ℕ) → tile_at s i ≡ Some x → e < element_count s → Content s x e
 unfolding tile_at contents_in tile_right
 content_of_lem s o i x e f h =
     let m = meant_is s i x (sym (walk_finds s i) ∙ f) in
@@ -112,25 +110,25 @@ few_in s o = count_within s (length s) o.headed.ceilings
 module _ (t : List ℕ) (tile e : ℕ) where
   pub record Stands (c : List ℕ) : Type 0 where
     pub start : ℕ
-    pub found : tile_at t tile ≡ At start
+    pub found : tile_at t tile ≡ Some start
     pub content : Content t start e
     pub is : c ≡ get_or (contents_in t start) e []
 
-  pub absent : e < element_count t → tiles_of t tile ≡ [] → tile_at t tile ≡ Nothing
+  pub absent : e < element_count t → tiles_of t tile ≡ [] → tile_at t tile ≡ None
   unfolding tiles_of
   absent l h = go (tile_at t tile) refl h
     where
-      go : (f : Found) → tile_at t tile ≡ f → contents_of t f ≡ [] → tile_at t tile ≡ Nothing
-      go Nothing i z = i
-      go (At x) i z = absurd (contents_some t x (omega arith) z)
+      go : (f : Option ℕ) → tile_at t tile ≡ f → contents_of t f ≡ [] → tile_at t tile ≡ None
+      go None i z = i
+      go (Some x) i z = absurd (contents_some t x (omega arith) z)
 
 pub stands : (t : List ℕ) → Sound t → (tile e : ℕ) → e < element_count t → (c : List ℕ) → c ≡ get_or (tiles_of t tile) e [] → (tiles_of t tile ≡ [] → ⊥) → Stands t tile e c
 unfolding tiles_of
 stands t q tile e l c f h = go (tile_at t tile) refl f h
   where
-    go : (w : Found) → tile_at t tile ≡ w → c ≡ get_or (contents_of t w) e [] → (contents_of t w ≡ [] → ⊥) → Stands t tile e c
-    go Nothing i z y = absurd (y refl)
-    go (At x) i z y = record { start = x; found = i; content = content_of_lem t q tile x e i l; is = z }
+    go : (w : Option ℕ) → tile_at t tile ≡ w → c ≡ get_or (contents_of t w) e [] → (contents_of t w ≡ [] → ⊥) → Stands t tile e c
+    go None i z y = absurd (y refl)
+    go (Some x) i z y = record { start = x; found = i; content = content_of_lem t q tile x e i l; is = z }
 
 -- an element's content, by a tile's record
 
@@ -138,7 +136,7 @@ content_by_lem : (t : List ℕ) (tile e : ℕ) → in_tiles t tile e ≡ true �
 unfolding content_meaning tile_by tile_at
 content_by_lem t tile e g = rw (g, walk_finds t tile)
 
-outside_content : (t : List ℕ) (tile e : ℕ) → in_tiles t tile e ≡ false → content_meaning t tile e ≡ content.Refused refusal.OutsideGrid
+outside_content : (t : List ℕ) (tile e : ℕ) → in_tiles t tile e ≡ false → content_meaning t tile e ≡ Err refusal.OutsideGrid
 unfolding content_meaning tile_by
 outside_content t tile e g = rw g
 
@@ -177,11 +175,11 @@ module _ (s t : List ℕ) (o : Sound s) (q : Sound t) (j : SameJudged s t) (tile
       said : content_meaning t tile e ≡ content_in t x e
       said = by_record ∙ ap (content_of t e) w.found
 
-      packed_said : is_packed s e (length c) ≡ true → content_meaning t tile e ≡ content.Refused (refusal.Compressed x)
+      packed_said : is_packed s e (length c) ≡ true → content_meaning t tile e ≡ Err (refusal.Compressed x)
       unfolding content_in
       packed_said f = said ∙ rw (packed_same true f)
 
-      plain_said : is_packed s e (length c) ≡ false → content_meaning t tile e ≡ content.Present (element_content_at t x e) (length c)
+      plain_said : is_packed s e (length c) ≡ false → content_meaning t tile e ≡ Ok (Some (record { start = element_content_at t x e; length = length c }))
       unfolding content_in
       plain_said f =
           let k : element_bytes t e ≡ length c = omega (arith, long_is, w.content.most_bytes, whole_least t x e (packed_same false f)) in

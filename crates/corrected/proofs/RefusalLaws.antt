@@ -1,4 +1,5 @@
 -- Req 03: what a call answers, exactly. Assumes nothing.
+use Rattle.std.specs.Prelude.{Err, Ok, Result, ⊤}
 use Prim.Native.Nat.{ℕ, ◌+◌, ◌*◌, ◌≤◌, ◌<◌, max}
 use native.Mathlib.Omega.{arith}
 use native.Mathlib.Decide.{dec_le}
@@ -13,9 +14,6 @@ use Rattle.wire.proofs.TestLaws.{means, yes, no}
 use Rattle.answer.proofs.VerdictLaws.{refused_not, refused_is}
 use Rattle.answer.specs.declared.Refusal.{Refusal}
 use Rattle.answer.specs.declared.Refusal.TheVariants.{Ceiling, OutsideGrid, Input, Room}
-use Rattle.answer.specs.declared.Verdict.{Verdict}
-use Rattle.answer.specs.declared.Verdict.TheVariants as verdict
-use Rattle.answer.specs.declared.Laid.TheVariants.{Length, Refused}
 use Rattle.answer.specs.Refusals.{refusal_number, gate, unless_refused}
 use Rattle.record.specs.Chain.{header_end, joined, records_of}
 use Rattle.geometry.specs.Tiles.{tile_count}
@@ -53,23 +51,23 @@ use Rattle.corrected.proofs.PlacingLaws.{none_takes_last, lowest_fit, lowest_ins
 
 -- an answer by its verdict
 
-refused_by_lem : (call : Call) (b : List ℕ) (n : ℕ) (r : Refusal) → (change_of call b n).verdict ≡ verdict.Refused r → answer_in call b n ≡ Refused r
+refused_by_lem : (call : Call) (b : List ℕ) (n : ℕ) (r : Refusal) → (change_of call b n).verdict ≡ Err r → answer_in call b n ≡ Err r
 unfolding answer_by answered unless_refused
 refused_by_lem call b n r e = rw e
 
-answer_by_lem : (call : Call) (b : List ℕ) (n : ℕ) {v : Verdict} {k : ℕ} → (change_of call b n).verdict ≡ v → (change_of call b n).long ≡ k → answer_in call b n ≡ answered v k
+answer_by_lem : (call : Call) (b : List ℕ) (n : ℕ) {v : Result ⊤ Refusal} {k : ℕ} → (change_of call b n).verdict ≡ v → (change_of call b n).long ≡ k → answer_in call b n ≡ answered v k
 unfolding answer_by
 answer_by_lem call b n e f = ap₂ answered e f
 
 -- the page is asked first
 
-unfit_refused : (role : Role) (b : List ℕ) (n : ℕ) (r : Refusal) (v : Verdict) → n ≤ length b → Unfit role (page_in b n) r → admitted role b n v ≡ verdict.Refused r
+unfit_refused : (role : Role) (b : List ℕ) (n : ℕ) (r : Refusal) (v : Result ⊤ Refusal) → n ≤ length b → Unfit role (page_in b n) r → admitted role b n v ≡ Err r
 unfolding admitted on_accepted_page on_open_page on_page gate unless_refused
 unfit_refused Role.Opens b n r v h u = rw (← yes ((n ≤? length b) ∷ []) (h, tt), u)
 unfit_refused Role.Works b n r v h u = rw (← yes ((n ≤? length b) ∷ []) (h, tt), u.0, u.1)
 unfit_refused Role.Closes b n r v h u = rw (← yes ((n ≤? length b) ∷ []) (h, tt), u.0, u.1)
 
-past_refused : (role : Role) (b : List ℕ) (n : ℕ) (v : Verdict) → length b < n → admitted role b n v ≡ verdict.Refused Input
+past_refused : (role : Role) (b : List ℕ) (n : ℕ) (v : Result ⊤ Refusal) → length b < n → admitted role b n v ≡ Err Input
 unfolding admitted on_accepted_page on_open_page on_page
 past_refused Role.Opens b n v h = sym (gate_no _ Input _ (λ p. omega (arith, p.0)))
 past_refused Role.Works b n v h = sym (gate_no _ Input _ (λ p. omega (arith, p.0)))
@@ -100,25 +98,25 @@ small_page b n h o = omega (arith, (means _ o.headed.ceilings).0, page_long b n 
 module _
     (call : Call) (b : List ℕ) (n k m : ℕ) (More : Type 0) (h : n ≤ length b) (small : n ≤ most_file_bytes)
     (answer_is : answer_in call b n ≡ answered (room_left b k) k) (longer : More → k ≡ n + m) (either : k ≡ n ⊎ More) where
-  refused_of : (r : Refusal) → answer_in call b n ≡ Refused r → room_left b k ≡ verdict.Refused r
+  refused_of : (r : Refusal) → answer_in call b n ≡ Err r → room_left b k ≡ Err r
   refused_of r e = answer_refused (room_left b k) k r (sym answer_is ∙ e)
 
-  refused_to : (r : Refusal) → verdict.Refused r ≡ room_left b k → answer_in call b n ≡ Refused r
+  refused_to : (r : Refusal) → Err r ≡ room_left b k → answer_in call b n ≡ Err r
   unfolding answered unless_refused
   refused_to r e = answer_is ∙ rw (← e)
 
-  done_to : verdict.Accepted ≡ room_left b k → answer_in call b n ≡ Length k
+  done_to : Ok tt ≡ room_left b k → answer_in call b n ≡ Ok k
   unfolding answered unless_refused
   done_to e = answer_is ∙ rw (← e)
 
-  fine : k ≡ n → verdict.Accepted ≡ room_left b k
+  fine : k ≡ n → Ok tt ≡ room_left b k
   fine e = room_enough b k (omega arith) (omega arith)
 
   -- of a refusal: there is more
-  more_there : (r : Refusal) → answer_in call b n ≡ Refused r → More
+  more_there : (r : Refusal) → answer_in call b n ≡ Err r → More
   more_there r e = ⊎_elim (λ y. refused_not (sym (fine y ∙ refused_of r e))) (λ w. w) either
 
-  which : (r : Refusal) → answer_in call b n ≡ Refused r → ((r ≡ Room) × (length b < n + m)) ⊎ ((r ≡ Ceiling) × ((n + m ≤ length b) × (most_file_bytes < n + m)))
+  which : (r : Refusal) → answer_in call b n ≡ Err r → ((r ≡ Room) × (length b < n + m)) ⊎ ((r ≡ Ceiling) × ((n + m ≤ length b) × (most_file_bytes < n + m)))
   which r e =
       let a : k ≡ n + m = longer (more_there r e) in
       let w = refused_of r e in
@@ -138,8 +136,8 @@ module _
         room_if = λ w y. refused_to Room (room_short b k (omega (arith, longer w)));
         ceiling = λ e. (more_there Ceiling e, ⊎_elim (λ w. not_same (sym w.0)) (λ w. w.1) (which Ceiling e));
         ceiling_if = λ w y z. refused_to Ceiling (room_past b k (omega (arith, longer w)) (omega (arith, longer w)));
-        grows = λ w y z. done_to (room_enough b k (omega (arith, longer w)) (omega (arith, longer w))) ∙ ap Length (longer w);
-        stays = λ f. ⊎_elim (λ e. done_to (fine e) ∙ ap Length e) (λ w. absurd (f w)) either;
+        grows = λ w y z. done_to (room_enough b k (omega (arith, longer w)) (omega (arith, longer w))) ∙ ap Ok (longer w);
+        stays = λ f. ⊎_elim (λ e. done_to (fine e) ∙ ap Ok e) (λ w. absurd (f w)) either;
       }
 
 -- storing and removing
@@ -181,15 +179,15 @@ module _ (b : List ℕ) (n i : ℕ) (h : n ≤ length b) (o : open_for_writing (
 
   -- an index past the tiles
 
-  past_tiles : (v : Verdict) → tile_count s ≤ i → tile_then s i v ≡ verdict.Refused OutsideGrid
+  past_tiles : (v : Result ⊤ Refusal) → tile_count s ≤ i → tile_then s i v ≡ Err OutsideGrid
   unfolding tile_then
   past_tiles v k = sym (gate_no _ OutsideGrid v (λ p. omega (arith, p.0)))
 
-  in_tiles_lem : (v : Verdict) → i < tile_count s → tile_then s i v ≡ v
+  in_tiles_lem : (v : Result ⊤ Refusal) → i < tile_count s → tile_then s i v ≡ v
   unfolding tile_then
   in_tiles_lem v k = sym (gate_yes _ OutsideGrid v (omega arith, tt))
 
-  remove_line : (line_of (Call.Removing i) b s).verdict ≡ tile_then s i verdict.Accepted
+  remove_line : (line_of (Call.Removing i) b s).verdict ≡ tile_then s i (Ok tt)
   unfolding line_of
   remove_line = refl
 
@@ -202,11 +200,11 @@ module _ (b : List ℕ) (n i : ℕ) (h : n ≤ length b) (o : open_for_writing (
   removes =
       let v = line_verdict (Call.Removing i) b n h o ∙ remove_line in
       record {
-        outside = λ k. refused_by_lem (Call.Removing i) b n OutsideGrid (v ∙ past_tiles verdict.Accepted k);
+        outside = λ k. refused_by_lem (Call.Removing i) b n OutsideGrid (v ∙ past_tiles (Ok tt) k);
         done =
             λ k.
-            answer_by_lem (Call.Removing i) b n (v ∙ in_tiles_lem verdict.Accepted k) (line_long (Call.Removing i) b n ∙ remove_long)
-            ∙ ap Length (page_long b n h);
+            answer_by_lem (Call.Removing i) b n (v ∙ in_tiles_lem (Ok tt) k) (line_long (Call.Removing i) b n ∙ remove_long)
+            ∙ ap Ok (page_long b n h);
       }
 
   module _ (c : List ℕ) where
@@ -218,11 +216,11 @@ module _ (b : List ℕ) (n i : ℕ) (h : n ≤ length b) (o : open_for_writing (
     unfolding line_of
     store_long = refl
 
-    wrong_count : (v : Verdict) → (length c ≡ tile_bytes s → ⊥) → cells_then s c v ≡ verdict.Refused Input
+    wrong_count : (v : Result ⊤ Refusal) → (length c ≡ tile_bytes s → ⊥) → cells_then s c v ≡ Err Input
     unfolding cells_then
     wrong_count v f = sym (gate_no _ Input v (λ p. f p.0))
 
-    right_count : (v : Verdict) → length c ≡ tile_bytes s → cells_then s c v ≡ v
+    right_count : (v : Result ⊤ Refusal) → length c ≡ tile_bytes s → cells_then s c v ≡ v
     unfolding cells_then
     right_count v e = sym (gate_yes _ Input v (e, tt))
 
@@ -250,7 +248,7 @@ module _ (b : List ℕ) (n : ℕ) (ps : List ℕ) (h : n ≤ length b) (o : open
   abbrev Good : Type 0
   Good = GoodPlan (page_in b n) (header_end (page_in b n)) (kept_starts (page_in b n)) ps
 
-  squeeze_line : (line_of (Call.Squeezing ps) b (page_in b n)).verdict ≡ plan_then (page_in b n) ps verdict.Accepted
+  squeeze_line : (line_of (Call.Squeezing ps) b (page_in b n)).verdict ≡ plan_then (page_in b n) ps (Ok tt)
   unfolding line_of
   squeeze_line = refl
 
@@ -258,15 +256,15 @@ module _ (b : List ℕ) (n : ℕ) (ps : List ℕ) (h : n ≤ length b) (o : open
   unfolding line_of
   squeeze_long = refl
 
-  wrong_plan : (Good → ⊥) → plan_then (page_in b n) ps verdict.Accepted ≡ verdict.Refused Input
+  wrong_plan : (Good → ⊥) → plan_then (page_in b n) ps (Ok tt) ≡ Err Input
   unfolding plan_then gate
   wrong_plan f = go (plan_right (page_in b n) ps) refl
     where
-      go : (c : Bool) → plan_right (page_in b n) ps ≡ c → gate c Input verdict.Accepted ≡ verdict.Refused Input
+      go : (c : Bool) → plan_right (page_in b n) ps ≡ c → gate c Input (Ok tt) ≡ Err Input
       go true i = absurd (f ((plan_exactly (page_in b n) ps).0 i))
       go false i = refl
 
-  right_plan : Good → plan_then (page_in b n) ps verdict.Accepted ≡ verdict.Accepted
+  right_plan : Good → plan_then (page_in b n) ps (Ok tt) ≡ Ok tt
   unfolding plan_then gate
   right_plan g = rw ((plan_exactly (page_in b n) ps).1 g)
 
@@ -284,11 +282,11 @@ squeeze_refused b n ps h o = squeezes b n ps h o
 
 -- opening and closing: a time, and room for one record behind the page
 
-no_time : (t : ℕ) (v : Verdict) → t ≡ 0 → time_then t v ≡ verdict.Refused Input
+no_time : (t : ℕ) (v : Result ⊤ Refusal) → t ≡ 0 → time_then t v ≡ Err Input
 unfolding time_then
 no_time t v e = sym (gate_no _ Input v (λ p. p.0 e))
 
-some_time : (t : ℕ) (v : Verdict) → (t ≡ 0 → ⊥) → time_then t v ≡ v
+some_time : (t : ℕ) (v : Result ⊤ Refusal) → (t ≡ 0 → ⊥) → time_then t v ≡ v
 unfolding time_then
 some_time t v f = sym (gate_yes _ Input v (f, tt))
 
@@ -368,7 +366,7 @@ module _ (b : List ℕ) (n t : ℕ) (h : n ≤ length b) where
   unfolding line_of
   close_long = refl
 
-  opens : check page ≡ verdict.Accepted → TimedExactly (Call.Opening t) t b n (directory_full page ≡ false) directory
+  opens : check page ≡ Ok tt → TimedExactly (Call.Opening t) t b n (directory_full page ≡ false) directory
   opens a =
       timed (Call.Opening t) t b n (opened_length page) directory (directory_full page ≡ false) h a (accepted_sound page a) open_line open_long opened_longer opened_either
 

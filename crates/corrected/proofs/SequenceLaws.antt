@@ -1,4 +1,6 @@
 -- Req 03: any sequence of calls on a page that is accepted or open for writing. Assumes nothing.
+use Rattle.std.specs.Prelude.{Err, Ok, Result}
+use Rattle.answer.specs.declared.Refusal.{Refusal}
 use Prim.Native.Nat.{ℕ, ◌+◌, ◌-◌, ◌≤◌, max}
 use native.Mathlib.Omega.{arith}
 use mathlib.Core.Path.{◌≡◌, refl, sym, ◌∙◌, ap}
@@ -12,8 +14,6 @@ use Rattle.wire.specs.Pick.{pick}
 use Rattle.wire.specs.Bytes.{Bytes, Same, part}
 use Rattle.wire.proofs.TestLaws.{not_both}
 use Rattle.wire.proofs.ByteLaws.{same_trans, part_out}
-use Rattle.answer.specs.declared.Laid.{Laid}
-use Rattle.answer.specs.declared.Laid.TheVariants.{Length, Refused}
 use Rattle.record.specs.Chain.{records}
 use Rattle.page_check.specs.Accepted.{Sound}
 use Rattle.page_check.proofs.AcceptedLaws.{accepted_sound}
@@ -141,11 +141,11 @@ module _ (s b : List ℕ) (first : Sound s) where
     one_call = record { holds = go (answer_of call st) refl; bytes = after_bytes call st k.bytes g }
       where
         go :
-            (a : Laid) → answer_of call st ≡ a →
+            (a : Result ℕ Refusal) → answer_of call st ≡ a →
             Holds s b (after call st) (if_done (answer_of call st) (named_then call named) named) (if_done (answer_of call st) (map_then s call tiles) tiles)
             (max top (after call st).long)
-        go (Length m) q = rw q (made m (stepped call st m k.bytes g q))
-        go (Refused r) q =
+        go (Ok m) q = rw q (made m (stepped call st m k.bytes g q))
+        go (Err r) q =
             let e : max top st.long ≡ top = omega (arith, k.holds.reached) in
             rw (q, refused_leaves call st r q, e) k.holds
 
@@ -153,8 +153,8 @@ module _ (s b : List ℕ) (first : Sound s) where
     one_stays : moves call ≡ false → Stays s b st named → Stays s b (after call st) (if_done (answer_of call st) (named_then call named) named)
     one_stays z h = go (answer_of call st) refl
       where
-        go : (a : Laid) → answer_of call st ≡ a → Stays s b (after call st) (if_done (answer_of call st) (named_then call named) named)
-        go (Length m) q =
+        go : (a : Result ℕ Refusal) → answer_of call st ≡ a → Stays s b (after call st) (if_done (answer_of call st) (named_then call named) named)
+        go (Ok m) q =
             let w = stepped call st m k.bytes g q in
             let d = w.done in
             let l = d.makes.long ∙ w.long in
@@ -168,7 +168,7 @@ module _ (s b : List ℕ) (first : Sound s) where
               grown = omega (arith, h.grown);
               behind = rw (long, buffer) (put_behind page st.buffer m l i m (omega arith) ∙ drop_more b st.buffer st.long m j h.behind);
             }
-        go (Refused r) q = rw (q, refused_leaves call st r q) h
+        go (Err r) q = rw (q, refused_leaves call st r q) h
 
   all_calls :
       (calls : List Call) → AllGiven calls → (st : State) {named : ℕ → Bool} {tiles : ℕ → List (List ℕ)} {top : ℕ} → Kept st named tiles top →
@@ -250,7 +250,7 @@ module _ (b : List ℕ) (n : ℕ) (v : Bytes b) (h : AcceptedOrOpen (page_in b n
     ended : Kept s b sound (after_all calls start) (named_after_all calls start (λ j. false)) (map_after_all s calls start (tiles_of s)) (top_after_all calls start n)
     ended = all_calls s b sound calls g start started
 
-    left_by : (call : Call) → Given call → (m : ℕ) → answer_of call (after_all calls start) ≡ Length m → Leaves (kind_of call).role (page_of (after call (after_all calls start)))
+    left_by : (call : Call) → Given call → (m : ℕ) → answer_of call (after_all calls start) ≡ Ok m → Leaves (kind_of call).role (page_of (after call (after_all calls start)))
     left_by call c m e = let w = stepped call (after_all calls start) m ended.bytes c e in rw w.page w.done.left
 
 pub sequence : Sequence

@@ -1,11 +1,9 @@
 -- Req 03: "Over any sequence of calls that starts by opening an accepted file, each on what the last left, the tiles are those of a map
 -- from index to bytes, untouched compressed tiles and metadata kept as they are." Refused calls, closings and openings again may stand
 -- anywhere among them (Req 03, reading 19).
-use Rattle.std.specs.Prelude.{ℕ, ◌≤◌, max, ◌≡◌, ◌⊎◌, Bool, true, false, List, [], ◌∷◌, length, drop}
+use Rattle.std.specs.Prelude.{ℕ, ◌≤◌, max, ◌≡◌, ◌⊎◌, Bool, true, false, List, [], ◌∷◌, length, drop, Err, Ok, Result}
+use Rattle.answer.specs.declared.Refusal.{Refusal}
 use Rattle.wire.specs.Bytes.{Bytes}
-use Rattle.answer.specs.declared.Laid.{Laid}
-use Rattle.answer.specs.declared.Laid.TheVariants.{Length, Refused}
-use Rattle.answer.specs.declared.Verdict.TheVariants.{Accepted}
 use Rattle.page_check.specs.Stages.{check}
 use Rattle.writable.specs.Writable.{open_for_writing}
 use Rattle.correct.specs.Front.{page_in}
@@ -15,9 +13,9 @@ use Rattle.squeezed.specs.Squeezed.{stands_before}
 use Rattle.lawful.specs.Lawful.{Leaves}
 
 -- what is new where a call is not refused; a refused one leaves what was
-abbrev pub if_done : {A : Type 0} → Laid → A → A → A
-if_done (Length m) new old = new
-if_done (Refused r) new old = old
+abbrev pub if_done : {A : Type 0} → Result ℕ Refusal → A → A → A
+if_done (Ok m) new old = new
+if_done (Err r) new old = old
 
 -- the map: what each tile holds, an element's content each, none for a tile that is not stored. s is a page with the tile's sizes
 unfoldable pub map_after_all : List ℕ → List Call → State → (ℕ → List (List ℕ)) → ℕ → List (List ℕ)
@@ -49,7 +47,7 @@ pub record OthersStay : Type 0 where
 -- where the calls start, and what they leave: a page that is accepted, or open for writing by whomever (Req 03,
 -- reading 18)
 abbrev pub AcceptedOrOpen : List ℕ → Type 0
-AcceptedOrOpen s = (check s ≡ Accepted) ⊎ (open_for_writing s ≡ true)
+AcceptedOrOpen s = (check s ≡ Ok tt) ⊎ (open_for_writing s ≡ true)
 
 -- what holds of a state that a page s in a buffer b came to by calls that name the tiles `named`, where the map is `tiles` and the page was
 -- no longer than `top`
@@ -90,4 +88,4 @@ abbrev pub StateThen : Type 0
 StateThen =
     (b : List ℕ) (n : ℕ) → Bytes b → AcceptedOrOpen (page_in b n) → (calls : List Call) → AllGiven calls → (call : Call) → Given call →
     let last : State = after_all calls (record { buffer = b; long = n }) in
-    (m : ℕ) → answer_of call last ≡ Length m → Leaves (kind_of call).role (page_of (after call last))
+    (m : ℕ) → answer_of call last ≡ Ok m → Leaves (kind_of call).role (page_of (after call last))

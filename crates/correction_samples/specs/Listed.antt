@@ -1,9 +1,8 @@
 -- Req 03, Req 05 and Req 11, samples on document 01's page of the listing: a 3 by 3 grid with 2 by 2 tiles and one Short, header to 336, tile 2
 -- at 336, tile directory at 368, 424 bytes.
-use Rattle.std.specs.Prelude.{ℕ, ◌≡◌, List, [], ◌∷◌, ◌++◌, map, Bool, true, false, length, drop}
+use Rattle.std.specs.Prelude.{ℕ, ◌≡◌, List, [], ◌∷◌, ◌++◌, map, Bool, true, false, length, drop, Ok}
 use Rattle.wire.specs.Bytes.{u32_at, part, put, zeros}
 use Rattle.header.specs.Fields.{file_space_reference, tile_directory_reference}
-use Rattle.answer.specs.declared.Verdict.TheVariants.{Accepted}
 use Rattle.page_check.specs.Stages.{check}
 use Rattle.sample_page.specs.Page.{file, cells}
 use Rattle.pieces.specs.Pieces.{free_record}
@@ -55,7 +54,7 @@ pub record Sampled : Type 0 where
   -- closing lists it in a directory of 32 bytes behind the page; the file is accepted
   pub closed_long : length (closed_page removed 7) ≡ 456
   pub closed_reference_lem : file_space_reference (closed_page removed 7) ≡ 432
-  pub closed_accepted : check (closed_page removed 7) ≡ Accepted
+  pub closed_accepted : check (closed_page removed 7) ≡ Ok tt
   -- a free record of 32, 48 or 56 bytes takes a record of 32, one of 40 does not
   pub taken : map takes32 (32 ∷ 40 ∷ 48 ∷ 56 ∷ []) ≡ true ∷ false ∷ true ∷ true ∷ []
   -- Req 05: opened with 0x0100 and closed with 7, 20 stores each, opening's first and closing's last at 49; the opening's

@@ -1,6 +1,5 @@
 -- Req 03, samples: what each call makes of a page, byte by byte.
-use Rattle.std.specs.Prelude.{◌≡◌, true, [], ◌∷◌, ◌++◌}
-use Rattle.answer.specs.declared.Verdict.TheVariants.{Accepted}
+use Rattle.std.specs.Prelude.{◌≡◌, true, [], ◌∷◌, ◌++◌, Ok}
 use Rattle.page_check.specs.Stages.{check}
 use Rattle.writable.specs.Writable.{open_for_writing}
 use Rattle.correct.specs.Opening.{opened_page}
@@ -11,7 +10,7 @@ use Rattle.small_pages.specs.Pages.{none, plain_front, no_space, at640, at408, a
 
 pub record MadeSo : Type 0 where
   pub is_open : open_for_writing open_page ≡ true
-  pub is_file : check partial_file ≡ Accepted
+  pub is_file : check partial_file ≡ Ok tt
   -- opening: a directory that is not full is replaced by a compact one at the end; it, the file-space directory and the free record
   -- behind it are one free record then, with nothing but zeros behind its length
   pub opened : opened_page partial_file 9 ≡ plain_front 5 9 no_space at520 ++ cells_tile 2 ++ free 112 ++ directory 0 0 47 0

@@ -1,7 +1,6 @@
 -- Req 08, and Req 03 beside it: a file with two metadata records, and what it says. `score_rule` with ID 2 stands at 456, `Score_rule`
 -- with ID 3 at 496, their directory at 536; tile 0 stands at 368, the tile directory at 400.
-use Rattle.std.specs.Prelude.{ℕ, ◌≡◌, true, List, [], ◌∷◌, ◌++◌}
-use Rattle.answer.specs.declared.Verdict.TheVariants.{Accepted}
+use Rattle.std.specs.Prelude.{ℕ, ◌≡◌, true, List, [], ◌∷◌, ◌++◌, Ok}
 use Rattle.page_check.specs.Stages.{check}
 use Rattle.writable.specs.Writable.{open_for_writing}
 use Rattle.correct.specs.Opening.{opened_page}
@@ -33,7 +32,7 @@ abbrev pub ruled_file : List ℕ
 ruled_file = front_with (eight 32 2) 5 0 no_space at408 ++ cells_tile 0 ++ directory 47 0 0 0 ++ metadata
 
 pub record RuledSo : Type 0 where
-  pub accepted : check ruled_file ≡ Accepted
+  pub accepted : check ruled_file ≡ Ok tt
   pub ids : ids_named ruled_file score_rule ≡ 2 ∷ []
   pub other_case : ids_named ruled_file (rule_name 83) ≡ 3 ∷ []
   pub says : page_says ruled_file ≡ Second

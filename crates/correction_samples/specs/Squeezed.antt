@@ -1,8 +1,7 @@
 -- Req 11, byte by byte: an open page squeezed by three plans, and one with metadata.
-use Rattle.std.specs.Prelude.{ℕ, ◌≡◌, List, [], ◌∷◌, ◌++◌}
+use Rattle.std.specs.Prelude.{ℕ, ◌≡◌, List, [], ◌∷◌, ◌++◌, Err, Ok}
 use Rattle.wire.specs.Bytes.{put}
 use Rattle.answer.specs.declared.Refusal.TheVariants.{Input}
-use Rattle.answer.specs.declared.Laid.TheVariants.{Length, Refused}
 use Rattle.correct.specs.Plan.{tight_plan}
 use Rattle.correct.specs.Squeezing.{squeezed_page}
 use Rattle.correct.specs.Calls.{Call}
@@ -33,10 +32,10 @@ pub record SqueezedSo : Type 0 where
   pub stays :
       squeezed_page open_page (392 ∷ 456 ∷ 512 ∷ [])
       ≡ plain_front 5 9 no_space at520 ++ free 24 ++ junk_padded ++ free 32 ++ packed_tile ++ free 24 ++ directory 50 58 0 0
-  pub answers : answer_in (Call.Squeezing (368 ∷ 400 ∷ 432 ∷ [])) open_page 632 ≡ Length 488
-  pub too_few : answer_in (Call.Squeezing (368 ∷ 400 ∷ [])) open_page 632 ≡ Refused Input
-  pub too_many : answer_in (Call.Squeezing (368 ∷ 400 ∷ 432 ∷ 488 ∷ [])) open_page 632 ≡ Refused Input
-  pub up : answer_in (Call.Squeezing (368 ∷ 400 ∷ 520 ∷ [])) open_page 632 ≡ Refused Input
+  pub answers : answer_in (Call.Squeezing (368 ∷ 400 ∷ 432 ∷ [])) open_page 632 ≡ Ok 488
+  pub too_few : answer_in (Call.Squeezing (368 ∷ 400 ∷ [])) open_page 632 ≡ Err Input
+  pub too_many : answer_in (Call.Squeezing (368 ∷ 400 ∷ 432 ∷ 488 ∷ [])) open_page 632 ≡ Err Input
+  pub up : answer_in (Call.Squeezing (368 ∷ 400 ∷ 520 ∷ [])) open_page 632 ≡ Err Input
   -- entries keep their order, and what no field is for stays
   pub with_metadata :
       squeezed_page (metadata_page (free 16) (eight 208 1) (eight 0 2) (worn_metadata 168 1) (worn_directory 49)) (368 ∷ 400 ∷ 440 ∷ 488 ∷ [])

@@ -1,10 +1,9 @@
 -- Req 03 and Req 05, a sample of calls one behind the other: a file is opened, tile 1 stored, tile 0 removed and the page closed; another
 -- opening stands among them and is refused with 5. They are calls of which the power cut speaks, and the corrected file reads as it
 -- should.
-use Rattle.std.specs.Prelude.{ℕ, ◌≡◌, List, [], ◌∷◌, ◌++◌}
+use Rattle.std.specs.Prelude.{ℕ, ◌≡◌, List, [], ◌∷◌, ◌++◌, Err, None, Ok, Some}
 use Rattle.answer.specs.declared.Refusal.TheVariants.{OutsideGrid}
 use Rattle.answer.specs.declared.Cell.TheVariants as cell
-use Rattle.answer.specs.declared.Content.TheVariants as content
 use Rattle.answer.specs.Values.{value_of}
 use Rattle.cells.specs.Meaning.{meaning, content_meaning}
 use Rattle.correct.specs.Calls.{Call, State, page_of, after_all}
@@ -29,10 +28,10 @@ pub record WholeSample : Type 0 where
   pub cut : Cut start calls 7 520
   pub page : page_of (after_all (and_close calls 7) start) ≡ corrected_file
   -- the cells of tile 1: `a` at 472, `b` at 480; those of tile 0 are fills; no cell is in row 1
-  pub stored_a : (ci : ℕ) → meaning corrected_file ci 0 1 0 ≡ cell.Stored (value_of 3 513) 472 (record { tile = 1; inside = 0 })
-  pub stored_b : (ci : ℕ) → meaning corrected_file ci 0 1 1 ≡ cell.Stored (value_of 0 100992003) 480 (record { tile = 1; inside = 0 })
-  pub fill_a : (ci : ℕ) → meaning corrected_file ci 0 0 0 ≡ cell.Fill (value_of 3 7) (record { tile = 0; inside = 0 })
-  pub fill_b : (ci : ℕ) → meaning corrected_file ci 0 0 1 ≡ cell.Fill (value_of 0 9) (record { tile = 0; inside = 0 })
-  pub outside : (ci : ℕ) → meaning corrected_file ci 1 0 0 ≡ cell.Refused OutsideGrid
-  pub content_b : content_meaning corrected_file 1 1 ≡ content.Present 480 4
-  pub no_content : content_meaning corrected_file 0 1 ≡ content.Absent
+  pub stored_a : (ci : ℕ) → meaning corrected_file ci 0 1 0 ≡ Ok (cell.Stored (value_of 3 513) 472 (record { tile = 1; inside = 0 }))
+  pub stored_b : (ci : ℕ) → meaning corrected_file ci 0 1 1 ≡ Ok (cell.Stored (value_of 0 100992003) 480 (record { tile = 1; inside = 0 }))
+  pub fill_a : (ci : ℕ) → meaning corrected_file ci 0 0 0 ≡ Ok (cell.Fill (value_of 3 7) (record { tile = 0; inside = 0 }))
+  pub fill_b : (ci : ℕ) → meaning corrected_file ci 0 0 1 ≡ Ok (cell.Fill (value_of 0 9) (record { tile = 0; inside = 0 }))
+  pub outside : (ci : ℕ) → meaning corrected_file ci 1 0 0 ≡ Err OutsideGrid
+  pub content_b : content_meaning corrected_file 1 1 ≡ Ok (Some (record { start = 480; length = 4 }))
+  pub no_content : content_meaning corrected_file 0 1 ≡ Ok None

@@ -1,13 +1,16 @@
 -- The loop of the checksum: bytes that are taken together, as one number. Assumes nothing.
-use Prim.Native.Nat.{ℕ, suc, ◌+◌, ◌*◌, ◌≤◌, ◌<◌}
+use Prim.Native.Nat.{ℕ, zero, suc, ◌+◌, ◌*◌, ◌≤◌, ◌<◌}
 use native.Mathlib.Omega.{arith}
 use mathlib.Core.Path.{◌≡◌, refl, sym, ap, ap₂, ◌∙◌}
 use mathlib.Core.List.{List, [], ◌∷◌, ◌++◌}
-use lib.ListN.{length, drop, drop_of_length-le, take-append-drop}
+use Rattle.std.specs.Int.{w64, from_le_bytes}
+use Rattle.std.specs.Simd.{first_chunks}
+use Rattle.wire.proofs.StdLaws.{le_number_8}
+use lib.ListN.{length, get_or, take, drop, drop_of_length-le, take-append-drop}
 use lib.Seq.{drop-drop}
 use lib.Bits.{bit_xor, xor_zero_r}
 use Rattle.wire.specs.Bytes.{Bytes, byte_at, part, number, number_at}
-use Rattle.wire.proofs.ByteLaws.{bytes_tail, bytes_part, part_in, part_length, number_one}
+use Rattle.wire.proofs.ByteLaws.{bytes_tail, bytes_drop, bytes_part, part_in, part_length, number_one}
 use Rattle.crc32c.specs.Crc.{crc_byte, crc_over, crc_of}
 use Rattle.crc32c.specs.inner.Ahead.{over_bits, crc_from}
 use Rattle.crc32c.proofs.Linear.{bits_add, byte_number}
@@ -55,3 +58,34 @@ from_eight c s i v x n e f g w h =
 pub from_all : (c : ℕ) (s : List ℕ) (i : ℕ) → crc_from c s i ≡ crc_over 0xFFFF_FFFF s → length s ≤ i → bit_xor c 0xFFFF_FFFF ≡ crc_of s
 unfolding crc_of crc_from crc_over
 from_all c s i e h = ap (λ (x : ℕ). bit_xor x 0xFFFF_FFFF) (sym (ap (crc_over c) (drop_of_length-le s h)) ∙ e)
+
+-- the i-th eight bytes, and what is behind all eights
+
+chunk : (k : ℕ) (s : List ℕ) (d : List ℕ) (i : ℕ) → i < k → get_or (first_chunks 8 k s) i d ≡ take 8 (drop (8 * i) s)
+chunk zero s d i h = absurd (omega arith)
+chunk (suc k) s d zero h = refl
+chunk (suc k) s d (suc i) h =
+    let e : 8 + 8 * i ≡ 8 * suc i = omega arith in
+    chunk k (drop 8 s) d i (omega arith) ∙ ap (take 8) (drop-drop (8 * i) 8 s ∙ ap (λ (m : ℕ). drop m s) e)
+
+pub from_chunk :
+    (c : ℕ) (s : List ℕ) (f : List (List ℕ)) (k : ℕ) (d : List ℕ) (i u v x : ℕ) → Bytes s → f ≡ first_chunks 8 k s → i < k → 8 * k ≤ length s → u ≡ c →
+    v ≡ from_le_bytes w64 (get_or f i d) → x ≡ over_bits 64 (bit_xor u v) → crc_from x s (8 * (i + 1)) ≡ crc_from c s (8 * i)
+unfolding number_at
+from_chunk c s f k d i u v x w p h l q e g =
+    let at : 8 * i + 8 ≤ length s = omega arith in
+    let b : get_or f i d ≡ part s (8 * i) 8 = ap (λ (t : List (List ℕ)). get_or t i d) p ∙ chunk k s d i h ∙ sym (part_in s (8 * i) 8 at) in
+    from_eight c s (8 * i) v x (8 * (i + 1)) (e ∙ le_number_8 (get_or f i d) (ap length b ∙ part_length s (8 * i) 8 at) ∙ ap number b)
+    (g ∙ ap (λ (y : ℕ). over_bits 64 (bit_xor y v)) q) (omega arith) w at
+
+pub from_rest : (c : ℕ) (s r : List ℕ) (i k y : ℕ) → r ≡ drop (k * 8) s → i ≡ k → crc_from c s (8 * i) ≡ y → crc_from c r 0 ≡ y
+unfolding crc_from
+from_rest c s r i k y p e q = let m : k * 8 ≡ 8 * i = omega arith in ap (crc_over c) (p ∙ ap (λ (n : ℕ). drop n s) m) ∙ q
+
+pub from_byte : (c : ℕ) (s r : List ℕ) (k i b x : ℕ) → Bytes s → r ≡ drop k s → i < length r → b ≡ byte_at r i → x ≡ over_bits 8 (bit_xor c b) → crc_from x r (i + 1) ≡ crc_from c r i
+from_byte c s r k i b x w p h e g =
+    from_one c r i x (i + 1) (g ∙ ap (λ (y : ℕ). over_bits 8 (bit_xor c y)) e) refl (rw p (bytes_drop k w)) h
+
+pub from_done : (c : ℕ) (s r : List ℕ) (i : ℕ) → crc_from c r i ≡ crc_over 0xFFFF_FFFF s → length r ≤ i → bit_xor c 0xFFFF_FFFF ≡ crc_of s
+unfolding crc_of crc_from crc_over
+from_done c s r i e h = ap (λ (x : ℕ). bit_xor x 0xFFFF_FFFF) (sym (ap (crc_over c) (drop_of_length-le r h)) ∙ e)

@@ -1,5 +1,5 @@
 -- The checksum with some bytes read as zero. Assumes nothing.
-use Prim.Native.Nat.{ℕ, ◌+◌, ◌/◌, ◌%◌, ◌-◌, ◌≤◌, ◌<◌}
+use Prim.Native.Nat.{ℕ, ◌+◌, ◌-◌, ◌≤◌, ◌<◌}
 use mathlib.Core.Path.{◌≡◌, sym, ap, ◌∙◌}
 use mathlib.Core.List.{List, ◌∷◌}
 use mathlib.Core.Logic.{inl, inr}
@@ -8,23 +8,12 @@ use native.Mathlib.Numerals.{add-one}
 use lib.ListN.{length, get_or, drop, get_or-replicate}
 use lib.Seq.{drop-cons}
 use lib.Bits.{bit_xor}
-use borrow.Author.Tests.{eq-eqb, ne_eqb}
 use Rattle.wire.specs.Bytes.{byte_at, put, zeros}
 use Rattle.wire.proofs.ByteLaws.{part_out, part_length, part_at_lem, zeros_length}
 use Rattle.wire.proofs.PutLaws.{put_not, put_each_lem, put_outside, length_put}
-use Rattle.crc32c.specs.Crc.{crc_bit, crc_byte, crc_over, crc_of, crc_part, crc_without}
+use Rattle.crc32c.specs.Crc.{crc_byte, crc_over, crc_of, crc_part, crc_without}
 use Rattle.crc32c.specs.inner.Ahead.{crc_from, byte_without, part_without}
 use Rattle.crc32c.proofs.Loop.{from_all}
-
--- a bit
-
-pub bit_odd : (c : ℕ) → c % 2 ≡ 1 → bit_xor (c / 2) 0x82F6_3B78 ≡ crc_bit c
-unfolding crc_bit
-bit_odd c h = rw (eq-eqb (c % 2) 1 h)
-
-pub bit_even : (c : ℕ) → (c % 2 ≡ 1 → ⊥) → c / 2 ≡ crc_bit c
-unfolding crc_bit
-bit_even c h = rw (ne_eqb (c % 2) 1 h)
 
 -- a byte
 

@@ -1,4 +1,6 @@
 -- A run of cells in numbers alone is what is counted over them. Assumes nothing.
+use Rattle.std.specs.Prelude.{Result, Some, None, Option}
+use Rattle.answer.specs.declared.Refusal.{Refusal}
 use Prim.Native.Nat.{ℕ, suc, ◌+◌, ◌%◌, ◌^◌, ◌-◌, ◌≤◌, ◌<◌, min, max}
 use mathlib.Core.Path.{◌≡◌, refl, sym, ap, ◌∙◌}
 use mathlib.Core.Bool.{Bool, true, false, not}
@@ -18,8 +20,6 @@ use Rattle.answer.proofs.SignedLaws as signed
 use Rattle.store.specs.Face.{most_grid_side}
 use Rattle.blocks.specs.Tables.{Inside}
 use Rattle.deeds.specs.declared.Rule.{Rule}
-use Rattle.deeds.specs.declared.Lowest.{Lowest}
-use Rattle.deeds.specs.declared.Lowest.TheVariants.{Score, None}
 use Rattle.deeds.specs.declared.tally.Tally.{Tally}
 use Rattle.deeds.specs.declared.tally.Run.{Run}
 use Rattle.deeds.specs.Deeds.{is_fill, is_stored, minus_one, counts_as_fill, is_scored, score_of, lesser, score_within}
@@ -74,8 +74,8 @@ rank_order a b h k = go (ltb a 32768) refl (ltb b 32768) refl
 below : (n : ℕ) → n ≤ 65536 → (n ≡ 65536 → ⊥) → n < 65536
 below n h f = omega (arith, f)
 
-abbrev score_if : Bool → ℕ → Lowest
-score_if u n = pick u None (Score (to_z w16 (rank_of n)))
+abbrev score_if : Bool → ℕ → Option ℤ
+score_if u n = pick u None (Some (to_z w16 (rank_of n)))
 
 first_lower : (a b : ℕ) → a ≤ b → b ≤ 65536 → score_at a ≡ lesser (score_at a) (score_at b)
 unfolding score_at lesser
@@ -146,8 +146,8 @@ certain_none rule =
 
 -- the score of 16 bits
 
-abbrev bits_score : ℕ → Lowest
-bits_score b = pick (eqb b 65535) None (Score (to_z w16 b))
+abbrev bits_score : ℕ → Option ℤ
+bits_score b = pick (eqb b 65535) None (Some (to_z w16 b))
 
 bits_score_lem : (b : ℕ) → b < 65536 → score_at (low_rank b) ≡ bits_score b
 unfolding score_at low_rank
@@ -172,7 +172,7 @@ module _ (rule : Rule) (m : mag rule.mark < 2 ^ hbits w16) (k : mag rule.scale <
   bits_small (pos n) h = omega arith
   bits_small (negsuc n) h = omega arith
 
-  score_certain : (b : ℕ) → b < 65536 → certain_from rule (rank_of b) (rank_of b) ≡ score_within rule (Score (to_z w16 b))
+  score_certain : (b : ℕ) → b < 65536 → certain_from rule (rank_of b) (rank_of b) ≡ score_within rule (Some (to_z w16 b))
   unfolding certain_from score_within passes
   score_certain b h =
       let p : le_z rule.mark (to_z w16 b) ≡ leb (rank_of (of_z w16 rule.mark)) (rank_of b) =
@@ -185,7 +185,7 @@ module _ (rule : Rule) (m : mag rule.mark < 2 ^ hbits w16) (k : mag rule.scale <
   unfolding low_rank high_rank score_within
   bits_certain b h = go (eqb b 65535)
     where
-      go : (u : Bool) → certain_from rule (pick u 65536 (rank_of b)) (pick u 0 (rank_of b)) ≡ score_within rule (pick u None (Score (to_z w16 b)))
+      go : (u : Bool) → certain_from rule (pick u 65536 (rank_of b)) (pick u 0 (rank_of b)) ≡ score_within rule (pick u None (Some (to_z w16 b)))
       go true = certain_none rule
       go false = score_certain b h
 
@@ -201,10 +201,10 @@ module _ (rule : Rule) (m : mag rule.mark < 2 ^ hbits w16) (k : mag rule.scale <
 
   -- a cell that is stored, and any other
 
-  abbrev scored : Bool → ℕ → Lowest
-  scored u b = pick u (Score (to_z w16 b)) None
+  abbrev scored : Bool → ℕ → Option ℤ
+  scored u b = pick u (Some (to_z w16 b)) None
 
-  stored_tally : (x : Cell) → is_stored x ≡ true → cell_tally rule x ≡ bits_tally (cell_bits x % 65536)
+  stored_tally : (x : Result Cell Refusal) → is_stored x ≡ true → cell_tally rule x ≡ bits_tally (cell_bits x % 65536)
   unfolding cell_tally counts_as_fill minus_one score_of is_scored passes
   stored_tally x e = rw e (go (eqb (cell_bits x % 65536) 65535) (cell_bits x % 65536))
     where
@@ -212,11 +212,11 @@ module _ (rule : Rule) (m : mag rule.mark < 2 ^ hbits w16) (k : mag rule.scale <
           (u : Bool) (b : ℕ) →
           ◌≡◌ {A = Tally}
           (record { fills = pick (both u true) 1 0; certain = score_within rule (scored (not (both u true)) b); lowest = scored (not (both u true)) b })
-          (record { fills = pick u 1 0; certain = score_within rule (pick u None (Score (to_z w16 b))); lowest = pick u None (Score (to_z w16 b)) })
+          (record { fills = pick u 1 0; certain = score_within rule (pick u None (Some (to_z w16 b))); lowest = pick u None (Some (to_z w16 b)) })
       go true b = refl
       go false b = refl
 
-  other_tally : (x : Cell) → is_stored x ≡ false → cell_tally rule x ≡ fill_tally (pick (eqb (cell_kind x) 33) 1 0)
+  other_tally : (x : Result Cell Refusal) → is_stored x ≡ false → cell_tally rule x ≡ fill_tally (pick (eqb (cell_kind x) 33) 1 0)
   unfolding cell_tally counts_as_fill is_fill score_of is_scored score_within passes
   other_tally x e = rw e (go (eqb (cell_kind x) 33))
     where
@@ -224,7 +224,7 @@ module _ (rule : Rule) (m : mag rule.mark < 2 ^ hbits w16) (k : mag rule.scale <
       go true = refl
       go false = refl
 
-  cell_joined : (t : Run) (x : Cell) → t.low ≤ 65536 → run_tally rule (with_cell t x) ≡ join_tally (run_tally rule t) (cell_tally rule x)
+  cell_joined : (t : Run) (x : Result Cell Refusal) → t.low ≤ 65536 → run_tally rule (with_cell t x) ≡ join_tally (run_tally rule t) (cell_tally rule x)
   unfolding with_cell join_tally run_tally
   cell_joined t x l = go (is_stored x) refl
     where
@@ -240,7 +240,7 @@ run_none : (rule : Rule) → run_tally rule no_cells ≡ fill_tally 0
 unfolding run_tally score_at
 run_none rule = tally_same _ _ refl (certain_none rule) refl
 
-cell_rank : (t : Run) (x : Cell) → t.low ≤ 65536 → (with_cell t x).low ≤ 65536
+cell_rank : (t : Run) (x : Result Cell Refusal) → t.low ≤ 65536 → (with_cell t x).low ≤ 65536
 unfolding with_cell with_bits
 cell_rank t x l = go (is_stored x)
   where
@@ -255,13 +255,13 @@ pub record Runs (rule : Rule) (t : Run) (u : Tally) : Type 0 where
 
 -- a run along a row: it begins, a cell more, it ends; and the next cell can be counted
 
-module _ (rule : Rule) (f : ℕ → ℕ → Cell) where
+module _ (rule : Rule) (f : ℕ → ℕ → Result Cell Refusal) where
   pub run_begins : (top bottom left right : ℕ) (t : Run) → t ≡ no_cells → ((r c : ℕ) → Inside top bottom left right r c → ⊥) → Runs rule t (tally_in rule top bottom left right f)
   run_begins top bottom left right t e h =
       record { rank = rw e (omega arith); is = tally_none rule f top bottom left right (run_tally rule t) (ap (run_tally rule) e ∙ run_none rule) h }
 
   pub run_next :
-      (r left right c : ℕ) (t v : Run) (x : Cell) → Runs rule t (tally_in rule r (r + 1) left c f) → x ≡ f r c → v ≡ with_cell t x → left ≤ c → right ≡ c + 1 →
+      (r left right c : ℕ) (t v : Run) (x : Result Cell Refusal) → Runs rule t (tally_in rule r (r + 1) left c f) → x ≡ f r c → v ≡ with_cell t x → left ≤ c → right ≡ c + 1 →
       mag rule.mark < 2 ^ hbits w16 → mag rule.scale < 2 ^ hbits w16 → Runs rule v (tally_in rule r (r + 1) left right f)
   run_next r left right c t v x o q e h n m k =
       record {
@@ -314,7 +314,7 @@ pub bits_more :
 unfolding with_bits
 bits_more t b n r l s h c d e f g = rw (c, e, d, g, f)
 
-module _ (t : Run) (x : Cell) (u : Bool) (p : u ≡ is_stored x) where
+module _ (t : Run) (x : Result Cell Refusal) (u : Bool) (p : u ≡ is_stored x) where
   pub stored_more : (b : ℕ) (v : Run) → u ≡ true → b ≡ cell_bits x → v ≡ with_bits t (b % 65536) → v ≡ with_cell t x
   unfolding with_cell
   stored_more b v e f g = g ∙ rw (← p, e, f)
@@ -329,11 +329,11 @@ module _ (n : ℕ) where
   unfolding score_at
   at_none e = rw e
 
-  pub at_some : (r : ℕ) (z : ℤ) → (n ≡ 65536 → ⊥) → r ≡ rank_of n → z ≡ to_z w16 r → Score (to_z w16 (of_z w16 z)) ≡ score_at n
+  pub at_some : (r : ℕ) (z : ℤ) → (n ≡ 65536 → ⊥) → r ≡ rank_of n → z ≡ to_z w16 r → Some (to_z w16 (of_z w16 z)) ≡ score_at n
   unfolding score_at
   at_some r z f e g =
       let k : Fits w16 r = record { fits = rw e (rank_small n) } in
-      rw (ne_eqb n 65536 f) (ap Score (signed.kept w16 k g ∙ rw e))
+      rw (ne_eqb n 65536 f) (ap Some (signed.kept w16 k g ∙ rw e))
 
 pub certain_is :
     (rule : Rule) (low high a b p q : ℕ) (r : Bool) → a ≡ of_z w16 (to_z w16 (of_z w16 rule.mark)) → p ≡ rank_of a → b ≡ of_z w16 (to_z w16 (of_z w16 rule.scale)) →
@@ -342,7 +342,7 @@ unfolding certain_from
 certain_is rule low high a b p q r c d e f m k g = g ∙ rw (d, c, f, e, kept rule.mark m, kept rule.scale k)
 
 pub run_is :
-    (rule : Rule) (t : Run) (b : Bool) (y : Lowest) → b ≡ certain_from rule t.low t.high → y ≡ score_at t.low →
+    (rule : Rule) (t : Run) (b : Bool) (y : Option ℤ) → b ≡ certain_from rule t.low t.high → y ≡ score_at t.low →
     ◌≡◌ {A = Tally} (record { fills = t.fills; certain = b; lowest = y }) (run_tally rule t)
 unfolding run_tally
 run_is rule t b y e f = rw (e, f)

@@ -1,4 +1,6 @@
 -- Scores: their order, the lower of two, and what kinds of cells have one. Assumes nothing.
+use Rattle.std.specs.Prelude.{Result, Some, None, Option, Ok}
+use Rattle.answer.specs.declared.Refusal.{Refusal}
 use Prim.Native.Nat.{ℕ, ◌^◌, ◌<◌}
 use mathlib.Core.Path.{◌≡◌, refl, ap, ◌∙◌}
 use mathlib.Core.Bool.{Bool, true, false}
@@ -18,11 +20,8 @@ use Rattle.answer.specs.Answers.{cell_kind}
 use Rattle.blocks.specs.Folds.{Joins}
 use Rattle.deeds.specs.declared.Rule.{Rule}
 use Rattle.deeds.specs.declared.Grade.{Grade}
-use Rattle.deeds.specs.declared.Lowest.{Lowest}
-use Rattle.deeds.specs.declared.Lowest.TheVariants.{Score, None}
 use Rattle.deeds.specs.declared.Deed.{Deed}
-use Rattle.deeds.specs.declared.Deed.TheVariants.{Graded}
-use Rattle.deeds.specs.Deeds.{is_fill, is_stored, counts_as_fill, is_scored, score_of, lesser, lowest_bits, deed_scale}
+use Rattle.deeds.specs.Deeds.{is_fill, is_stored, counts_as_fill, is_scored, score_of, lesser, lowest_bits, deed_scale, Graded}
 
 -- the order of signed numbers
 
@@ -49,29 +48,29 @@ le_same (negsuc a) (negsuc b) e f = ap negsuc (omega (arith, leb-true b a e, leb
 
 -- the lower of two scores
 
-lower_comm : (a b : ℤ) → pick (le_z a b) (Score a) (Score b) ≡ pick (le_z b a) (Score b) (Score a)
+lower_comm : (a b : ℤ) → pick (le_z a b) (Some a) (Some b) ≡ pick (le_z b a) (Some b) (Some a)
 lower_comm a b = go (le_z a b) refl (le_z b a) refl
   where
-    go : (x : Bool) → le_z a b ≡ x → (y : Bool) → le_z b a ≡ y → pick x (Score a) (Score b) ≡ pick y (Score b) (Score a)
-    go true p true q = ap Score (le_same a b p q)
+    go : (x : Bool) → le_z a b ≡ x → (y : Bool) → le_z b a ≡ y → pick x (Some a) (Some b) ≡ pick y (Some b) (Some a)
+    go true p true q = ap Some (le_same a b p q)
     go true p false q = refl
     go false p true q = refl
     go false p false q = not_both (le_either a b p) q
 
-pub lesser_comm : (x y : Lowest) → lesser x y ≡ lesser y x
+pub lesser_comm : (x y : Option ℤ) → lesser x y ≡ lesser y x
 unfolding lesser
 lesser_comm None None = refl
-lesser_comm None (Score b) = refl
-lesser_comm (Score a) None = refl
-lesser_comm (Score a) (Score b) = lower_comm a b
+lesser_comm None (Some b) = refl
+lesser_comm (Some a) None = refl
+lesser_comm (Some a) (Some b) = lower_comm a b
 
-three : (a b c : ℤ) → lesser (pick (le_z a b) (Score a) (Score b)) (Score c) ≡ lesser (Score a) (pick (le_z b c) (Score b) (Score c))
+three : (a b c : ℤ) → lesser (pick (le_z a b) (Some a) (Some b)) (Some c) ≡ lesser (Some a) (pick (le_z b c) (Some b) (Some c))
 unfolding lesser
 three a b c = go (le_z a b) refl (le_z b c) refl (le_z a c) refl
   where
     go :
         (x : Bool) → le_z a b ≡ x → (y : Bool) → le_z b c ≡ y → (z : Bool) → le_z a c ≡ z →
-        lesser (pick (le_z a b) (Score a) (Score b)) (Score c) ≡ lesser (Score a) (pick (le_z b c) (Score b) (Score c))
+        lesser (pick (le_z a b) (Some a) (Some b)) (Some c) ≡ lesser (Some a) (pick (le_z b c) (Some b) (Some c))
     go true p true q z r = rw (p, q, p, le_then a b c p q)
     go true p false q z r = rw (p, q)
     go false p true q z r = rw (p, q, p)
@@ -82,15 +81,15 @@ pub scores : Joins lesser None
 unfolding lesser
 scores = record { unit_left = λ x. refl; unit_right = right; assoc = assoc }
   where
-    right : (x : Lowest) → lesser x None ≡ x
+    right : (x : Option ℤ) → lesser x None ≡ x
     right None = refl
-    right (Score a) = refl
+    right (Some a) = refl
 
-    assoc : (x y z : Lowest) → lesser (lesser x y) z ≡ lesser x (lesser y z)
+    assoc : (x y z : Option ℤ) → lesser (lesser x y) z ≡ lesser x (lesser y z)
     assoc None y z = refl
-    assoc (Score a) None z = refl
-    assoc (Score a) (Score b) None = right _
-    assoc (Score a) (Score b) (Score c) = three a b c
+    assoc (Some a) None z = refl
+    assoc (Some a) (Some b) None = right _
+    assoc (Some a) (Some b) (Some c) = three a b c
 
 -- truth values
 
@@ -113,15 +112,15 @@ truths = record { unit_left = λ x. refl; unit_right = right; assoc = assoc }
 
 -- kinds of cells
 
-pub kind_fill : (x : Cell) → cell_kind x ≡ 33 → true ≡ counts_as_fill x
+pub kind_fill : (x : Result Cell Refusal) → cell_kind x ≡ 33 → true ≡ counts_as_fill x
 unfolding counts_as_fill is_stored is_fill passes
 kind_fill x e = rw e
 
-pub fill_no_score : (x : Cell) → cell_kind x ≡ 33 → score_of x ≡ None
+pub fill_no_score : (x : Result Cell Refusal) → cell_kind x ≡ 33 → score_of x ≡ None
 unfolding score_of is_scored is_stored
 fill_no_score x e = rw e
 
-module _ (x : Cell) (k : ℕ) (e : k ≡ cell_kind x) where
+module _ (x : Result Cell Refusal) (k : ℕ) (e : k ≡ cell_kind x) where
   pub stored_first : k ≡ 32 → true ≡ is_stored x
   unfolding is_stored
   stored_first h = rw (← e, h)
@@ -135,33 +134,33 @@ module _ (x : Cell) (k : ℕ) (e : k ≡ cell_kind x) where
 pub kept : (z : ℤ) → mag z < 2 ^ hbits w16 → to_z w16 (of_z w16 z) ≡ z
 kept z h = to_z-of_z {w = w16} (record { sfits = h })
 
-pub bits_of : (x : Lowest) (z : ℤ) (r : ℕ) → x ≡ Score z → mag z < 2 ^ hbits w16 → r ≡ of_z w16 (to_z w16 (of_z w16 z)) → r ≡ lowest_bits x
+pub bits_of : (x : Option ℤ) (z : ℤ) (r : ℕ) → x ≡ Some z → mag z < 2 ^ hbits w16 → r ≡ of_z w16 (to_z w16 (of_z w16 z)) → r ≡ lowest_bits x
 bits_of x z r e h q = q ∙ rw e (ap (of_z w16) (kept z h))
 
 pub scale_of :
-    (x : Deed) (rule : Rule) (grade : Grade) (fills : ℕ) (lowest : Lowest) (r : ℕ) → x ≡ Graded rule grade fills lowest → mag rule.scale < 2 ^ hbits w16 →
-    r ≡ of_z w16 (to_z w16 (of_z w16 rule.scale)) → r ≡ deed_scale x
-scale_of x rule g k l r e h q = q ∙ rw e (ap (of_z w16) (kept rule.scale h))
+    (x : Result Deed Refusal) (d : Deed) (r : ℕ) → x ≡ Ok d → mag d.rule.scale < 2 ^ hbits w16 → r ≡ of_z w16 (to_z w16 (of_z w16 d.rule.scale)) →
+    r ≡ deed_scale x
+scale_of x d r e h q = q ∙ rw e (ap (of_z w16) (kept d.rule.scale h))
 
-module _ (a b : Lowest) where
+module _ (a b : Option ℤ) where
   pub lesser_first : a ≡ None → b ≡ lesser a b
   unfolding lesser
   lesser_first e = rw e
 
-  module _ (x : ℤ) (e : a ≡ Score x) where
-    pub lesser_alone : b ≡ None → Score x ≡ lesser a b
+  module _ (x : ℤ) (e : a ≡ Some x) where
+    pub lesser_alone : b ≡ None → Some x ≡ lesser a b
     unfolding lesser
     lesser_alone f = rw (e, f)
 
     pub lesser_both :
-        (y r : ℤ) → b ≡ Score y → mag x < 2 ^ hbits w16 → mag y < 2 ^ hbits w16 →
-        r ≡ pick (le_z (to_z w16 (of_z w16 x)) (to_z w16 (of_z w16 y))) (to_z w16 (of_z w16 x)) (to_z w16 (of_z w16 y)) → Score (to_z w16 (of_z w16 r)) ≡ lesser a b
+        (y r : ℤ) → b ≡ Some y → mag x < 2 ^ hbits w16 → mag y < 2 ^ hbits w16 →
+        r ≡ pick (le_z (to_z w16 (of_z w16 x)) (to_z w16 (of_z w16 y))) (to_z w16 (of_z w16 x)) (to_z w16 (of_z w16 y)) → Some (to_z w16 (of_z w16 r)) ≡ lesser a b
     unfolding lesser
     lesser_both y r f h k q = rw (e, f, q, kept x h, kept y k) (go (le_z x y))
       where
-        go : (u : Bool) → Score (to_z w16 (of_z w16 (pick u x y))) ≡ pick u (Score x) (Score y)
-        go true = ap Score (kept x h)
-        go false = ap Score (kept y k)
+        go : (u : Bool) → Some (to_z w16 (of_z w16 (pick u x y))) ≡ pick u (Some x) (Some y)
+        go true = ap Some (kept x h)
+        go false = ap Some (kept y k)
 
 module _ (x y : ℤ) (h : mag x < 2 ^ hbits w16) (k : mag y < 2 ^ hbits w16) where
   pub least_first : le_z (to_z w16 (of_z w16 x)) (to_z w16 (of_z w16 y)) ≡ true → to_z w16 (of_z w16 x) ≡ pick (le_z x y) x y

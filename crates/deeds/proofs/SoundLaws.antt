@@ -1,4 +1,5 @@
 -- What an answer tells of the cells it was counted from. Assumes nothing.
+use Rattle.std.specs.Prelude.{Err, Ok, Result, ⊤, Some, None, Option}
 use Prim.Native.Nat.{ℕ, suc, ◌+◌, ◌-◌, ◌*◌, ◌%◌, ◌≤◌, ◌<◌}
 use mathlib.Core.Path.{◌≡◌, refl, sym, ap, ◌∙◌}
 use mathlib.Core.List.{List, [], ◌∷◌}
@@ -19,8 +20,6 @@ use Rattle.wire.specs.Tests.{◌≤?◌, ◌≡?◌, is, both, passes}
 use Rattle.wire.proofs.TestLaws.{means, yes, no, not_both}
 use Rattle.answer.specs.declared.Refusal.{Refusal}
 use Rattle.answer.specs.declared.Refusal.TheVariants.{Input}
-use Rattle.answer.specs.declared.Verdict.{Verdict}
-use Rattle.answer.specs.declared.Verdict.TheVariants as verdict
 use Rattle.answer.specs.declared.Cell.{Cell}
 use Rattle.answer.specs.Refusals.{unless_refused}
 use Rattle.answer.specs.Answers.{cell_kind, cell_bits, cell_verdict}
@@ -38,11 +37,8 @@ use Rattle.blocks.proofs.InsideLaws.{inside_each, inside_found, inside_none, ins
 use Rattle.deeds.specs.declared.Rule.{Rule}
 use Rattle.deeds.specs.declared.Grade.{Grade}
 use Rattle.deeds.specs.declared.Grade.TheVariants.{Certain, Unread}
-use Rattle.deeds.specs.declared.Lowest.{Lowest}
-use Rattle.deeds.specs.declared.Lowest.TheVariants.{Score, None}
 use Rattle.deeds.specs.declared.Deed.{Deed}
-use Rattle.deeds.specs.declared.Deed.TheVariants.{Graded, Refused}
-use Rattle.deeds.specs.Deeds.{is_fill, is_stored, minus_one, counts_as_fill, is_scored, score_of, fills_in, lesser, lowest_in, score_within, certain_by, grade_from, grade_by, graded, refusal_in, from_to, first_rule, second_rule, deed_by, cells_of, rectangle_scored, deed_said, deed_in, deed, has_lowest}
+use Rattle.deeds.specs.Deeds.{is_fill, is_stored, minus_one, counts_as_fill, is_scored, score_of, fills_in, lesser, lowest_in, score_within, certain_by, grade_from, grade_by, graded, refusal_in, from_to, first_rule, second_rule, deed_by, cells_of, rectangle_scored, deed_said, deed_in, deed, has_lowest, Graded}
 use Rattle.deeds.specs.Sound.{scored_in, Sound, GradedSound, DeedSound, RuleOfPage, CertainCell, CertainExactly, InOrder, RefusedInOrder}
 use Rattle.deeds.proofs.ScoreLaws.{le_either, scores, lesser_comm, truths}
 use Rattle.deeds.proofs.PieceLaws.{verdicts, stays}
@@ -57,52 +53,52 @@ both_parts : (x y : Bool) → both x y ≡ true → (x ≡ true) × (y ≡ true)
 both_parts true y e = (refl, e)
 both_parts false y e = not_both e refl
 
-lower_some : (a b : ℤ) (x : Bool) → pick x (Score a) (Score b) ≡ None → ⊥
+lower_some : (a b : ℤ) (x : Bool) → pick x (Some a) (Some b) ≡ None → ⊥
 lower_some a b true e = let z : ◌≡◌ {A = ℕ} 0 1 = cc in omega arith
 lower_some a b false e = let z : ◌≡◌ {A = ℕ} 0 1 = cc in omega arith
 
-lesser_parts : (x y : Lowest) → lesser x y ≡ None → (x ≡ None) × (y ≡ None)
+lesser_parts : (x y : Option ℤ) → lesser x y ≡ None → (x ≡ None) × (y ≡ None)
 unfolding lesser
 lesser_parts None y e = (refl, e)
-lesser_parts (Score a) None e = let z : ◌≡◌ {A = ℕ} 0 1 = cc in absurd (omega arith)
-lesser_parts (Score a) (Score b) e = absurd (lower_some a b (le_z a b) e)
+lesser_parts (Some a) None e = let z : ◌≡◌ {A = ℕ} 0 1 = cc in absurd (omega arith)
+lesser_parts (Some a) (Some b) e = absurd (lower_some a b (le_z a b) e)
 
 -- one of two scores is the lower
 
-lower_either : (a b : ℤ) (x : Bool) → (pick x (Score a) (Score b) ≡ Score a) ⊎ (pick x (Score a) (Score b) ≡ Score b)
+lower_either : (a b : ℤ) (x : Bool) → (pick x (Some a) (Some b) ≡ Some a) ⊎ (pick x (Some a) (Some b) ≡ Some b)
 lower_either a b true = inl refl
 lower_either a b false = inr refl
 
-lesser_either : (x y : Lowest) → (lesser x y ≡ x) ⊎ (lesser x y ≡ y)
+lesser_either : (x y : Option ℤ) → (lesser x y ≡ x) ⊎ (lesser x y ≡ y)
 unfolding lesser
 lesser_either None y = inr refl
-lesser_either (Score a) None = inl refl
-lesser_either (Score a) (Score b) = lower_either a b (le_z a b)
+lesser_either (Some a) None = inl refl
+lesser_either (Some a) (Some b) = lower_either a b (le_z a b)
 
-lower_self : (a : ℤ) (x : Bool) → pick x (Score a) (Score a) ≡ Score a
+lower_self : (a : ℤ) (x : Bool) → pick x (Some a) (Some a) ≡ Some a
 lower_self a true = refl
 lower_self a false = refl
 
-lesser_self : (x : Lowest) → lesser x x ≡ x
+lesser_self : (x : Option ℤ) → lesser x x ≡ x
 unfolding lesser
 lesser_self None = refl
-lesser_self (Score a) = lower_self a (le_z a a)
+lesser_self (Some a) = lower_self a (le_z a a)
 
 -- a cell that is not refused counts as a fill, which has no score, or has one
 
-pub record OneKind (x : Cell) : Type 0 where
+pub record OneKind (x : Result Cell Refusal) : Type 0 where
   pub one : pick (counts_as_fill x) 1 0 + pick (is_scored x) 1 0 ≡ 1
   pub no_score : score_of x ≡ None → ◌≡◌ {A = ℕ} (pick (is_scored x) 1 0) 0
   pub fill_none : ◌≡◌ {A = ℕ} (pick (is_scored x) 1 0) 0 → score_of x ≡ None
 
-score_some : (z : ℤ) → Score z ≡ None → ⊥
+score_some : (z : ℤ) → Some z ≡ None → ⊥
 score_some z e = let z : ◌≡◌ {A = ℕ} 0 1 = cc in omega arith
 
-scored_none : (b : Bool) (z : ℤ) → pick b (Score z) None ≡ None → ◌≡◌ {A = ℕ} (pick b 1 0) 0
+scored_none : (b : Bool) (z : ℤ) → pick b (Some z) None ≡ None → ◌≡◌ {A = ℕ} (pick b 1 0) 0
 scored_none true z e = absurd (score_some z e)
 scored_none false z e = refl
 
-none_scored : (b : Bool) (z : ℤ) → ◌≡◌ {A = ℕ} (pick b 1 0) 0 → pick b (Score z) None ≡ None
+none_scored : (b : Bool) (z : ℤ) → ◌≡◌ {A = ℕ} (pick b 1 0) 0 → pick b (Some z) None ≡ None
 none_scored true z e = absurd (omega arith)
 none_scored false z e = refl
 
@@ -110,27 +106,27 @@ one_of_two : (b : Bool) → pick b 1 0 + pick (not b) 1 0 ≡ 1
 one_of_two true = refl
 one_of_two false = refl
 
-first_kind : (x : Cell) → cell_kind x ≡ 32 → pick (counts_as_fill x) 1 0 + pick (is_scored x) 1 0 ≡ 1
+first_kind : (x : Result Cell Refusal) → cell_kind x ≡ 32 → pick (counts_as_fill x) 1 0 + pick (is_scored x) 1 0 ≡ 1
 unfolding counts_as_fill is_scored is_stored
 first_kind x h = rw h (one_of_two (minus_one x))
 
-second_kind : (x : Cell) → cell_kind x ≡ 34 → pick (counts_as_fill x) 1 0 + pick (is_scored x) 1 0 ≡ 1
+second_kind : (x : Result Cell Refusal) → cell_kind x ≡ 34 → pick (counts_as_fill x) 1 0 + pick (is_scored x) 1 0 ≡ 1
 unfolding counts_as_fill is_scored is_stored
 second_kind x h = rw h (one_of_two (minus_one x))
 
-fill_kind : (x : Cell) → cell_kind x ≡ 33 → pick (counts_as_fill x) 1 0 + pick (is_scored x) 1 0 ≡ 1
+fill_kind : (x : Result Cell Refusal) → cell_kind x ≡ 33 → pick (counts_as_fill x) 1 0 + pick (is_scored x) 1 0 ≡ 1
 unfolding counts_as_fill is_scored is_stored is_fill passes
 fill_kind x h = rw h
 
-pub one_kind : (x : Cell) → cell_verdict x ≡ verdict.Accepted → OneKind x
+pub one_kind : (x : Result Cell Refusal) → cell_verdict x ≡ Ok tt → OneKind x
 unfolding score_of
 one_kind x e = record { one = ⊎_elim (first_kind x) (⊎_elim (fill_kind x) (second_kind x)) (cell_kinds x e); no_score = scored_none (is_scored x) _; fill_none = none_scored (is_scored x) _ }
 
 -- what counts is one
-fill_counts : (x : Cell) → counts_as_fill x ≡ true → ◌≡◌ {A = ℕ} (pick (counts_as_fill x) 1 0) 1
+fill_counts : (x : Result Cell Refusal) → counts_as_fill x ≡ true → ◌≡◌ {A = ℕ} (pick (counts_as_fill x) 1 0) 1
 fill_counts x e = rw e
 
-counts_fill : (x : Cell) → 1 ≤ pick (counts_as_fill x) 1 0 → counts_as_fill x ≡ true
+counts_fill : (x : Result Cell Refusal) → 1 ≤ pick (counts_as_fill x) 1 0 → counts_as_fill x ≡ true
 counts_fill x h = go (counts_as_fill x) h
   where
     go : (b : Bool) → 1 ≤ pick b 1 0 → b ≡ true
@@ -138,11 +134,11 @@ counts_fill x h = go (counts_as_fill x) h
     go false h = absurd (omega arith)
 
 -- no score is below the lowest
-lower_least : (a z : ℤ) → lesser (Score a) (Score z) ≡ Score a → le_z a z ≡ true
+lower_least : (a z : ℤ) → lesser (Some a) (Some z) ≡ Some a → le_z a z ≡ true
 unfolding lesser
 lower_least a z e = go (le_z a z) refl e
   where
-    go : (b : Bool) → le_z a z ≡ b → pick b (Score a) (Score z) ≡ Score a → le_z a z ≡ true
+    go : (b : Bool) → le_z a z ≡ b → pick b (Some a) (Some z) ≡ Some a → le_z a z ≡ true
     go true f e = f
     go false f e = let q : z ≡ a = cc in rw q (le_either a a (rw q at f))
 
@@ -160,25 +156,25 @@ grade_is n false h = (
   λ e. let q = grade_doubtful n false h refl ∙ e in let z : ◌≡◌ {A = ℕ} 0 1 = cc in absurd (omega arith),
 )
 
-some_lowest : (x : Lowest) → (x ≡ None → ⊥) → has_lowest x ≡ 1
+some_lowest : (x : Option ℤ) → (x ≡ None → ⊥) → has_lowest x ≡ 1
 some_lowest None h = absurd (h refl)
-some_lowest (Score z) h = refl
+some_lowest (Some z) h = refl
 
-lowest_some : (x : Lowest) → has_lowest x ≡ 1 → x ≡ None → ⊥
+lowest_some : (x : Option ℤ) → has_lowest x ≡ 1 → x ≡ None → ⊥
 lowest_some x h e = let z : has_lowest x ≡ 0 = ap has_lowest e in omega arith
 
 -- cells of which none is refused
 
-module _ (rule : Rule) (m n : ℕ) (f : ℕ → ℕ → Cell) (a : refusal_in 0 m 0 n f ≡ verdict.Accepted) where
+module _ (rule : Rule) (m n : ℕ) (f : ℕ → ℕ → Result Cell Refusal) (a : refusal_in 0 m 0 n f ≡ Ok tt) where
   abbrev fill : ℕ → ℕ → ℕ
   fill r c = pick (counts_as_fill (f r c)) 1 0
 
   abbrev stored : ℕ → ℕ → ℕ
   stored r c = pick (is_scored (f r c)) 1 0
 
-  none_refused_there : (r c : ℕ) → Inside 0 m 0 n r c → cell_verdict (f r c) ≡ verdict.Accepted
+  none_refused_there : (r c : ℕ) → Inside 0 m 0 n r c → cell_verdict (f r c) ≡ Ok tt
   unfolding refusal_in
-  none_refused_there r c h = inside_each (unless_refused verdict.Refused) verdict.Accepted behind_passed 0 m 0 n _ a r c h
+  none_refused_there r c h = inside_each (unless_refused Err) (Ok tt) behind_passed 0 m 0 n _ a r c h
 
   each_kind : (r c : ℕ) → Inside 0 m 0 n r c → OneKind (f r c)
   each_kind r c h = one_kind (f r c) (none_refused_there r c h)
@@ -285,13 +281,15 @@ module _ (rule : Rule) (m n : ℕ) (f : ℕ → ℕ → Cell) (a : refusal_in 0 
 
 -- an answer that is graded
 
-graded_by : (v : Verdict) (x : Deed) (rule : Rule) (grade : Grade) (fills : ℕ) (lowest : Lowest) → unless_refused Refused v x ≡ Graded rule grade fills lowest → (v ≡ verdict.Accepted) × (x ≡ Graded rule grade fills lowest)
+graded_by : (v : Result ⊤ Refusal) (x : Result Deed Refusal) (rule : Rule) (grade : Grade) (fills : ℕ) (lowest : Option ℤ) → unless_refused Err v x ≡ Graded rule grade fills lowest → (v ≡ Ok tt) × (x ≡ Graded rule grade fills lowest)
 unfolding unless_refused
-graded_by verdict.Accepted x u g k l e = (refl, e)
-graded_by (verdict.Refused r) x u g k l e = let z : ◌≡◌ {A = ℕ} 0 1 = cc in absurd (omega arith)
+graded_by (Ok accepted) x u g k l e = (refl, e)
+graded_by (Err r) x u g k l e = let z : ◌≡◌ {A = ℕ} 0 1 = cc in absurd (omega arith)
 
-graded_parts : (u u2 : Rule) (g g2 : Grade) (k k2 : ℕ) (l l2 : Lowest) → Graded u g k l ≡ Graded u2 g2 k2 l2 → (u ≡ u2) × ((g ≡ g2) × ((k ≡ k2) × (l ≡ l2)))
-graded_parts u u2 g g2 k k2 l l2 e = (cc, (cc, (cc, cc)))
+graded_parts : (u u2 : Rule) (g g2 : Grade) (k k2 : ℕ) (l l2 : Option ℤ) → Graded u g k l ≡ Graded u2 g2 k2 l2 → (u ≡ u2) × ((g ≡ g2) × ((k ≡ k2) × (l ≡ l2)))
+graded_parts u u2 g g2 k k2 l l2 e =
+    let f : ◌≡◌ {A = Deed} (record { rule = u; grade = g; fills = k; lowest = l }) (record { rule = u2; grade = g2; fills = k2; lowest = l2 }) = cc in
+    (ap (λ (z : Deed). z.rule) f, (ap (λ (z : Deed). z.grade) f, (ap (λ (z : Deed). z.fills) f, ap (λ (z : Deed). z.lowest) f)))
 
 pub graded_sound : GradedSound
 unfolding deed_by graded
@@ -303,21 +301,21 @@ graded_sound rule by m n f g k l h w e =
 -- and what it says of a page
 
 picked :
-    (b : Bool) (x : Deed) (r : Refusal) (rule : Rule) (grade : Grade) (fills : ℕ) (lowest : Lowest) → pick b x (Refused r) ≡ Graded rule grade fills lowest →
+    (b : Bool) (x : Result Deed Refusal) (r : Refusal) (rule : Rule) (grade : Grade) (fills : ℕ) (lowest : Option ℤ) → pick b x (Err r) ≡ Graded rule grade fills lowest →
     (b ≡ true) × (x ≡ Graded rule grade fills lowest)
 picked true x r u g k l e = (refl, e)
 picked false x r u g k l e = let z : ◌≡◌ {A = ℕ} 0 1 = cc in absurd (omega arith)
 
 -- the tests that it has passed
-pub record Passed (s : List ℕ) (ci e row column rows columns : ℕ) (rule : Rule) (grade : Grade) (fills : ℕ) (lowest : Lowest) : Type 0 where
-  pub accepted : check s ≡ verdict.Accepted
+pub record Passed (s : List ℕ) (ci e row column rows columns : ℕ) (rule : Rule) (grade : Grade) (fills : ℕ) (lowest : Option ℤ) : Type 0 where
+  pub accepted : check s ≡ Ok tt
   pub inside : rectangle_inside s e row column rows columns ≡ true
   pub some : (1 ≤ rows) × (1 ≤ columns)
   pub short : (element s e).kind ≡ short_kind
   pub is : deed_said (page_says s) rows columns (cells_of s ci e row column) ≡ Graded rule grade fills lowest
 
 passed :
-    (s : List ℕ) (ci e row column rows columns : ℕ) (rule : Rule) (grade : Grade) (fills : ℕ) (lowest : Lowest) →
+    (s : List ℕ) (ci e row column rows columns : ℕ) (rule : Rule) (grade : Grade) (fills : ℕ) (lowest : Option ℤ) →
     deed s ci e row column rows columns ≡ Graded rule grade fills lowest → Passed s ci e row column rows columns rule grade fills lowest
 unfolding deed deed_in rectangle_scored
 passed s ci e row column rows columns u g k l q =
@@ -329,11 +327,11 @@ passed s ci e row column rows columns u g k l q =
 
 -- by the rule that a page says, or that is none
 
-pub record Ruled (x : Said) (m n : ℕ) (f : ℕ → ℕ → Cell) (rule : Rule) (grade : Grade) (fills : ℕ) (lowest : Lowest) : Type 0 where
+pub record Ruled (x : Said) (m n : ℕ) (f : ℕ → ℕ → Result Cell Refusal) (rule : Rule) (grade : Grade) (fills : ℕ) (lowest : Option ℤ) : Type 0 where
   pub which : ((x ≡ First) × (rule ≡ first_rule)) ⊎ ((x ≡ Second) × (rule ≡ second_rule))
   pub sound : Sound rule m n f grade fills lowest
 
-module _ (m n : ℕ) (f : ℕ → ℕ → Cell) (rule : Rule) (grade : Grade) (fills : ℕ) (lowest : Lowest) (h : 1 ≤ m) (k : 1 ≤ n) where
+module _ (m n : ℕ) (f : ℕ → ℕ → Result Cell Refusal) (rule : Rule) (grade : Grade) (fills : ℕ) (lowest : Option ℤ) (h : 1 ≤ m) (k : 1 ≤ n) where
   ruled_by : (by : Rule) → deed_by by m n f ≡ Graded rule grade fills lowest → (rule ≡ by) × Sound rule m n f grade fills lowest
   ruled_by by e = let y = graded_sound by rule m n f grade fills lowest h k e in (y.0, rw y.0 y.1)
 
@@ -344,7 +342,7 @@ module _ (m n : ℕ) (f : ℕ → ℕ → Cell) (rule : Rule) (grade : Grade) (f
   ruled Wrong e = let z : ◌≡◌ {A = ℕ} 0 1 = cc in absurd (omega arith)
 
 deed_ruled :
-    (s : List ℕ) (ci e row column rows columns : ℕ) (rule : Rule) (grade : Grade) (fills : ℕ) (lowest : Lowest) →
+    (s : List ℕ) (ci e row column rows columns : ℕ) (rule : Rule) (grade : Grade) (fills : ℕ) (lowest : Option ℤ) →
     deed s ci e row column rows columns ≡ Graded rule grade fills lowest → Ruled (page_says s) rows columns (cells_of s ci e row column) rule grade fills lowest
 deed_ruled s ci e row column rows columns u g k l q =
     let p = passed s ci e row column rows columns u g k l q in
@@ -358,7 +356,7 @@ rule_of_page s ci e row column rows columns u g k l q = (deed_ruled s ci e row c
 
 -- a score from a mark to a scale is one by its bits
 
-scored_stored : (x : Cell) → is_scored x ≡ true → is_stored x ≡ true
+scored_stored : (x : Result Cell Refusal) → is_scored x ≡ true → is_stored x ≡ true
 unfolding is_scored
 scored_stored x e = go (is_stored x) e
   where
@@ -366,7 +364,7 @@ scored_stored x e = go (is_stored x) e
     go true e = refl
     go false e = e
 
-stored_kind : (x : Cell) → is_scored x ≡ true → (cell_kind x ≡ 32) ⊎ (cell_kind x ≡ 34)
+stored_kind : (x : Result Cell Refusal) → is_scored x ≡ true → (cell_kind x ≡ 32) ⊎ (cell_kind x ≡ 34)
 unfolding is_stored
 stored_kind x e = go (cell_kind x) (scored_stored x e) (eqb (cell_kind x) 32) refl
   where
@@ -374,12 +372,12 @@ stored_kind x e = go (cell_kind x) (scored_stored x e) (eqb (cell_kind x) 32) re
     go n e true f = inl (eqb-true n 32 f)
     go n e false f = inr (eqb-true n 34 (rw f at e))
 
-kind_stored : (x : Cell) → (cell_kind x ≡ 32) ⊎ (cell_kind x ≡ 34) → is_stored x ≡ true
+kind_stored : (x : Result Cell Refusal) → (cell_kind x ≡ 32) ⊎ (cell_kind x ≡ 34) → is_stored x ≡ true
 unfolding is_stored
 kind_stored x e = ⊎_elim (λ h. rw h) (λ h. rw h) e
 
 module _ (mark scale : ℕ) where
-  certain_bits : (n : ℕ) → n < 65536 → score_within (from_to mark scale) (Score (to_z w16 (n % 65536))) ≡ true → (mark ≤ n) × (n ≤ scale)
+  certain_bits : (n : ℕ) → n < 65536 → score_within (from_to mark scale) (Some (to_z w16 (n % 65536))) ≡ true → (mark ≤ n) × (n ≤ scale)
   unfolding score_within
   certain_bits n h e =
       let z : n % 65536 ≡ n = omega arith in
@@ -395,26 +393,26 @@ module _ (mark scale : ℕ) where
       let v : le_z (pos n) (pos scale) ≡ true = rw (z, to_z_pos w16 l) at y.1.0 in
       (leb-true mark n u, leb-true n scale v))
 
-  certain_cell : (x : Cell) → cell_bits x < 65536 → (is_scored x ≡ true) × (score_within (from_to mark scale) (score_of x) ≡ true) → CertainCell mark scale x
+  certain_cell : (x : Result Cell Refusal) → cell_bits x < 65536 → (is_scored x ≡ true) × (score_within (from_to mark scale) (score_of x) ≡ true) → CertainCell mark scale x
   unfolding score_of
   certain_cell x h e =
-      let w : score_within (from_to mark scale) (Score (to_z w16 (cell_bits x % 65536))) ≡ true = rw e.0 at e.1 in
+      let w : score_within (from_to mark scale) (Some (to_z w16 (cell_bits x % 65536))) ≡ true = rw e.0 at e.1 in
       let b = certain_bits (cell_bits x) h w in
       record { stored = stored_kind x e.0; from_mark = b.0; to_scale = b.1 }
 
   module _ (small : scale < 32768) where
-    bits_certain : (n : ℕ) → mark ≤ n → n ≤ scale → score_within (from_to mark scale) (Score (to_z w16 (n % 65536))) ≡ true
+    bits_certain : (n : ℕ) → mark ≤ n → n ≤ scale → score_within (from_to mark scale) (Some (to_z w16 (n % 65536))) ≡ true
     unfolding score_within
     bits_certain n h k =
         let z : n % 65536 ≡ n = omega arith in
         let l : n < 32768 = omega arith in
         rw (z, to_z_pos w16 l) (sym (yes (is (le_z (pos mark) (pos n)) ∷ is (le_z (pos n) (pos scale)) ∷ []) (le-leb mark n h, (le-leb n scale k, tt))))
 
-    kind_scored : (x : Cell) → (cell_kind x ≡ 32) ⊎ (cell_kind x ≡ 34) → cell_bits x ≤ scale → is_scored x ≡ true
+    kind_scored : (x : Result Cell Refusal) → (cell_kind x ≡ 32) ⊎ (cell_kind x ≡ 34) → cell_bits x ≤ scale → is_scored x ≡ true
     unfolding is_scored minus_one
     kind_scored x e k = rw (kind_stored x e, ← no ((cell_bits x % 65536 ≡? 65535) ∷ []) (λ h. absurd (omega (arith, h.0))))
 
-    cell_certain : (x : Cell) → CertainCell mark scale x → (is_scored x ≡ true) × (score_within (from_to mark scale) (score_of x) ≡ true)
+    cell_certain : (x : Result Cell Refusal) → CertainCell mark scale x → (is_scored x ≡ true) × (score_within (from_to mark scale) (score_of x) ≡ true)
     unfolding score_of
     cell_certain x c = let s = kind_scored x c.stored c.to_scale in (s, rw s (bits_certain (cell_bits x) c.from_mark c.to_scale))
 
@@ -439,18 +437,18 @@ certain_exactly s ci e row column rows columns mark scale g k l q =
 -- the refusals
 
 module _ (s : List ℕ) (ci e row column rows columns : ℕ) where
-  abbrev verdict_at : ℕ → ℕ → Verdict
+  abbrev verdict_at : ℕ → ℕ → Result ⊤ Refusal
   verdict_at r c = cell_verdict (meaning s ci (row + r) (column + c) e)
 
   refusal_first :
-      (r c : ℕ) → r < rows → c < columns → (x : Refusal) → verdict_at r c ≡ verdict.Refused x → ((i k : ℕ) → i < r → k < columns → verdict_at i k ≡ verdict.Accepted) →
-      ((k : ℕ) → k < c → verdict_at r k ≡ verdict.Accepted) → refusal_in 0 rows 0 columns (cells_of s ci e row column) ≡ verdict.Refused x
+      (r c : ℕ) → r < rows → c < columns → (x : Refusal) → verdict_at r c ≡ Err x → ((i k : ℕ) → i < r → k < columns → verdict_at i k ≡ Ok tt) →
+      ((k : ℕ) → k < c → verdict_at r k ≡ Ok tt) → refusal_in 0 rows 0 columns (cells_of s ci e row column) ≡ Err x
   unfolding refusal_in cells_of
   refusal_first r c i j x q above before =
-      inside_first_at (unless_refused verdict.Refused) verdict.Accepted verdicts 0 rows 0 columns _ r c (verdict.Refused x) q
+      inside_first_at (unless_refused Err) (Ok tt) verdicts 0 rows 0 columns _ r c (Err x) q
       (λ i k g. above i k (omega arith) (omega arith)) (λ k l w. before k w) (stays x) (omega arith)
 
-  said_first : (x : Refusal) (y : Said) → refusal_in 0 rows 0 columns (cells_of s ci e row column) ≡ verdict.Refused x → (y ≡ Wrong → ⊥) → Refused x ≡ deed_said y rows columns (cells_of s ci e row column)
+  said_first : (x : Refusal) (y : Said) → refusal_in 0 rows 0 columns (cells_of s ci e row column) ≡ Err x → (y ≡ Wrong → ⊥) → Err x ≡ deed_said y rows columns (cells_of s ci e row column)
   unfolding deed_said deed_by unless_refused
   said_first x First q h = rw q
   said_first x Second q h = rw q
@@ -458,12 +456,12 @@ module _ (s : List ℕ) (ci e row column rows columns : ℕ) where
 
   -- of a rectangle in the grid of an accepted file
   inside_order :
-      check s ≡ verdict.Accepted → e < element_count s → row + rows ≤ grid_rows s → column + columns ≤ grid_columns s → (x : Deed) →
+      check s ≡ Ok tt → e < element_count s → row + rows ≤ grid_rows s → column + columns ≤ grid_columns s → (x : Result Deed Refusal) →
       x ≡ deed_in s ci e row column rows columns → deed s ci e row column rows columns ≡ x
   inside_order a h k l x q = sym (deed_inside s ci e row column rows columns (check s) refl _ refl a x (sym (means_inside s e row column rows columns h k l)) q)
 
-  either_input : (b : Bool) → b ≡ rectangle_scored s e rows columns → page_says s ≡ Wrong → Refused Input ≡ deed_in s ci e row column rows columns
-  either_input true p w = deed_scored s ci e row column rows columns true p (Refused Input) refl (deed_wrong rows columns _ (page_says s) _ refl w)
+  either_input : (b : Bool) → b ≡ rectangle_scored s e rows columns → page_says s ≡ Wrong → Err Input ≡ deed_in s ci e row column rows columns
+  either_input true p w = deed_scored s ci e row column rows columns true p (Err Input) refl (deed_wrong rows columns _ (page_says s) _ refl w)
   either_input false p w = deed_input s ci e row column rows columns false p refl
 
   refused_order : InOrder s ci e row column rows columns
@@ -471,11 +469,11 @@ module _ (s : List ℕ) (ci e row column rows columns : ℕ) where
       record {
         checked = λ x q. sym (deed_refused s ci e row column rows columns (check s) refl x q);
         outside = λ a h. sym (deed_outside s ci e row column rows columns (check s) refl _ refl a (sym (not_inside s e row column rows columns h)));
-        input = λ a h k l f. inside_order a h k l (Refused Input) (deed_input s ci e row column rows columns false (not_scored s e rows columns f) refl);
-        rule_wrong = λ a h k l w. inside_order a h k l (Refused Input) (either_input _ refl w);
+        input = λ a h k l f. inside_order a h k l (Err Input) (deed_input s ci e row column rows columns false (not_scored s e rows columns f) refl);
+        rule_wrong = λ a h k l w. inside_order a h k l (Err Input) (either_input _ refl w);
         cell = λ a h k l t w r c i j x q above before.
-            inside_order a h k l (Refused x)
-            (deed_scored s ci e row column rows columns true (all_scored s e rows columns (omega arith) (omega arith) t) (Refused x) refl
+            inside_order a h k l (Err x)
+            (deed_scored s ci e row column rows columns true (all_scored s e rows columns (omega arith) (omega arith) t) (Err x) refl
             (said_first x (page_says s) (refusal_first r c i j x q above before) w));
       }
 

@@ -1,4 +1,6 @@
 -- What is counted over cells, an area beside or under another. Assumes nothing.
+use Rattle.std.specs.Prelude.{Result, None, Option, ℤ}
+use Rattle.answer.specs.declared.Refusal.{Refusal}
 use Prim.Native.Nat.{ℕ, ◌+◌, ◌-◌, ◌*◌, ◌≤◌, ◌<◌}
 use mathlib.Core.Path.{◌≡◌, refl, sym, ap, ◌∙◌}
 use mathlib.Core.Bool.{Bool, true, false}
@@ -16,8 +18,6 @@ use Rattle.blocks.proofs.FoldLaws.{sums}
 use Rattle.blocks.proofs.InsideLaws.{inside_one, inside_none, inside_under, inside_beside, inside_both, inside_part, inside_ones}
 use Rattle.blocks.proofs.WalkLaws.{passed_none, passed_more, passed_all}
 use Rattle.deeds.specs.declared.Rule.{Rule}
-use Rattle.deeds.specs.declared.Lowest.{Lowest}
-use Rattle.deeds.specs.declared.Lowest.TheVariants.{None}
 use Rattle.deeds.specs.declared.tally.Tally.{Tally}
 use Rattle.deeds.specs.Deeds.{counts_as_fill, fills_in, lesser, lowest_in, score_within, certain_by}
 use Rattle.deeds.specs.Tallies.{fill_tally, cell_tally, join_tally, tally_in, tally_passed}
@@ -27,7 +27,7 @@ pub tally_same : (a b : Tally) → a.fills ≡ b.fills → a.certain ≡ b.certa
 tally_same a b p q r =
     ap (λ (n : ℕ). record { fills = n; certain = a.certain; lowest = a.lowest }) p
     ∙ ap (λ (n : Bool). record { fills = b.fills; certain = n; lowest = a.lowest }) q
-    ∙ ap (λ (n : Lowest). record { fills = b.fills; certain = b.certain; lowest = n }) r
+    ∙ ap (λ (n : Option ℤ). record { fills = b.fills; certain = b.certain; lowest = n }) r
 
 pub tallies : Joins join_tally (fill_tally 0)
 unfolding join_tally
@@ -44,7 +44,7 @@ tally_comm x y = tally_same _ _ (omega arith) (both_comm x.certain y.certain) (l
 
 -- its parts are those of the definition
 
-module _ (rule : Rule) (top bottom left right : ℕ) (f : ℕ → ℕ → Cell) where
+module _ (rule : Rule) (top bottom left right : ℕ) (f : ℕ → ℕ → Result Cell Refusal) where
   pub tally_fills : (tally_in rule top bottom left right f).fills ≡ fills_in top bottom left right f
   unfolding tally_in fills_in join_tally cell_tally
   tally_fills = inside_part join_tally (fill_tally 0) ◌+◌ 0 (λ (t : Tally). t.fills) refl (λ x y. refl) top bottom left right _
@@ -59,7 +59,7 @@ module _ (rule : Rule) (top bottom left right : ℕ) (f : ℕ → ℕ → Cell) 
 
 -- no more fills than cells
 
-module _ (top bottom left right : ℕ) (f : ℕ → ℕ → Cell) where
+module _ (top bottom left right : ℕ) (f : ℕ → ℕ → Result Cell Refusal) where
   one_of : (b : Bool) → pick b 1 0 + pick b 0 1 ≡ 1
   one_of true = refl
   one_of false = refl
@@ -72,7 +72,7 @@ module _ (top bottom left right : ℕ) (f : ℕ → ℕ → Cell) where
       omega arith
 
 pub tally_few :
-    (rule : Rule) (top bottom left right : ℕ) (f : ℕ → ℕ → Cell) (t : Tally) → t ≡ tally_in rule top bottom left right f → bottom ≤ most_grid_side → right ≤ most_grid_side →
+    (rule : Rule) (top bottom left right : ℕ) (f : ℕ → ℕ → Result Cell Refusal) (t : Tally) → t ≡ tally_in rule top bottom left right f → bottom ≤ most_grid_side → right ≤ most_grid_side →
     t.fills ≤ most_grid_side * most_grid_side
 tally_few rule top bottom left right f t e h k =
     let p : bottom - top ≤ most_grid_side = omega arith in
@@ -82,7 +82,7 @@ tally_few rule top bottom left right f t e h k =
 
 -- two areas can be counted together
 pub tally_fits :
-    (rule : Rule) (f : ℕ → ℕ → Cell) (top bottom left right top2 bottom2 left2 right2 : ℕ) (t u : Tally) → t ≡ tally_in rule top bottom left right f →
+    (rule : Rule) (f : ℕ → ℕ → Result Cell Refusal) (top bottom left right top2 bottom2 left2 right2 : ℕ) (t u : Tally) → t ≡ tally_in rule top bottom left right f →
     u ≡ tally_in rule top2 bottom2 left2 right2 f → bottom ≤ most_grid_side → right ≤ most_grid_side → bottom2 ≤ most_grid_side → right2 ≤ most_grid_side →
     t.fills + u.fills < 18446744073709551616
 tally_fits rule f top bottom left right top2 bottom2 left2 right2 t u e d h k l m =
@@ -90,12 +90,12 @@ tally_fits rule f top bottom left right top2 bottom2 left2 right2 t u e d h k l 
 
 -- none, one cell, one area under another and beside it
 
-module _ (rule : Rule) (f : ℕ → ℕ → Cell) where
+module _ (rule : Rule) (f : ℕ → ℕ → Result Cell Refusal) where
   pub tally_none : (top bottom left right : ℕ) (t : Tally) → t ≡ fill_tally 0 → ((r c : ℕ) → Inside top bottom left right r c → ⊥) → t ≡ tally_in rule top bottom left right f
   unfolding tally_in
   tally_none top bottom left right t e h = e ∙ sym (inside_none join_tally (fill_tally 0) tallies top bottom left right _ (λ r c k. absurd (h r c k)))
 
-  pub tally_cell : (r c : ℕ) (x : Cell) (t : Tally) → t ≡ cell_tally rule x → x ≡ f r c → t ≡ tally_in rule r (r + 1) c (c + 1) f
+  pub tally_cell : (r c : ℕ) (x : Result Cell Refusal) (t : Tally) → t ≡ cell_tally rule x → x ≡ f r c → t ≡ tally_in rule r (r + 1) c (c + 1) f
   unfolding tally_in
   tally_cell r c x t e h = e ∙ ap (cell_tally rule) h ∙ sym (inside_one join_tally (fill_tally 0) tallies r c _)
 
@@ -119,7 +119,7 @@ module _ (rule : Rule) (f : ℕ → ℕ → Cell) where
 
 -- what a walk has counted: nothing, a piece more, all; and it fits
 
-module _ (rule : Rule) (f : ℕ → ℕ → Cell) (n : ℕ) where
+module _ (rule : Rule) (f : ℕ → ℕ → Result Cell Refusal) (n : ℕ) where
   pub tally_begins : {top left : ℕ} (bottom : ℕ) (t : Tally) → t ≡ fill_tally 0 → Begins 0 n top left → t ≡ tally_passed rule n top bottom left f
   unfolding tally_passed
   tally_begins bottom t e b = e ∙ sym (passed_none join_tally (fill_tally 0) tallies 0 n _ _ bottom _ b)
@@ -146,7 +146,7 @@ module _ (rule : Rule) (f : ℕ → ℕ → Cell) (n : ℕ) where
 
 -- an area of fills
 pub tally_all_fill :
-    (rule : Rule) (f : ℕ → ℕ → Cell) (top bottom left right : ℕ) (t : Tally) → t ≡ fill_tally ((bottom - top) * (right - left)) →
+    (rule : Rule) (f : ℕ → ℕ → Result Cell Refusal) (top bottom left right : ℕ) (t : Tally) → t ≡ fill_tally ((bottom - top) * (right - left)) →
     ((r c : ℕ) → Inside top bottom left right r c → cell_kind (f r c) ≡ 33) → t ≡ tally_in rule top bottom left right f
 unfolding fills_in certain_by lowest_in score_within
 tally_all_fill rule f top bottom left right t e h =
@@ -158,7 +158,7 @@ tally_all_fill rule f top bottom left right t e h =
 
 -- two counts together, as the function gives them
 pub tally_joined :
-    (a b : Tally) (c : Bool) (y : Lowest) → c ≡ both a.certain b.certain → y ≡ lesser a.lowest b.lowest →
+    (a b : Tally) (c : Bool) (y : Option ℤ) → c ≡ both a.certain b.certain → y ≡ lesser a.lowest b.lowest →
     ◌≡◌ {A = Tally} (record { fills = a.fills + b.fills; certain = c; lowest = y }) (join_tally a b)
 unfolding join_tally
 tally_joined a b c y e f = tally_same _ _ refl e f

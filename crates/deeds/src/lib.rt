@@ -9,8 +9,7 @@ ghost use Rattle.store.specs.Face.{Accepts};
 ghost use Rattle.score_rule.specs.Rules.{page_says};
 ghost use Rattle.deeds.specs.Deeds.{rectangle_scored, grade_from, deed_by, cells_of, deed_said, deed_in, deed, grade_number, has_lowest, lowest_bits, deed_number, deed_fills, deed_lowest, deed_has_lowest, deed_lowest_bits, deed_scale, deed_place};
 
-use answer::{Refusal, Verdict};
-use pieces::Judged;
+use answer::Refusal;
 use score_rule::Said;
 use store::many::Rectangle;
 use store::{description, many};
@@ -30,23 +29,14 @@ pub enum Grade {
     Unread,
 }
 
-// The lowest stored score, if any.
+// What is said of a rectangle: the rule that its page says, its grade by that rule, how many of its cells are fill, and its lowest stored
+// score, if any.
 #[derive(Clone, Copy)]
-pub enum Lowest {
-    Score(i16),
-    None,
-}
-
-// What is said of a rectangle: the rule that its page says, its grade by that rule, how many of its cells are fill, and its lowest score.
-#[derive(Clone, Copy)]
-pub enum Deed {
-    Graded {
-        rule: Rule,
-        grade: Grade,
-        fills: u64,
-        lowest: Lowest,
-    },
-    Refused(Refusal),
+pub struct Deed {
+    pub rule: Rule,
+    pub grade: Grade,
+    pub fills: u64,
+    pub lowest: Option<i16>,
 }
 
 // Whether the rectangle has a cell and the element is a Short.
@@ -76,26 +66,32 @@ fn grade_of(t: Tally) -> Grade
 }
 
 // The deed of a rectangle in the grid of an accepted file, by a rule.
-fn judge_by(file: &[u8], compressor: u32, a: Rectangle, memory: &mut [u32], rule: Rule) -> Deed
+fn judge_by(
+    file: &[u8],
+    compressor: u32,
+    a: Rectangle,
+    memory: &mut [u32],
+    rule: Rule,
+) -> Result<Deed, Refusal>
     requires { Accepts file.now a }
     ensures { result ≡ deed_by rule a.rows a.columns (cells_of file.now compressor a.e a.row a.column) }
 {
-    match pieces::judge_all(file, compressor, memory, a, rule) {
-        Judged::Refused(r) => Deed::Refused(r),
-        Judged::Tallied(t) => {
-            let lowest = t.lowest;
-            Deed::Graded {
-                rule,
-                grade: grade_of(t),
-                fills: t.fills,
-                lowest,
-            }
-        }
-    }
+    let t = pieces::judge_all(file, compressor, memory, a, rule)?;
+    Ok(Deed {
+        rule,
+        grade: grade_of(t),
+        fills: t.fills,
+        lowest: t.lowest,
+    })
 }
 
 // By the rule that the page says: in thousandths, certain from 900 to 1000, or in ten-thousandths, certain from 9,500 to 10,000.
-fn judge_said(file: &[u8], compressor: u32, a: Rectangle, memory: &mut [u32]) -> Deed
+fn judge_said(
+    file: &[u8],
+    compressor: u32,
+    a: Rectangle,
+    memory: &mut [u32],
+) -> Result<Deed, Refusal>
     requires { Accepts file.now a }
     ensures { result ≡ deed_said (page_says file.now) a.rows a.columns (cells_of file.now compressor a.e a.row a.column) }
 {
@@ -114,19 +110,24 @@ fn judge_said(file: &[u8], compressor: u32, a: Rectangle, memory: &mut [u32]) ->
             };
             judge_by(file, compressor, a, memory, second)
         }
-        Said::Wrong => Deed::Refused(Refusal::Input),
+        Said::Wrong => Err(Refusal::Input),
     }
 }
 
 // The same, where the rectangle has a cell and the element is a Short.
-fn judge_inside(file: &[u8], compressor: u32, a: Rectangle, memory: &mut [u32]) -> Deed
+fn judge_inside(
+    file: &[u8],
+    compressor: u32,
+    a: Rectangle,
+    memory: &mut [u32],
+) -> Result<Deed, Refusal>
     requires { Accepts file.now a }
     ensures { result ≡ deed_in file.now compressor a.e a.row a.column a.rows a.columns }
 {
     if rectangle_scored(file, a.e, a.rows, a.columns) {
         judge_said(file, compressor, a, memory)
     } else {
-        Deed::Refused(Refusal::Input)
+        Err(Refusal::Input)
     }
 }
 
@@ -141,25 +142,21 @@ pub fn judge(
     rows: u64,
     columns: u64,
     memory: &mut [u32],
-) -> Deed
+) -> Result<Deed, Refusal>
     ensures { result ≡ deed file.now compressor e row column rows columns }
 {
-    match store::check(file) {
-        Verdict::Refused(r) => Deed::Refused(r),
-        Verdict::Accepted => {
-            if many::rectangle_inside(file, e, row, column, rows, columns) {
-                let a = Rectangle {
-                    e,
-                    row,
-                    column,
-                    rows,
-                    columns,
-                };
-                return judge_inside(file, compressor, a, memory);
-            }
-            Deed::Refused(Refusal::OutsideGrid)
-        }
+    store::check(file)?;
+    if !many::rectangle_inside(file, e, row, column, rows, columns) {
+        return Err(Refusal::OutsideGrid);
     }
+    let a = Rectangle {
+        e,
+        row,
+        column,
+        rows,
+        columns,
+    };
+    judge_inside(file, compressor, a, memory)
 }
 
 fn grade_number(g: Grade) -> u32
@@ -172,107 +169,82 @@ fn grade_number(g: Grade) -> u32
     }
 }
 
-fn has_lowest(x: Lowest) -> u32
+fn has_lowest(x: Option<i16>) -> u32
     ensures { result ≡ has_lowest x }
 {
     match x {
-        Lowest::Score(_) => 1,
-        Lowest::None => 0,
+        Some(_) => 1,
+        None => 0,
     }
 }
 
-fn lowest_bits(x: Lowest) -> u32
+fn lowest_bits(x: Option<i16>) -> u32
     ensures { result ≡ lowest_bits x }
 {
     match x {
-        Lowest::Score(z) => answer::bits_16(z) as u32,
-        Lowest::None => 0,
+        Some(z) => answer::bits_16(z) as u32,
+        None => 0,
     }
 }
 
 // 64, 65 or 66, or the refusal's number.
-pub fn deed_number(x: Deed) -> u32
+pub fn deed_number(x: Result<Deed, Refusal>) -> u32
     ensures { result ≡ deed_number x }
 {
     match x {
-        Deed::Graded {
-            rule: _,
-            grade,
-            fills: _,
-            lowest: _,
-        } => grade_number(grade),
-        Deed::Refused(r) => answer::refusal_number(r),
+        Ok(d) => grade_number(d.grade),
+        Err(r) => answer::refusal_number(r),
     }
 }
 
 // The number of fill cells.
-pub fn deed_fills(x: Deed) -> u64
+pub fn deed_fills(x: Result<Deed, Refusal>) -> u64
     ensures { result ≡ deed_fills x }
 {
     match x {
-        Deed::Graded {
-            rule: _,
-            grade: _,
-            fills,
-            lowest: _,
-        } => fills,
-        Deed::Refused(_) => 0,
+        Ok(d) => d.fills,
+        Err(_) => 0,
     }
 }
 
-fn deed_lowest(x: Deed) -> Lowest
+fn deed_lowest(x: Result<Deed, Refusal>) -> Option<i16>
     ensures { result ≡ deed_lowest x }
 {
     match x {
-        Deed::Graded {
-            rule: _,
-            grade: _,
-            fills: _,
-            lowest,
-        } => lowest,
-        Deed::Refused(_) => Lowest::None,
+        Ok(d) => d.lowest,
+        Err(_) => None,
     }
 }
 
 // 1 where there is a lowest stored score, else 0; and its 16 bits.
-pub fn deed_has_lowest(x: Deed) -> u32
+pub fn deed_has_lowest(x: Result<Deed, Refusal>) -> u32
     ensures { result ≡ deed_has_lowest x }
 {
     has_lowest(deed_lowest(x))
 }
 
-pub fn deed_lowest_bits(x: Deed) -> u32
+pub fn deed_lowest_bits(x: Result<Deed, Refusal>) -> u32
     ensures { result ≡ deed_lowest_bits x }
 {
     lowest_bits(deed_lowest(x))
 }
 
 // The scale of the rule, 1000 or 10000; 0 of a refusal.
-pub fn deed_scale(x: Deed) -> u32
+pub fn deed_scale(x: Result<Deed, Refusal>) -> u32
     ensures { result ≡ deed_scale x }
 {
     match x {
-        Deed::Graded {
-            rule,
-            grade: _,
-            fills: _,
-            lowest: _,
-        } => answer::bits_16(rule.scale) as u32,
-        Deed::Refused(_) => 0,
+        Ok(d) => answer::bits_16(d.rule.scale) as u32,
+        Err(_) => 0,
     }
 }
 
 // The refusal's place.
-pub fn deed_place(x: Deed) -> usize
+pub fn deed_place(x: Result<Deed, Refusal>) -> usize
     ensures { result ≡ deed_place x }
 {
     match x {
-        Deed::Graded {
-            rule: _,
-            grade: _,
-            fills: _,
-            lowest: _,
-        } => 0,
-        Deed::Refused(r) => answer::refusal_place(r),
+        Ok(_) => 0,
+        Err(r) => answer::refusal_place(r),
     }
 }

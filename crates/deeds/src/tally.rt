@@ -1,5 +1,5 @@
 // What is counted over cells: the fills, whether every score is certain, and the lowest score.
-ghost use Rattle.std.specs.Prelude.{◌≡◌, ◌+◌, ◌<◌, min, max, eqb};
+ghost use Rattle.std.specs.Prelude.{◌≡◌, ◌+◌, ◌<◌, eqb};
 ghost use Rattle.std.specs.Int.Signed.{le_z};
 ghost use Rattle.wire.specs.Pick.{pick};
 ghost use Rattle.wire.specs.Tests as tests;
@@ -7,14 +7,14 @@ ghost use Rattle.deeds.specs.Deeds as deeds;
 ghost use Rattle.deeds.specs.Deeds.{is_stored};
 ghost use Rattle.deeds.specs.Tallies.{fill_tally, join_tally, rank_of, low_rank, high_rank, no_cells, with_bits, with_cell, score_at, certain_from, run_tally};
 
-use crate::{Lowest, Rule};
-use answer::Cell;
+use crate::Rule;
+use answer::{Cell, Refusal};
 
 #[derive(Clone, Copy)]
 pub(crate) struct Tally {
     pub fills: u64,
     pub certain: bool,
-    pub lowest: Lowest,
+    pub lowest: Option<i16>,
 }
 
 // n fill cells and no other.
@@ -24,7 +24,7 @@ pub(crate) fn of_fills(n: u64) -> Tally
     Tally {
         fills: n,
         certain: true,
-        lowest: Lowest::None,
+        lowest: None,
     }
 }
 
@@ -86,24 +86,6 @@ fn one_if(a: u32, b: u32) -> u64
     0
 }
 
-fn lower(x: u32, y: u32) -> u32
-    ensures { result ≡ min x y }
-{
-    if x <= y {
-        return x;
-    }
-    y
-}
-
-fn higher(x: u32, y: u32) -> u32
-    ensures { result ≡ max x y }
-{
-    if x <= y {
-        return y;
-    }
-    x
-}
-
 // A stored or unpacked cell more, by its 16 bits.
 fn with_bits(t: Run, b: u32) -> Run
     requires { t.fills + 1 < 18446744073709551616 }
@@ -113,13 +95,13 @@ fn with_bits(t: Run, b: u32) -> Run
     let high = t.high;
     Run {
         fills: t.fills + one_if(b, 65535),
-        low: lower(low, low_rank(b)),
-        high: higher(high, high_rank(b)),
+        low: low.min(low_rank(b)),
+        high: high.max(high_rank(b)),
     }
 }
 
 // Whether a cell is stored or unpacked.
-fn is_stored(x: Cell) -> bool
+fn is_stored(x: Result<Cell, Refusal>) -> bool
     ensures { result ≡ is_stored x }
 {
     let kind = answer::cell_kind(x);
@@ -130,7 +112,7 @@ fn is_stored(x: Cell) -> bool
 }
 
 // A cell more.
-pub(crate) fn with_cell(t: Run, x: Cell) -> Run
+pub(crate) fn with_cell(t: Run, x: Result<Cell, Refusal>) -> Run
     requires { t.fills + 1 < 18446744073709551616 }
     ensures { result ≡ with_cell t x }
 {
@@ -146,13 +128,13 @@ pub(crate) fn with_cell(t: Run, x: Cell) -> Run
 }
 
 // The score of a rank.
-fn score_at(n: u32) -> Lowest
+fn score_at(n: u32) -> Option<i16>
     ensures { result ≡ score_at n }
 {
     if n == 65536 {
-        return Lowest::None;
+        return None;
     }
-    Lowest::Score(answer::signed_16(rank_of(n) as u16))
+    Some(answer::signed_16(rank_of(n) as u16))
 }
 
 fn both(a: bool, b: bool) -> bool
@@ -198,14 +180,14 @@ fn least(x: i16, y: i16) -> i16
 }
 
 // The lower of two scores, by their signed numbers.
-fn lesser(a: Lowest, b: Lowest) -> Lowest
+fn lesser(a: Option<i16>, b: Option<i16>) -> Option<i16>
     ensures { result ≡ deeds.lesser a b }
 {
     match a {
-        Lowest::None => b,
-        Lowest::Score(x) => match b {
-            Lowest::None => a,
-            Lowest::Score(y) => Lowest::Score(least(x, y)),
+        None => b,
+        Some(x) => match b {
+            None => a,
+            Some(y) => Some(least(x, y)),
         },
     }
 }

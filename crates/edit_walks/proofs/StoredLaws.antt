@@ -1,4 +1,5 @@
 -- What is asked of a tile before it is stored or removed, and of a page before it is closed. Assumes nothing.
+use Rattle.std.specs.Prelude.{None, Option, Some}
 use Prim.Native.Nat.{ℕ, min, ◌+◌, ◌≤◌, ◌<◌}
 use mathlib.Core.Path.{◌≡◌, refl, sym, ap, ◌∙◌}
 use mathlib.Core.List.{List}
@@ -13,8 +14,6 @@ use Rattle.wire.specs.Pick.{pick}
 use Rattle.wire.specs.Bytes.{u32_at}
 use Rattle.wire.proofs.ByteLaws.{byte_out}
 use Rattle.wire.proofs.TestLaws.{means, yes, no, below_none, below_more, below_not, each_all}
-use Rattle.record.specs.declared.Found.{Found}
-use Rattle.record.specs.declared.Found.TheVariants.{At, Nothing}
 use Rattle.record.specs.Record.{type_at}
 use Rattle.record.specs.Chain.{records_of}
 use Rattle.record.proofs.FindLaws.{found_not, at_is}
@@ -38,25 +37,25 @@ carries_type s i x e = (means _ e).0
 
 -- the tile's record
 
-module _ (s : List ℕ) (i at : ℕ) {f : Found} (e : at ≡ tile_directory_at s) (g : f ≡ found_by s (Directory at) i) where
+module _ (s : List ℕ) (i at : ℕ) {f : Option ℕ} (e : at ≡ tile_directory_at s) (g : f ≡ found_by s (Directory at) i) where
   referred_by : carrying s i f ≡ tile_referred s i
   unfolding found_by tile_referred
   referred_by = ap (carrying s i) (g ∙ ap (λ (y : ℕ). referred_to s y i) e)
 
-  pub referred_none : f ≡ Nothing → Nothing ≡ tile_referred s i
+  pub referred_none : f ≡ None → None ≡ tile_referred s i
   referred_none h = sym (ap (carrying s i) h) ∙ referred_by
 
-  module _ (x : ℕ) {b : Bool} (h : f ≡ At x) (k : b ≡ wanted_by s (Tile i) x) where
-    pub referred_at : b ≡ true → At x ≡ tile_referred s i
+  module _ (x : ℕ) {b : Bool} (h : f ≡ Some x) (k : b ≡ wanted_by s (Tile i) x) where
+    pub referred_at : b ≡ true → Some x ≡ tile_referred s i
     unfolding wanted_by
     referred_at z = sym (ap (carrying s i) h ∙ rw (← k, z)) ∙ referred_by
 
-    pub referred_not : b ≡ false → Nothing ≡ tile_referred s i
+    pub referred_not : b ≡ false → None ≡ tile_referred s i
     unfolding wanted_by
     referred_not z = sym (ap (carrying s i) h ∙ rw (← k, z)) ∙ referred_by
 
 -- it starts in the page
-pub tile_inside : (s : List ℕ) (i x : ℕ) {t : Found} → t ≡ At x → t ≡ tile_referred s i → x < length s
+pub tile_inside : (s : List ℕ) (i x : ℕ) {t : Option ℕ} → t ≡ Some x → t ≡ tile_referred s i → x < length s
 unfolding tile_referred
 tile_inside s i x {t} e g = go (referred_to s (tile_directory_at s) i) (sym g ∙ e)
   where
@@ -66,13 +65,13 @@ tile_inside s i x {t} e g = go (referred_to s (tile_directory_at s) i) (sym g �
         (λ h. let z : type_at s x ≡ 0 = sym (byte_out s (x + 4) (omega arith)) in absurd (omega (arith, carries_type s i x c)))
         (λ h. omega arith)
 
-    here : (y : ℕ) (b : Bool) → carries s i y ≡ b → pick b (At y) Nothing ≡ At x → x < length s
+    here : (y : ℕ) (b : Bool) → carries s i y ≡ b → pick b (Some y) None ≡ Some x → x < length s
     here y true c h = let z : y ≡ x = at_is h in type_inside (rw z at c)
     here y false c h = found_not (sym h) refl
 
-    go : (r : Found) → carrying s i r ≡ At x → x < length s
-    go Nothing h = found_not (sym h) refl
-    go (At y) h = here y (carries s i y) refl h
+    go : (r : Option ℕ) → carrying s i r ≡ Some x → x < length s
+    go None h = found_not (sym h) refl
+    go (Some y) h = here y (carries s i y) refl h
 
 -- its elements
 
@@ -112,24 +111,24 @@ plains_all s x e n p f h k = each_all (element_count s) e (plain_element s x) f 
 
 -- whether it is stored over
 
-module _ (s : List ℕ) (i : ℕ) {t : Found} (f : t ≡ tile_referred s i) where
-  pub over_absent : t ≡ Nothing → Nothing ≡ over_at s i
+module _ (s : List ℕ) (i : ℕ) {t : Option ℕ} (f : t ≡ tile_referred s i) where
+  pub over_absent : t ≡ None → None ≡ over_at s i
   unfolding over_at stored_over
   over_absent e = rw (← f, e)
 
-  pub over_plain : (x : ℕ) {b : Bool} → t ≡ At x → b ≡ is_plain s x → b ≡ true → At x ≡ over_at s i
+  pub over_plain : (x : ℕ) {b : Bool} → t ≡ Some x → b ≡ is_plain s x → b ≡ true → Some x ≡ over_at s i
   unfolding over_at stored_over
   over_plain x e g h = rw (← f, e, ← g, h)
 
-  pub over_packed : (x : ℕ) {b : Bool} → t ≡ At x → b ≡ is_plain s x → b ≡ false → Nothing ≡ over_at s i
+  pub over_packed : (x : ℕ) {b : Bool} → t ≡ Some x → b ≡ is_plain s x → b ≡ false → None ≡ over_at s i
   unfolding over_at stored_over
   over_packed x e g h = rw (← f, e, ← g, h)
 
-  pub there_yes : (x : ℕ) → t ≡ At x → true ≡ is_there s i
+  pub there_yes : (x : ℕ) → t ≡ Some x → true ≡ is_there s i
   unfolding is_there
   there_yes x e = rw (← f, e)
 
-  pub there_no : t ≡ Nothing → false ≡ is_there s i
+  pub there_no : t ≡ None → false ≡ is_there s i
   unfolding is_there
   there_no e = rw (← f, e)
 

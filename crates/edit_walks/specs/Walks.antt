@@ -1,8 +1,6 @@
 -- Req 03: what a walk over the records of a page frees and joins, and where a new record goes then.
-use Rattle.std.specs.Prelude.{ℕ, List, Bool, not, ◌&&◌, ◌||◌, eqb}
+use Rattle.std.specs.Prelude.{ℕ, List, Bool, not, ◌&&◌, ◌||◌, eqb, None, Option}
 use Rattle.wire.specs.Pick.{pick}
-use Rattle.record.specs.declared.Found.{Found}
-use Rattle.record.specs.declared.Found.TheVariants.{Nothing}
 use Rattle.record.specs.Types.{file_space_directory_type, tile_directory_type}
 use Rattle.record.specs.Record.{type_at}
 use Rattle.record.specs.Chain.{starts, header_end}
@@ -30,5 +28,5 @@ unfoldable pub spot_of : List ℕ → ℕ → ℕ → Spot
 spot_of s i n = record { at = place_for (header_end s) n (freed_of s i); room = room_for n (freed_of s i) }
 
 -- Req 03, reading 10: the tile's record, if it is stored over
-unfoldable pub over_at : List ℕ → ℕ → Found
-over_at s i = pick (stored_over s i) (tile_referred s i) Nothing
+unfoldable pub over_at : List ℕ → ℕ → Option ℕ
+over_at s i = pick (stored_over s i) (tile_referred s i) None

@@ -9,7 +9,7 @@ pub mod places;
 pub mod stored;
 
 // Which records are freed: the tile records with an index, or what opening frees; whether the page's tile directory is full is handed
-// on.
+// on. It is no closure: the walk writes the page while it reads it, so a closure could not hold the page, and the line would be longer.
 #[derive(Clone, Copy)]
 pub enum Wanted {
     Tile(u32),

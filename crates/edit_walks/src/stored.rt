@@ -10,21 +10,21 @@ use crate::freeing;
 use bodies::{tile_directory, tile_record};
 use geometry::sizes;
 use header::fields;
-use record::{Found, chain};
+use record::chain;
 use tile_routes::{Route, routes};
 
 // The tile's record, by the tile directory: what the reference gives, if that is a tile record with the index.
-fn tile_referred(s: &[u8], tile: u32) -> Found
+fn tile_referred(s: &[u8], tile: u32) -> Option<usize>
     ensures { result ≡ tile_referred s.now tile }
 {
     let at = tile_directory::tile_directory_at(s);
     match routes::found_by(s, Route::Directory(at), tile) {
-        Found::Nothing => Found::Nothing,
-        Found::At(x) => {
+        None => None,
+        Some(x) => {
             if freeing::is_tile(s, tile, wire::byte_off(s, x, 4), x) {
-                return Found::At(x);
+                return Some(x);
             }
-            Found::Nothing
+            None
         }
     }
 }
@@ -59,16 +59,16 @@ fn is_plain(s: &[u8], x: usize) -> bool
 }
 
 // The tile's record, if it is stored over.
-pub fn stored_over(s: &[u8], tile: u32) -> Found
+pub fn stored_over(s: &[u8], tile: u32) -> Option<usize>
     ensures { result ≡ over_at s.now tile }
 {
     match tile_referred(s, tile) {
-        Found::Nothing => Found::Nothing,
-        Found::At(x) => {
+        None => None,
+        Some(x) => {
             if is_plain(s, x) {
-                return Found::At(x);
+                return Some(x);
             }
-            Found::Nothing
+            None
         }
     }
 }
@@ -77,7 +77,7 @@ pub fn stored_over(s: &[u8], tile: u32) -> Found
 pub fn is_there(s: &[u8], tile: u32) -> bool
     ensures { result ≡ is_there s.now tile }
 {
-    if let Found::At(_) = tile_referred(s, tile) {
+    if let Some(_) = tile_referred(s, tile) {
         return true;
     }
     false

@@ -1,4 +1,5 @@
 -- The only piece of a page of which a test holds, changed where it stands. Assumes nothing.
+use Rattle.std.specs.Prelude.{Some}
 use Prim.Native.Nat.{ℕ, ◌+◌, ◌≤◌}
 use mathlib.Core.Path.{◌≡◌, refl, sym, ap, ap₂, ◌∙◌}
 use mathlib.Core.List.{List, [], ◌∷◌, ◌++◌, map, map-append, append_assoc, Memᴰ}
@@ -9,7 +10,6 @@ use lib.Dec.{eqb}
 use Rattle.wire.specs.Bytes.{put}
 use Rattle.wire.proofs.TestLaws.{no_true}
 use Rattle.wire.proofs.PlaceLaws.{Placed, put_there}
-use Rattle.record.specs.declared.Found.TheVariants.{At}
 use Rattle.record.specs.Record.{length_at, type_at}
 use Rattle.record.specs.Chain.{joined, find, Whole}
 use Rattle.record.proofs.ChainLaws.{ok_means, whole_extent}
@@ -116,7 +116,7 @@ module _ (s : List ℕ) (p : ℕ → Bool) (q : List ℕ → Bool) where
   none_of (y ∷ ys) h = (h y (Memᴰ.head refl), none_of ys (λ z m. h z (Memᴰ.tail m)))
 
   pub found_only :
-      (at : ℕ) (xs : List ℕ) → Whole s at xs → ((y : ℕ) → Memᴰ y xs → p y ≡ q (piece_at s y)) → {x : ℕ} → find p xs ≡ At x →
+      (at : ℕ) (xs : List ℕ) → Whole s at xs → ((y : ℕ) → Memᴰ y xs → p y ≡ q (piece_at s y)) → {x : ℕ} → find p xs ≡ Some x →
       ((y : ℕ) → Memᴰ y xs → p y ≡ true → y ≡ x) → Only q at (pieces_of s xs) x (piece_at s x)
   unfolding pieces_of find
   found_only at [] w h e one = found_not (sym e) refl
@@ -138,7 +138,7 @@ module _ (s : List ℕ) (p : ℕ → Bool) (q : List ℕ → Bool) where
           sym (no_true (q (piece_at s z)) (λ j. let d : z ≡ x = one z (Memᴰ.tail m) (h z (Memᴰ.tail m) ∙ j) in absurd (omega (arith, o.long))))
 
       go :
-          (b : Bool) → p y ≡ b → (find p ys ≡ At x → Only q (y + length_at s y) (pieces_of s ys) x (piece_at s x)) →
+          (b : Bool) → p y ≡ b → (find p ys ≡ Some x → Only q (y + length_at s y) (pieces_of s ys) x (piece_at s x)) →
           Only q at (piece_at s y ∷ pieces_of s ys) x (piece_at s x)
       go true i n =
           let c : y ≡ x = one y (Memᴰ.head refl) i in

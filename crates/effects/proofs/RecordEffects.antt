@@ -1,4 +1,5 @@
 -- One record of a page changed where it stands: a reference of the tile directory, the cell bytes of a plain tile. Assumes nothing.
+use Rattle.std.specs.Prelude.{Some}
 use Prim.Native.Nat.{ℕ, zero, suc, ◌+◌, ◌*◌, ◌/◌, ◌-◌, ◌≤◌, ◌<◌}
 use mathlib.Core.Path.{◌≡◌, sym, ap, ◌∙◌}
 use mathlib.Core.List.{List, [], ◌∷◌, ◌++◌, map, Memᴰ}
@@ -15,7 +16,6 @@ use Rattle.wire.proofs.TestLaws.{means, below_each, sum_same, sum_more}
 use Rattle.wire.proofs.ByteLaws.{bytes_length, part_length}
 use Rattle.wire.proofs.PutLaws.{length_put}
 use Rattle.wire.proofs.PlaceLaws.{placed_self}
-use Rattle.record.specs.declared.Found.TheVariants.{At}
 use Rattle.record.specs.Record.{length_at, type_at, record_ok, record_limit}
 use Rattle.record.specs.Chain.{header_end, records, records_of, find, first_record, joined}
 use Rattle.record.proofs.ChainLaws.{IsRecord, ok_means, whole_extent}
@@ -127,8 +127,8 @@ module _ (s : List ℕ) (o : Sound s) (i : ℕ) where
   carrying m e = let h = means _ e in (type_of s 2 m h.0, h.1.0)
 
   -- stored over: the cell bytes of its plain record, x, and the checksum
-  module _ {x : ℕ} (e : tile_at s i ≡ At x) where
-    found : find (carries s i) (records s) ≡ At x
+  module _ {x : ℕ} (e : tile_at s i ≡ Some x) where
+    found : find (carries s i) (records s) ≡ Some x
     unfolding tile_at walked_to first_record records
     found = e
 

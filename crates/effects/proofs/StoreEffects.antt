@@ -1,4 +1,5 @@
 -- The byte stores of storing and removing a tile make the page that they are to make. Assumes nothing.
+use Rattle.std.specs.Prelude.{None, Ok, Option, Some}
 use Prim.Native.Nat.{ℕ, ◌+◌, ◌-◌, ◌≤◌, ◌<◌, max}
 use mathlib.Core.Path.{◌≡◌, refl, sym, ap, ◌∙◌}
 use mathlib.Core.List.{List, [], ◌∷◌, ◌++◌, map, append_assoc}
@@ -10,8 +11,6 @@ use Rattle.wire.specs.Pick.{pick}
 use Rattle.wire.specs.Bytes.{bytes_of}
 use Rattle.wire.proofs.TestLaws.{no, not_both}
 use Rattle.wire.proofs.PlaceLaws.{placed_self}
-use Rattle.record.specs.declared.Found.{Found}
-use Rattle.record.specs.declared.Found.TheVariants.{At, Nothing}
 use Rattle.record.specs.Record.{length_at, type_at, content_at, record_ok}
 use Rattle.record.specs.Chain.{header_end, records, joined, WellFormed}
 use Rattle.record.proofs.ChainLaws.{ok_means}
@@ -41,7 +40,6 @@ use Rattle.writable.specs.Parts.{Parted}
 use Rattle.writable.proofs.OpenLaws.{open_means, open_sound}
 use Rattle.writable.proofs.PartLaws.{sound_parted}
 use Rattle.correct.specs.Front.{page_in}
-use Rattle.answer.specs.declared.Verdict.TheVariants.{Accepted}
 use Rattle.correct.specs.Storing.{tile_at, tile_referred, stored_over, plain_in, overwritten, freed_of, stored_at, newly_stored, stored_pieces, stored_page, stored_length}
 use Rattle.correct.specs.Removing.{is_there, removed_pieces, removed_page}
 use Rattle.correct.specs.Answers.{room_left}
@@ -233,15 +231,15 @@ module _ (b : List ℕ) (n i : ℕ) (inside : n ≤ length b) (writable : open_f
       newly_made = then_refer_lem (placed flag v (freed_of s i)) (content_at (stored_at s i)) new_made (omega (arith, long)) placed_stands
 
     -- over its plain record
-    over_stored : (r : Found) → tile_at s i ≡ r → plain_in s r ≡ true → MadeBehind (header_end s) b (over_found b s c r) (f ++ joined (map (overwritten s i c) (pieces s))) n 17
-    over_stored Nothing e p = not_both p refl
-    over_stored (At x) e p =
+    over_stored : (r : Option ℕ) → tile_at s i ≡ r → plain_in s r ≡ true → MadeBehind (header_end s) b (over_found b s c r) (f ++ joined (map (overwritten s i c) (pieces s))) n 17
+    over_stored None e p = not_both p refl
+    over_stored (Some x) e p =
         let l = long in
         let h : x + length_at s x ≤ n = omega (arith, tile_inside s sound i e) in
         over_made s sound i e p c cells b f (drop n b) n split parted.ends whole_long h
 
     pub stored_made :
-        room_left b (stored_length s i) ≡ Accepted → MadeBehind (header_end s) b (store_writes b s i c) (stored_page s i c) (stored_length s i) 1048581
+        room_left b (stored_length s i) ≡ Ok tt → MadeBehind (header_end s) b (store_writes b s i c) (stored_page s i c) (stored_length s i) 1048581
     unfolding store_writes stored_page stored_pieces stored_length
     stored_made room = go (stored_over s i) refl (room_passed b (stored_length s i) room)
       where

@@ -1,7 +1,6 @@
 -- Req 03 and Req 05: where a call is not refused, its byte stores make the page that it is to make, and no byte behind it changes.
-use Rattle.std.specs.Prelude.{ℕ, ◌≤◌, ◌≡◌, true, List, ◌++◌, length, drop}
+use Rattle.std.specs.Prelude.{ℕ, ◌≤◌, ◌≡◌, true, List, ◌++◌, length, drop, Ok}
 use Rattle.wire.specs.Bytes.{Bytes}
-use Rattle.answer.specs.declared.Verdict.TheVariants.{Accepted}
 use Rattle.page_check.specs.Stages.{check}
 use Rattle.writable.specs.Writable.{open_for_writing}
 use Rattle.stores.specs.Stores.{Write, run, store_count, Fits}
@@ -10,7 +9,7 @@ use Rattle.correct.specs.Calls.{Call, Role, kind_of, line_of, admitted, change_o
 
 -- a page that a call of a role is made on
 abbrev pub Wants : Role → List ℕ → Type 0
-Wants Role.Opens s = check s ≡ Accepted
+Wants Role.Opens s = check s ≡ Ok tt
 Wants Role.Works s = open_for_writing s ≡ true
 Wants Role.Closes s = open_for_writing s ≡ true
 
@@ -32,5 +31,5 @@ pub record Makes (b : List ℕ) (ws : List Write) (page : List ℕ) (m : ℕ) : 
 -- on a page that it is made on, a call's byte stores make its page, where it is not refused
 abbrev pub CallMakes : Call → Type 0
 CallMakes call =
-    (b : List ℕ) (n : ℕ) → Bytes b → n ≤ length b → Wants (kind_of call).role (page_in b n) → (line_of call b (page_in b n)).verdict ≡ Accepted →
+    (b : List ℕ) (n : ℕ) → Bytes b → n ≤ length b → Wants (kind_of call).role (page_in b n) → (line_of call b (page_in b n)).verdict ≡ Ok tt →
     Makes b (line_of call b (page_in b n)).writes (line_of call b (page_in b n)).page (line_of call b (page_in b n)).long

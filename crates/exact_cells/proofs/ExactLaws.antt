@@ -1,4 +1,5 @@
 -- What a cell is, exactly: each case of the meaning, from what the record that decides holds, and back. Assumes nothing.
+use Rattle.std.specs.Prelude.{Err, None, Ok, Option, Result, Some}
 use Prim.Native.Nat.{ℕ, ◌+◌, ◌*◌, ◌≤◌, ◌<◌}
 use mathlib.Core.Path.{◌≡◌, refl, sym, ap, subst, ◌∙◌}
 use mathlib.Core.List.Memᴰ
@@ -23,8 +24,6 @@ use Rattle.answer.specs.Values.{value_of}
 use Rattle.answer.specs.Answers.{cell_kind}
 use Rattle.header.specs.Fields.{tile_rows, tile_columns, element_count}
 use Rattle.header.specs.Element.{float_kind, cell_size, element}
-use Rattle.record.specs.declared.Found.{Found}
-use Rattle.record.specs.declared.Found.TheVariants.{At, Nothing}
 use Rattle.record.specs.Chain.{records}
 use Rattle.record.proofs.FindLaws.{found_not, of_type, type_of}
 use Rattle.geometry.specs.Tiles.{cell_tile, cell_inside}
@@ -61,7 +60,7 @@ of_grid s row column e i = let g = grid_means s row column e i in record { row_i
 -- the record that is meant
 
 module _ (s : List ℕ) (row column x : ℕ) where
-  is_meant : meant s (cell_tile s row column) ≡ At x → TileRecordAt s row column x
+  is_meant : meant s (cell_tile s row column) ≡ Some x → TileRecordAt s row column x
   is_meant j =
       let t = meant_is s (cell_tile s row column) x j in
       let h = of_type s 2 t.among in
@@ -71,7 +70,7 @@ module _ (s : List ℕ) (row column x : ℕ) where
   unfolding records_with carries
   among_with t = member_select _ (records s) t.among (sym (yes _ (t.type, (t.index, tt))))
 
-none_meant : (s : List ℕ) (row column : ℕ) → meant s (cell_tile s row column) ≡ Nothing → (x : ℕ) → TileRecordAt s row column x → ⊥
+none_meant : (s : List ℕ) (row column : ℕ) → meant s (cell_tile s row column) ≡ None → (x : ℕ) → TileRecordAt s row column x → ⊥
 unfolding meant
 none_meant s row column j x t = go (records_with s (cell_tile s row column)) refl
   where
@@ -81,22 +80,22 @@ none_meant s row column j x t = go (records_with s (cell_tile s row column)) ref
 
 -- no record is one; a record is one, and of a sound page no other is
 
-meant_none : (s : List ℕ) (row column : ℕ) → ((x : ℕ) → TileRecordAt s row column x → ⊥) → meant s (cell_tile s row column) ≡ Nothing
+meant_none : (s : List ℕ) (row column : ℕ) → ((x : ℕ) → TileRecordAt s row column x → ⊥) → meant s (cell_tile s row column) ≡ None
 meant_none s row column f = go (meant s (cell_tile s row column)) refl
   where
-    go : (r : Found) → meant s (cell_tile s row column) ≡ r → meant s (cell_tile s row column) ≡ Nothing
-    go Nothing j = j
-    go (At x) j = absurd (f x (is_meant s row column x j))
+    go : (r : Option ℕ) → meant s (cell_tile s row column) ≡ r → meant s (cell_tile s row column) ≡ None
+    go None j = j
+    go (Some x) j = absurd (f x (is_meant s row column x j))
 
-meant_at : (s : List ℕ) → Sound s → (row column x : ℕ) → TileRecordAt s row column x → meant s (cell_tile s row column) ≡ At x
+meant_at : (s : List ℕ) → Sound s → (row column x : ℕ) → TileRecordAt s row column x → meant s (cell_tile s row column) ≡ Some x
 meant_at s o row column x t = go (meant s (cell_tile s row column)) refl
   where
-    go : (r : Found) → meant s (cell_tile s row column) ≡ r → meant s (cell_tile s row column) ≡ At x
-    go Nothing j = absurd (none_meant s row column j x t)
-    go (At y) j =
+    go : (r : Option ℕ) → meant s (cell_tile s row column) ≡ r → meant s (cell_tile s row column) ≡ Some x
+    go None j = absurd (none_meant s row column j x t)
+    go (Some y) j =
         let u = is_meant s row column y j in
         let q : y ≡ x = (sound_one s (records s) o).one_record (type_of s 2 u.among u.type) (type_of s 2 t.among t.type) (u.index ∙ sym t.index) in
-        j ∙ ap At q
+        j ∙ ap Some q
 
 -- L and U, and the index that is named
 
@@ -159,41 +158,41 @@ module _ (s : List ℕ) (ci x e : ℕ) where
 -- the meaning in each case
 
 module _ (s : List ℕ) (ci row column e : ℕ) where
-  abbrev said : Cell
+  abbrev said : Result Cell Refusal
   said = meaning s ci row column e
 
   abbrev here : Location
   here = record { tile = cell_tile s row column; inside = cell_inside s row column }
 
-  said_outside : in_grid s row column e ≡ false → said ≡ cell.Refused refusal.OutsideGrid
+  said_outside : in_grid s row column e ≡ false → said ≡ Err refusal.OutsideGrid
   unfolding meaning cell_by
   said_outside i = rw i
 
   module _ (i : in_grid s row column e ≡ true) where
-    said_fill : meant s (cell_tile s row column) ≡ Nothing → said ≡ cell.Fill (value_of (element s e).kind (element s e).fill) here
+    said_fill : meant s (cell_tile s row column) ≡ None → said ≡ Ok (cell.Fill (value_of (element s e).kind (element s e).fill) here)
     unfolding meaning cell_by fill_of location_of
     said_fill j = rw (i, j)
 
-    module _ (x : ℕ) (j : meant s (cell_tile s row column) ≡ At x) where
+    module _ (x : ℕ) (j : meant s (cell_tile s row column) ≡ Some x) where
       abbrev place : ℕ
       place = element_content_at s x e + cell_inside s row column * cell_size (element s e).kind
 
-      said_stored : packed s x e ≡ false → said ≡ cell.Stored (value_of (element s e).kind (number_at (cell_size (element s e).kind) s place)) place here
+      said_stored : packed s x e ≡ false → said ≡ Ok (cell.Stored (value_of (element s e).kind (number_at (cell_size (element s e).kind) s place)) place here)
       unfolding meaning cell_by cell_in cell_from packed location_of offset_in cell_offset
       said_stored k = rw (i, j, k)
 
       module _ (k : packed s x e ≡ true) where
-        said_compressed : unpackable s ci x e ≡ false → said ≡ cell.Refused (refusal.Compressed x)
+        said_compressed : unpackable s ci x e ≡ false → said ≡ Err (refusal.Compressed x)
         unfolding meaning cell_by cell_in cell_from packed unpackable
         said_compressed l = rw (i, j, k, l)
 
-        said_malformed : unpackable s ci x e ≡ true → content_holds s e x ≡ malformed → said ≡ cell.Refused (refusal.Malformed x)
+        said_malformed : unpackable s ci x e ≡ true → content_holds s e x ≡ malformed → said ≡ Err (refusal.Malformed x)
         unfolding meaning cell_by cell_in cell_from packed unpackable cell_at
         said_malformed l m = rw (i, j, k, l, m)
 
         said_unpacked :
             (bits : List ℕ) → unpackable s ci x e ≡ true → content_holds s e x ≡ cells bits →
-            said ≡ cell.Unpacked (value_of (element s e).kind (get_or bits (cell_inside s row column) 0)) (element_content_at s x e) here
+            said ≡ Ok (cell.Unpacked (value_of (element s e).kind (get_or bits (cell_inside s row column) 0)) (element_content_at s x e) here)
         unfolding meaning cell_by cell_in cell_from packed unpackable cell_at location_of
         said_unpacked bits l m = rw (i, j, k, l, m)
 
@@ -227,21 +226,21 @@ module _ (s : List ℕ) (b : Bytes s) (o : Sound s) (ci row column e : ℕ) wher
   RefusedSo refusal.NotOpen = ⊥
   RefusedSo refusal.Incomplete = ⊥
 
-  abbrev So : Cell → Type 0
-  So (cell.Stored v at w) = IsStored s row column e v at w
-  So (cell.Fill v w) = IsFill s row column e v w
-  So (cell.Unpacked v at w) = IsUnpacked s ci row column e v at w
-  So (cell.Refused r) = RefusedSo r
+  abbrev So : Result Cell Refusal → Type 0
+  So (Ok (cell.Stored v at w)) = IsStored s row column e v at w
+  So (Ok (cell.Fill v w)) = IsFill s row column e v w
+  So (Ok (cell.Unpacked v at w)) = IsUnpacked s ci row column e v at w
+  So (Err r) = RefusedSo r
 
   meaning_so : So (meaning s ci row column e)
   meaning_so = go (in_grid s row column e) refl (meant s (cell_tile s row column)) refl
     where
-      go : (c : Bool) → in_grid s row column e ≡ c → (f : Found) → meant s (cell_tile s row column) ≡ f → So (meaning s ci row column e)
+      go : (c : Bool) → in_grid s row column e ≡ c → (f : Option ℕ) → meant s (cell_tile s row column) ≡ f → So (meaning s ci row column e)
       go false i f j = subst So (sym (said_outside s ci row column e i)) (λ g. not_both (in_grid_lem s row column e g) i)
-      go true i Nothing j =
+      go true i None j =
           subst So (sym (said_fill s ci row column e i j))
           (record { asked = of_grid s row column e i; none = none_meant s row column j; value = refl; lies = refl })
-      go true i (At x) j = by (packed s x e) refl (unpackable s ci x e) refl (content_holds s e x) refl
+      go true i (Some x) j = by (packed s x e) refl (unpackable s ci x e) refl (content_holds s e x) refl
         where
           g : OfGrid s row column e
           g = of_grid s row column e i
@@ -291,38 +290,38 @@ module _ (s : List ℕ) (b : Bytes s) (o : Sound s) (ci row column e : ℕ) wher
     asked_in : in_grid s row column e ≡ true
     asked_in = in_grid_lem s row column e d.asked
 
-    decided_at : meant s (cell_tile s row column) ≡ At x
+    decided_at : meant s (cell_tile s row column) ≡ Some x
     decided_at = meant_at s o row column x d.record_at
 
-  fill_meant : (v : Value) (w : Location) → IsFill s row column e v w → meaning s ci row column e ≡ cell.Fill v w
+  fill_meant : (v : Value) (w : Location) → IsFill s row column e v w → meaning s ci row column e ≡ Ok (cell.Fill v w)
   fill_meant v w h = said_fill s ci row column e (in_grid_lem s row column e h.asked) (meant_none s row column h.none) ∙ rw (h.value, h.lies)
 
-  stored_meant : (v : Value) (at : ℕ) (w : Location) → IsStored s row column e v at w → meaning s ci row column e ≡ cell.Stored v at w
+  stored_meant : (v : Value) (at : ℕ) (w : Location) → IsStored s row column e v at w → meaning s ci row column e ≡ Ok (cell.Stored v at w)
   stored_meant v at w h =
       said_stored s ci row column e (asked_in h.start h.decided) h.start (decided_at h.start h.decided) (is_whole_lem s h.start e h.whole)
       ∙ rw (h.value, h.lies, h.here)
 
-  unpacked_meant : (v : Value) (at : ℕ) (w : Location) → IsUnpacked s ci row column e v at w → meaning s ci row column e ≡ cell.Unpacked v at w
+  unpacked_meant : (v : Value) (at : ℕ) (w : Location) → IsUnpacked s ci row column e v at w → meaning s ci row column e ≡ Ok (cell.Unpacked v at w)
   unpacked_meant v at w h =
       let x = h.start in
       let d = h.packed.decided in
       said_unpacked s ci row column e (asked_in x d) x (decided_at x d) (below_packed s x e h.packed.below) h.bits (named_is s ci x e b h.named) h.holds
       ∙ rw (h.value, h.lies, h.here)
 
-  malformed_meant : (x : ℕ) → IsMalformed s ci row column e x → meaning s ci row column e ≡ cell.Refused (refusal.Malformed x)
+  malformed_meant : (x : ℕ) → IsMalformed s ci row column e x → meaning s ci row column e ≡ Err (refusal.Malformed x)
   malformed_meant x h =
       let d = h.packed.decided in
       said_malformed s ci row column e (asked_in x d) x (decided_at x d) (below_packed s x e h.packed.below) (named_is s ci x e b h.named) h.holds
 
-  compressed_meant : (x : ℕ) → IsCompressed s ci row column e x → meaning s ci row column e ≡ cell.Refused (refusal.Compressed x)
+  compressed_meant : (x : ℕ) → IsCompressed s ci row column e x → meaning s ci row column e ≡ Err (refusal.Compressed x)
   compressed_meant x h =
       let d = h.packed.decided in
       said_compressed s ci row column e (asked_in x d) x (decided_at x d) (below_packed s x e h.packed.below) (other_is s ci x e h.other)
 
-  outside_meant : (OfGrid s row column e → ⊥) → meaning s ci row column e ≡ cell.Refused refusal.OutsideGrid
+  outside_meant : (OfGrid s row column e → ⊥) → meaning s ci row column e ≡ Err refusal.OutsideGrid
   outside_meant f = go (in_grid s row column e) refl
     where
-      go : (c : Bool) → in_grid s row column e ≡ c → meaning s ci row column e ≡ cell.Refused refusal.OutsideGrid
+      go : (c : Bool) → in_grid s row column e ≡ c → meaning s ci row column e ≡ Err refusal.OutsideGrid
       go true i = absurd (f (of_grid s row column e i))
       go false i = said_outside s ci row column e i
 
@@ -339,8 +338,8 @@ module _ (s : List ℕ) (b : Bytes s) (o : Sound s) (ci row column e : ℕ) wher
 
   -- what has the six facts is whatever is so, and thus the meaning
 
-  module _ (c : Cell) (k : CellIs s ci row column e c) where
-    is_refused_lem : (r : Refusal) → RefusedSo r → c ≡ cell.Refused r
+  module _ (c : Result Cell Refusal) (k : CellIs s ci row column e c) where
+    is_refused_lem : (r : Refusal) → RefusedSo r → c ≡ Err r
     is_refused_lem refusal.Identification h = absurd h
     is_refused_lem refusal.Version h = absurd h
     is_refused_lem refusal.Header h = absurd h
@@ -358,11 +357,11 @@ module _ (s : List ℕ) (b : Bytes s) (o : Sound s) (ci row column e : ℕ) wher
     is_refused_lem refusal.NotOpen h = absurd h
     is_refused_lem refusal.Incomplete h = absurd h
 
-    is_so : (d : Cell) → So d → c ≡ d
-    is_so (cell.Stored v at w) h = (k.stored v at w).1 h
-    is_so (cell.Fill v w) h = (k.fill v w).1 h
-    is_so (cell.Unpacked v at w) h = (k.unpacked v at w).1 h
-    is_so (cell.Refused r) h = is_refused_lem r h
+    is_so : (d : Result Cell Refusal) → So d → c ≡ d
+    is_so (Ok (cell.Stored v at w)) h = (k.stored v at w).1 h
+    is_so (Ok (cell.Fill v w)) h = (k.fill v w).1 h
+    is_so (Ok (cell.Unpacked v at w)) h = (k.unpacked v at w).1 h
+    is_so (Err r) h = is_refused_lem r h
 
 pub cell_exactly : CellExactly
 cell_exactly s b o ci row column e c =
@@ -384,14 +383,14 @@ read_exactly s b a ci row column e =
 pub five_kinds : FiveKinds
 five_kinds s ci row column e g = go (meant s (cell_tile s row column)) refl
   where
-    OneOf : Cell → Type 0
+    OneOf : Result Cell Refusal → Type 0
     OneOf c = Memᴰ (cell_kind c) (32 ∷ 33 ∷ 34 ∷ 11 ∷ 14 ∷ [])
 
     i : in_grid s row column e ≡ true
     i = in_grid_lem s row column e g
 
     by :
-        (x : ℕ) → meant s (cell_tile s row column) ≡ At x → (p : Bool) → packed s x e ≡ p → (u : Bool) → unpackable s ci x e ≡ u → (h : Cells) →
+        (x : ℕ) → meant s (cell_tile s row column) ≡ Some x → (p : Bool) → packed s x e ≡ p → (u : Bool) → unpackable s ci x e ≡ u → (h : Cells) →
         content_holds s e x ≡ h → OneOf (meaning s ci row column e)
     by x j false k u l h m = subst OneOf (sym (said_stored s ci row column e i x j k)) (Memᴰ.head refl)
     by x j true k false l h m = subst OneOf (sym (said_compressed s ci row column e i x j k l)) (Memᴰ.tail (Memᴰ.tail (Memᴰ.tail (Memᴰ.head refl))))
@@ -399,6 +398,6 @@ five_kinds s ci row column e g = go (meant s (cell_tile s row column)) refl
         subst OneOf (sym (said_malformed s ci row column e i x j k l m)) (Memᴰ.tail (Memᴰ.tail (Memᴰ.tail (Memᴰ.tail (Memᴰ.head refl)))))
     by x j true k true l (cells bits) m = subst OneOf (sym (said_unpacked s ci row column e i x j k bits l m)) (Memᴰ.tail (Memᴰ.tail (Memᴰ.head refl)))
 
-    go : (f : Found) → meant s (cell_tile s row column) ≡ f → OneOf (meaning s ci row column e)
-    go Nothing j = subst OneOf (sym (said_fill s ci row column e i j)) (Memᴰ.tail (Memᴰ.head refl))
-    go (At x) j = by x j (packed s x e) refl (unpackable s ci x e) refl (content_holds s e x) refl
+    go : (f : Option ℕ) → meant s (cell_tile s row column) ≡ f → OneOf (meaning s ci row column e)
+    go None j = subst OneOf (sym (said_fill s ci row column e i j)) (Memᴰ.tail (Memᴰ.head refl))
+    go (Some x) j = by x j (packed s x e) refl (unpackable s ci x e) refl (content_holds s e x) refl

@@ -1,10 +1,11 @@
 -- The page with compressed tiles computed: it is accepted, and its cells have the meanings that the table says; by demand 3 each route
 -- gives these. Assumes nothing.
+use Rattle.std.specs.Prelude.{Ok, Result}
+use Rattle.answer.specs.declared.Refusal.{Refusal}
 use mathlib.Core.Path.{◌≡◌, refl, ap₂, ◌∙◌}
 use Prim.Native.Nat.{ℕ}
 use mathlib.Core.List.{List, [], ◌∷◌, map}
 use Rattle.answer.specs.declared.Cell.{Cell}
-use Rattle.answer.specs.declared.Verdict.TheVariants.{Accepted}
 use Rattle.answer.specs.Refusals.{gate, unless_refused}
 use Rattle.answer.specs.Values.{value_of}
 use Rattle.bodies.specs.ListDirectories.{entry_count, file_space_at, free_count, metadata_at, metadata_count}
@@ -55,15 +56,15 @@ use Rattle.cells.proofs.DemandLaws.{demand_3}
 use Rattle.exact_cells.specs.PackedPage.{packed_file}
 use Rattle.exact_cells.specs.PackedReads.{Read, reads, answers, PackedRead}
 
-computed : (check packed_file ≡ Accepted) × (answers (meaning packed_file) ≡ map (λ (r : Read). r.answer) reads)
+computed : (check packed_file ≡ Ok tt) × (answers (meaning packed_file) ≡ map (λ (r : Read). r.answer) reads)
 unfolding advance all_below all_short among bit_at bits_at bits_of bits_of_cell block_at block_size body_fault body_right byte_at bytes_of carries cell_at cell_by cell_from cell_in cell_inside cell_offset cell_rows cell_size cell_tile chain_fault check check_directories check_from_records check_header check_records checksum_at checksum_fault checksum_of checksum_right closed code_of codes count_right description_at directories_right distinct element element_bytes element_content_at element_name element_packing element_right elements_right end_of end_right entries_read entry_at entry_count entry_end entry_start entry_texts every fields_end file_space_at file_space_right fill_bits fill_of fill_offset find find_not first_step first_two first_wrong five_rules form_right frame_right free_count free_fits free_listed free_only fresh gate gives_tile goes_on head_right header_end header_right identified identifier in_grid in_range in_rectangle in_span index_right inside_of is_short keys_distinct label_at last_byte leaf_at least_length leaves leaves_read length_right letter listed_once location_of mark meaning meant metadata_at metadata_count metadata_directory_right metadata_fits metadata_listed metadata_only method_count methods_at name_byte name_bytes names_differ next_two no_other nothing_else number number_at number_of numbers_in numbers_of numbers_right octet_at offset_in options_right packing_of padded part passes plus positive predicted product_label_at read_code read_codes read_tree record_limit record_ok records records_end records_of records_with rectangle_right reference_at reference_from reference_of reference_size references_end refers_or_zero refers_to right_of row_from row_of same_bytes section_at section_end section_length section_packing section_right select sides_right sides_within some span_right stages starts starts_go stored_size string_end string_size string_text sum_below symbol_at symbols symbols_of symbols_read tail_right text_right tile_bytes tile_cells tile_count tile_directory_at tile_directory_right tile_end tile_in tile_index tile_of tile_right tiles_across tiles_along tiles_down tiles_in tiles_listed tiles_only tree_at tree_in tree_right uncompressed unit_at unless unless_refused unpacked utf8 value_of values_of version_right within within_ceilings
 computed = (refl, refl)
 
 -- ways that answer alike give the same answers
-same_answers : (f g : ℕ → ℕ → ℕ → ℕ → Cell) → ((ci row column e : ℕ) → f ci row column e ≡ g ci row column e) → answers f ≡ answers g
+same_answers : (f g : ℕ → ℕ → ℕ → ℕ → Result Cell Refusal) → ((ci row column e : ℕ) → f ci row column e ≡ g ci row column e) → answers f ≡ answers g
 same_answers f g h = go reads
   where
-    by : (ℕ → ℕ → ℕ → ℕ → Cell) → Read → Cell
+    by : (ℕ → ℕ → ℕ → ℕ → Result Cell Refusal) → Read → Result Cell Refusal
     by k r = k r.index r.row r.column r.element
 
     go : (l : List Read) → map (by f) l ≡ map (by g) l

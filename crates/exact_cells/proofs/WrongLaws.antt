@@ -1,4 +1,6 @@
 -- Wrong readers on the page with compressed tiles: what has the six facts is the meaning, and that is another answer. Assumes nothing.
+use Rattle.std.specs.Prelude.{Err, Result}
+use Rattle.answer.specs.declared.Refusal.{Refusal}
 use Prim.Native.Nat.{ℕ, zero, suc}
 use mathlib.Core.Path.{◌≡◌, refl, ap, ◌∙◌}
 use mathlib.Core.List.{List, [], ◌∷◌}
@@ -13,7 +15,6 @@ use Rattle.wire.proofs.TestLaws.{means}
 use Rattle.wire.proofs.ByteLaws.{bytes_none, bytes_cons}
 use Rattle.answer.specs.declared.Refusal.TheVariants.{OutsideGrid}
 use Rattle.answer.specs.declared.Cell.{Cell}
-use Rattle.answer.specs.declared.Cell.TheVariants.{Refused}
 use Rattle.answer.specs.Answers.{cell_kind, cell_place}
 use Rattle.page_check.proofs.AcceptedLaws.{accepted_sound}
 use Rattle.cells.specs.CellExactly.{CellIs}
@@ -33,12 +34,12 @@ unfolding every passes
 file_bytes = each_small packed_file refl
 
 -- the answers of the table, by their number
-abbrev nth : ℕ → List Cell → Cell
-nth n [] = Refused OutsideGrid
+abbrev nth : ℕ → List (Result Cell Refusal) → Result Cell Refusal
+nth n [] = Err OutsideGrid
 nth zero (c ∷ cs) = c
 nth (suc n) (c ∷ cs) = nth n cs
 
-other : (ci row column e : ℕ) (c d : Cell) → meaning packed_file ci row column e ≡ d → (c ≡ d → ⊥) → CellIs packed_file ci row column e c → ⊥
+other : (ci row column e : ℕ) (c d : Result Cell Refusal) → meaning packed_file ci row column e ≡ d → (c ≡ d → ⊥) → CellIs packed_file ci row column e c → ⊥
 other ci row column e c d m f k = f ((cell_exactly packed_file file_bytes (accepted_sound packed_file packed_read.accepted) ci row column e c).1 k ∙ m)
 
 pub wrong_readers : WrongReaders

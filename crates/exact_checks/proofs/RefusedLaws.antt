@@ -1,4 +1,5 @@
 -- Each refusal of the check has its reason, and each reason gives its refusal. Assumes nothing.
+use Rattle.std.specs.Prelude.{Err, None, Ok, Option, Result, Some, ⊤}
 use Prim.Native.Nat.{ℕ, ◌≤◌}
 use mathlib.Core.Path.{◌≡◌, refl, sym, ap, ◌∙◌}
 use mathlib.Core.Bool.{Bool, true, false, not}
@@ -9,12 +10,8 @@ use lib.ListN.{length}
 use Rattle.wire.specs.Pick.{pick}
 use Rattle.answer.specs.declared.Refusal.{Refusal}
 use Rattle.answer.specs.declared.Refusal.TheVariants as refusal
-use Rattle.answer.specs.declared.Verdict.{Verdict}
-use Rattle.answer.specs.declared.Verdict.TheVariants.{Accepted, Refused}
 use Rattle.answer.specs.Refusals.{gate, unless_refused}
 use Rattle.answer.proofs.VerdictLaws.{refused_not, refused_is, behind_passed}
-use Rattle.record.specs.declared.Found.{Found}
-use Rattle.record.specs.declared.Found.TheVariants.{At, Nothing}
 use Rattle.record.specs.Chain.{find, find_not, header_end, records}
 use Rattle.record.proofs.FindLaws.{found_not, at_is, none_breaks, all_keep}
 use Rattle.check_header.specs.Identification.{identified, version_right}
@@ -43,41 +40,41 @@ wrong_more p y ys x h w =
       wrong = w.wrong;
     }
 
-first_wrong_lem : (p : ℕ → Bool) (l : List ℕ) (x : ℕ) → find_not p l ≡ At x → FirstWrong p l x
+first_wrong_lem : (p : ℕ → Bool) (l : List ℕ) (x : ℕ) → find_not p l ≡ Some x → FirstWrong p l x
 unfolding find find_not
 first_wrong_lem p [] x e = found_not (sym e) refl
 first_wrong_lem p (y ∷ ys) x e = go (p y) refl e (first_wrong_lem p ys x)
   where
-    go : (b : Bool) → p y ≡ b → pick (not b) (At y) (find_not p ys) ≡ At x → (find_not p ys ≡ At x → FirstWrong p ys x) → FirstWrong p (y ∷ ys) x
+    go : (b : Bool) → p y ≡ b → pick (not b) (Some y) (find_not p ys) ≡ Some x → (find_not p ys ≡ Some x → FirstWrong p ys x) → FirstWrong p (y ∷ ys) x
     go true i k f = wrong_more p y ys x i (f k)
     go false i k f =
         let q : y ≡ x = at_is k in
         record { before = []; behind = ys; all = ap (λ (z : ℕ). z ∷ ys) q; right = λ z m. absurd (Memᴰ.not-nil m); wrong = ap p (sym q) ∙ i }
 
-wrong_at : (p : ℕ → Bool) (before behind : List ℕ) (x : ℕ) → ((y : ℕ) → Memᴰ y before → p y ≡ true) → p x ≡ false → find_not p (before ++ (x ∷ behind)) ≡ At x
+wrong_at : (p : ℕ → Bool) (before behind : List ℕ) (x : ℕ) → ((y : ℕ) → Memᴰ y before → p y ≡ true) → p x ≡ false → find_not p (before ++ (x ∷ behind)) ≡ Some x
 unfolding find find_not
 wrong_at p [] behind x r w = rw w
 wrong_at p (y ∷ ys) behind x r w = rw (r y (Memᴰ.head refl)) (wrong_at p ys behind x (λ z m. r z (Memᴰ.tail m)) w)
 
-wrong_first : (p : ℕ → Bool) (l : List ℕ) (x : ℕ) → FirstWrong p l x → find_not p l ≡ At x
+wrong_first : (p : ℕ → Bool) (l : List ℕ) (x : ℕ) → FirstWrong p l x → find_not p l ≡ Some x
 wrong_first p l x w = ap (find_not p) w.all ∙ wrong_at p w.before w.behind x w.right w.wrong
 
 -- a test and what comes behind it
 
-by_gate : (P : Verdict → Type 0) (b : Bool) (r : Refusal) (v : Verdict) → (b ≡ false → P (Refused r)) → (b ≡ true → P v) → P (gate b r v)
+by_gate : (P : Result ⊤ Refusal → Type 0) (b : Bool) (r : Refusal) (v : Result ⊤ Refusal) → (b ≡ false → P (Err r)) → (b ≡ true → P v) → P (gate b r v)
 unfolding gate
 by_gate P true r v f g = g refl
 by_gate P false r v f g = f refl
 
-by_fault : (P : Verdict → Type 0) (x : Found) (r : ℕ → Refusal) (v : Verdict) → ((y : ℕ) → x ≡ At y → P (Refused (r y))) → (x ≡ Nothing → P v) → P (unless x r v)
+by_fault : (P : Result ⊤ Refusal → Type 0) (x : Option ℕ) (r : ℕ → Refusal) (v : Result ⊤ Refusal) → ((y : ℕ) → x ≡ Some y → P (Err (r y))) → (x ≡ None → P v) → P (unless x r v)
 unfolding unless
-by_fault P Nothing r v f g = g refl
-by_fault P (At y) r v f g = f y refl
+by_fault P None r v f g = g refl
+by_fault P (Some y) r v f g = f y refl
 
 -- a verdict's reason, where it is a refusal
-abbrev Told : List ℕ → Verdict → Type 0
-Told s Accepted = Unit {0}
-Told s (Refused r) = Reason s r
+abbrev Told : List ℕ → Result ⊤ Refusal → Type 0
+Told s (Ok tt) = Unit {0}
+Told s (Err r) = Reason s r
 
 headed : (s : List ℕ) → Closed s → Headed s (length s)
 headed s h = record { block = h.0.0.0.0; version = h.0.0.0.1; header = h.0.0.1; ceilings = h.0.1 }
@@ -96,11 +93,11 @@ module _ (s : List ℕ) (h : Closed s) where
       (λ d.
       let u : Summed s = (w, λ x m. none_breaks (checksum_right s) (16 ∷ records s) d m) in
       by_fault (Told s) (find_not (body_right s) (records s)) refusal.Body _ (λ x e. (u, first_wrong_lem (body_right s) (records s) x e))
-      (λ f. by_gate (Told s) (directories_right s) refusal.Directory Accepted (λ i. ((u, λ x m. none_breaks (body_right s) (records s) f m), i)) (λ i. tt))))
+      (λ f. by_gate (Told s) (directories_right s) refusal.Directory (Ok tt) (λ i. ((u, λ x m. none_breaks (body_right s) (records s) f m), i)) (λ i. tt))))
 
 module _ (s : List ℕ) where
-  abbrev Behind : Verdict → Type 0
-  Behind v = Told s (unless_refused Refused v (check_from_records s))
+  abbrev Behind : Result ⊤ Refusal → Type 0
+  Behind v = Told s (unless_refused Err v (check_from_records s))
 
   told : Told s (check s)
   unfolding check check_header stages first_two next_two unless_refused
@@ -112,42 +109,42 @@ module _ (s : List ℕ) where
       by_gate Behind (header_right s (length s)) refusal.Header _ (λ k. ((i, j), k))
       (λ k.
       by_gate Behind (within_ceilings s (length s)) refusal.Ceiling _ (λ l. (((i, j), k), l))
-      (λ l. by_gate Behind (closed s) refusal.Opened Accepted (λ m. ((((i, j), k), l), m)) (λ m. records_told s ((((i, j), k), l), m))))))
+      (λ l. by_gate Behind (closed s) refusal.Opened (Ok tt) (λ m. ((((i, j), k), l), m)) (λ m. records_told s ((((i, j), k), l), m))))))
 
   -- and back
   header_passes : Closed s → check s ≡ check_from_records s
   unfolding check check_header stages first_two next_two gate unless_refused
   header_passes h = rw (h.0.0.0.0, h.0.0.0.1, h.0.0.1, h.0.1, h.1)
 
-  no_sum : Summed s → checksum_fault s ≡ Nothing
+  no_sum : Summed s → checksum_fault s ≡ None
   unfolding checksum_fault first_wrong right_of
   no_sum h = all_keep (checksum_right s) (16 ∷ records s) h.1
 
-  no_body : Bodied s → body_fault s ≡ Nothing
+  no_body : Bodied s → body_fault s ≡ None
   unfolding body_fault first_wrong right_of
   no_body h = all_keep (body_right s) (records s) h.1
 
-  chain_given : (x : ℕ) → Reason s (refusal.Chain x) → (v : Verdict) → check_records s v ≡ Refused (refusal.Chain x)
+  chain_given : (x : ℕ) → Reason s (refusal.Chain x) → (v : Result ⊤ Refusal) → check_records s v ≡ Err (refusal.Chain x)
   unfolding check_records unless
   chain_given x h v = rw ((chain_fault_exactly s x).1 h.1)
 
-  sum_given : (x : ℕ) → Reason s (refusal.Checksum x) → (v : Verdict) → check_records s v ≡ Refused (refusal.Checksum x)
+  sum_given : (x : ℕ) → Reason s (refusal.Checksum x) → (v : Result ⊤ Refusal) → check_records s v ≡ Err (refusal.Checksum x)
   unfolding check_records unless checksum_fault first_wrong right_of
   sum_given x h v = rw (whole_chain s (records s) h.0.1, wrong_first (checksum_right s) (16 ∷ records s) x h.1)
 
-  body_given : (x : ℕ) → Reason s (refusal.Body x) → (v : Verdict) → check_records s v ≡ Refused (refusal.Body x)
+  body_given : (x : ℕ) → Reason s (refusal.Body x) → (v : Result ⊤ Refusal) → check_records s v ≡ Err (refusal.Body x)
   unfolding check_records unless body_fault first_wrong right_of
   body_given x h v = rw (whole_chain s (records s) h.0.0.1, no_sum h.0, wrong_first (body_right s) (records s) x h.1)
 
-  bodies_behind : Bodied s → (v : Verdict) → check_records s v ≡ v
+  bodies_behind : Bodied s → (v : Result ⊤ Refusal) → check_records s v ≡ v
   unfolding check_records unless
   bodies_behind h v = rw (whole_chain s (records s) h.0.0.1, no_sum h.0, no_body h)
 
-  directory_given : Reason s refusal.Directory → check_directories s ≡ Refused refusal.Directory
+  directory_given : Reason s refusal.Directory → check_directories s ≡ Err refusal.Directory
   unfolding check_directories gate
   directory_given h = rw h.1
 
-  given_by : (r : Refusal) → Reason s r → check s ≡ Refused r
+  given_by : (r : Refusal) → Reason s r → check s ≡ Err r
   unfolding check check_from_records check_header stages first_two next_two gate unless_refused
   given_by refusal.Identification h = rw h
   given_by refusal.Version h = rw (h.0, h.1)
@@ -166,7 +163,7 @@ module _ (s : List ℕ) where
   given_by refusal.NotOpen h = absurd h
   given_by refusal.Incomplete h = absurd h
 
-told_as : (s : List ℕ) (v : Verdict) (r : Refusal) → v ≡ Refused r → Told s v → Reason s r
+told_as : (s : List ℕ) (v : Result ⊤ Refusal) (r : Refusal) → v ≡ Err r → Told s v → Reason s r
 told_as s v r e h = rw e at h
 
 pub refused_exactly : RefusedExactly
@@ -174,27 +171,27 @@ refused_exactly s r = (λ e. told_as s (check s) r e (told s), given_by s r)
 
 -- without stage 9: by the reason
 
-to_bodies_passes : (s : List ℕ) → Closed s → check_to_bodies s ≡ check_records s Accepted
+to_bodies_passes : (s : List ℕ) → Closed s → check_to_bodies s ≡ check_records s (Ok tt)
 unfolding check_to_bodies check_header stages first_two next_two gate unless_refused
 to_bodies_passes s h = rw (h.0.0.0.0, h.0.0.0.1, h.0.0.1, h.0.1, h.1)
 
-bodies_pass : (s : List ℕ) → Bodied s → check_to_bodies s ≡ Accepted
-bodies_pass s h = to_bodies_passes s h.0.0.0 ∙ bodies_behind s h Accepted
+bodies_pass : (s : List ℕ) → Bodied s → check_to_bodies s ≡ Ok tt
+bodies_pass s h = to_bodies_passes s h.0.0.0 ∙ bodies_behind s h (Ok tt)
 
 -- any other refusal is that of stages 1 to 8
-module _ (s : List ℕ) (r : Refusal) (n : r ≡ refusal.Directory → ⊥) (e : check s ≡ Refused r) where
-  directories_not : (b : Bool) → gate b refusal.Directory Accepted ≡ Refused r → check_to_bodies s ≡ Refused r
+module _ (s : List ℕ) (r : Refusal) (n : r ≡ refusal.Directory → ⊥) (e : check s ≡ Err r) where
+  directories_not : (b : Bool) → gate b refusal.Directory (Ok tt) ≡ Err r → check_to_bodies s ≡ Err r
   unfolding gate
   directories_not true q = refused_not (sym q)
   directories_not false q = absurd (n (sym (refused_is q)))
 
-  bodies_refuse : check_to_bodies s ≡ Refused r
+  bodies_refuse : check_to_bodies s ≡ Err r
   unfolding unless_refused check_directories
   bodies_refuse = go (check_to_bodies s) refl (sym (bodies_then s) ∙ e)
     where
-      go : (v : Verdict) → check_to_bodies s ≡ v → unless_refused Refused v (check_directories s) ≡ Refused r → check_to_bodies s ≡ Refused r
-      go Accepted k q = directories_not (directories_right s) q
-      go (Refused x) k q = k ∙ q
+      go : (v : Result ⊤ Refusal) → check_to_bodies s ≡ v → unless_refused Err v (check_directories s) ≡ Err r → check_to_bodies s ≡ Err r
+      go (Ok accepted) k q = directories_not (directories_right s) q
+      go (Err x) k q = k ∙ q
 
 pub to_bodies_exactly : ToBodiesExactly
 to_bodies_exactly s =

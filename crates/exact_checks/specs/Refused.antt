@@ -1,10 +1,9 @@
 -- Document 01: "A check runs stages 1 to 9 in this order, each over the whole file before the next." Each refusal with the facts on which it
 -- stands: the stages before it pass and its own fails, at the first record where it does.
-use Rattle.std.specs.Prelude.{ℕ, ◌≡◌, Bool, true, false, length}
+use Rattle.std.specs.Prelude.{ℕ, ◌≡◌, Bool, true, false, length, Err, Ok}
 use mathlib.Core.List.{List, ◌∷◌, ◌++◌, Memᴰ}
 use Rattle.answer.specs.declared.Refusal.{Refusal}
 use Rattle.answer.specs.declared.Refusal.TheVariants as refusal
-use Rattle.answer.specs.declared.Verdict.TheVariants.{Accepted, Refused}
 use Rattle.record.specs.Chain.{header_end, records, Whole}
 use Rattle.check_header.specs.Identification.{identified, version_right}
 use Rattle.check_header.specs.HeaderRecord.{header_right}
@@ -69,13 +68,13 @@ Reason s refusal.NotOpen = ⊥
 Reason s refusal.Incomplete = ⊥
 
 abbrev pub RefusedExactly : Type 0
-RefusedExactly = (s : List ℕ) (r : Refusal) → (check s ≡ Refused r → Reason s r) × (Reason s r → check s ≡ Refused r)
+RefusedExactly = (s : List ℕ) (r : Refusal) → (check s ≡ Err r → Reason s r) × (Reason s r → check s ≡ Err r)
 
 -- the walk without stage 9: "its refusal of the check is then that of stages 1 to 8", whatever the directories hold
 pub record WithoutNine (s : List ℕ) : Type 0 where
-  pub accepted : check s ≡ Accepted → check_to_bodies s ≡ Accepted
-  pub directory : check s ≡ Refused refusal.Directory → check_to_bodies s ≡ Accepted
-  pub refused : (r : Refusal) → (r ≡ refusal.Directory → ⊥) → check s ≡ Refused r → check_to_bodies s ≡ Refused r
+  pub accepted : check s ≡ Ok tt → check_to_bodies s ≡ Ok tt
+  pub directory : check s ≡ Err refusal.Directory → check_to_bodies s ≡ Ok tt
+  pub refused : (r : Refusal) → (r ≡ refusal.Directory → ⊥) → check s ≡ Err r → check_to_bodies s ≡ Err r
 
 abbrev pub ToBodiesExactly : Type 0
 ToBodiesExactly = (s : List ℕ) → WithoutNine s

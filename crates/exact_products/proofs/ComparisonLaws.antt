@@ -1,4 +1,6 @@
 -- Req 09 and Req 10: when two cells differ, and what an entry of the list says. Assumes nothing.
+use Rattle.std.specs.Prelude.{Result}
+use Rattle.answer.specs.declared.Refusal.{Refusal}
 use mathlib.Core.Path.{◌≡◌, refl, sym, ap, ◌∙◌}
 use mathlib.Core.Logic.{◌⊎◌, inl, inr, ⊎_elim}
 use mathlib.Core.List.{[], ◌∷◌}
@@ -16,11 +18,11 @@ use Rattle.exact_products.specs.Comparisons.{IsHeld, DifferExactly, ListedWhere}
 
 -- the kind that is compared
 
-held_kind_lem : (x : Cell) → IsHeld x → compared_kind x ≡ 32
+held_kind_lem : (x : Result Cell Refusal) → IsHeld x → compared_kind x ≡ 32
 unfolding compared_kind
 held_kind_lem x h = ⊎_elim (λ e. rw e refl) (λ e. rw e refl) h
 
-kind_held : (x : Cell) → (cell_kind x ≡ 34) ⊎ (compared_kind x ≡ cell_kind x)
+kind_held : (x : Result Cell Refusal) → (cell_kind x ≡ 34) ⊎ (compared_kind x ≡ cell_kind x)
 unfolding compared_kind
 kind_held x = go (eqb (cell_kind x) 34) refl
   where
@@ -28,7 +30,7 @@ kind_held x = go (eqb (cell_kind x) 34) refl
     go true e = inl (eqb-true (cell_kind x) 34 e)
     go false e = inr (rw e)
 
-module _ (x y : Cell) where
+module _ (x y : Result Cell Refusal) where
   same_compared : (IsHeld x × IsHeld y) ⊎ (cell_kind x ≡ cell_kind y) → compared_kind x ≡ compared_kind y
   unfolding compared_kind
   same_compared h = ⊎_elim (λ p. held_kind_lem x p.0 ∙ sym (held_kind_lem y p.1)) (λ e. rw e) h

@@ -1,4 +1,6 @@
 -- Req 07: what is not refused is graded. Assumes nothing.
+use Rattle.std.specs.Prelude.{Err, Ok, Result, Some, None}
+use Rattle.answer.specs.declared.Refusal.{Refusal}
 use Prim.Native.Nat.{ℕ, suc, ◌+◌, ◌-◌, ◌%◌, ◌≤◌, ◌<◌}
 use mathlib.Core.Path.{◌≡◌, refl, sym, ap, ◌∙◌}
 use mathlib.Core.List.{List}
@@ -12,7 +14,6 @@ use Rattle.wire.specs.Tests.{passes}
 use Rattle.wire.proofs.TestLaws.{yes, no}
 use Rattle.answer.specs.declared.Cell.{Cell}
 use native.Mathlib.Omega.{arith}
-use Rattle.answer.specs.declared.Verdict.TheVariants as verdict
 use Rattle.answer.specs.Refusals.{unless_refused}
 use Rattle.answer.specs.Answers.{cell_kind, cell_bits, cell_verdict}
 use Rattle.store.specs.Face.{check, meaning}
@@ -22,7 +23,6 @@ use Rattle.score_rule.specs.declared.Said.TheVariants.{First, Second, Wrong}
 use Rattle.score_rule.specs.Rules.{page_says}
 use Rattle.blocks.proofs.InsideLaws.{inside_none}
 use Rattle.deeds.specs.Deeds.{is_fill, is_stored, minus_one, counts_as_fill, is_scored, score_of, refusal_in, graded, deed_by, cells_of, deed_said}
-use Rattle.deeds.specs.declared.Lowest.TheVariants.{Score, None}
 use Rattle.deeds.proofs.PieceLaws.{verdicts}
 use Rattle.deeds.proofs.DeedLaws.{all_scored, deed_scored, deed_inside}
 use Rattle.exact_products.specs.Deeds.{IsGraded, DeedGiven, ScoresExactly}
@@ -30,13 +30,13 @@ use Rattle.exact_products.specs.Comparisons.{IsHeld}
 
 module _ (s : List ℕ) (ci e row column rows columns : ℕ) where
   none_refused :
-      ((r c : ℕ) → r < rows → c < columns → cell_verdict (meaning s ci (row + r) (column + c) e) ≡ verdict.Accepted) →
-      refusal_in 0 rows 0 columns (cells_of s ci e row column) ≡ verdict.Accepted
+      ((r c : ℕ) → r < rows → c < columns → cell_verdict (meaning s ci (row + r) (column + c) e) ≡ Ok tt) →
+      refusal_in 0 rows 0 columns (cells_of s ci e row column) ≡ Ok tt
   unfolding refusal_in cells_of
-  none_refused f = inside_none (unless_refused verdict.Refused) verdict.Accepted verdicts 0 rows 0 columns _ (λ r c h. f r c (omega arith) (omega arith))
+  none_refused f = inside_none (unless_refused Err) (Ok tt) verdicts 0 rows 0 columns _ (λ r c h. f r c (omega arith) (omega arith))
 
   said_graded :
-      (y : Said) → (y ≡ Wrong → ⊥) → refusal_in 0 rows 0 columns (cells_of s ci e row column) ≡ verdict.Accepted → IsGraded (deed_said y rows columns (cells_of s ci e row column))
+      (y : Said) → (y ≡ Wrong → ⊥) → refusal_in 0 rows 0 columns (cells_of s ci e row column) ≡ Ok tt → IsGraded (deed_said y rows columns (cells_of s ci e row column))
   unfolding deed_said deed_by graded unless_refused
   said_graded First h q = rw q (record { rule = _; grade = _; fills = _; lowest = _; is = refl })
   said_graded Second h q = rw q (record { rule = _; grade = _; fills = _; lowest = _; is = refl })
@@ -53,19 +53,19 @@ deed_given s ci e row column rows columns a h k l m n t w f =
 
 -- what a cell counts as
 
-stored_is : (x : Cell) → IsHeld x → is_stored x ≡ true
+stored_is : (x : Result Cell Refusal) → IsHeld x → is_stored x ≡ true
 unfolding is_stored
 stored_is x h = ⊎_elim (λ e. rw e refl) (λ e. rw e refl) h
 
-minus_is : (x : Cell) → cell_bits x ≡ 65535 → minus_one x ≡ true
+minus_is : (x : Result Cell Refusal) → cell_bits x ≡ 65535 → minus_one x ≡ true
 unfolding minus_one
 minus_is x e = sym (yes _ (omega arith, tt))
 
-minus_not : (x : Cell) → cell_bits x < 65535 → minus_one x ≡ false
+minus_not : (x : Result Cell Refusal) → cell_bits x < 65535 → minus_one x ≡ false
 unfolding minus_one
 minus_not x h = sym (no _ (λ p. omega (arith, p.0)))
 
-module _ (x : Cell) where
+module _ (x : Result Cell Refusal) where
   is_fill_lem : cell_kind x ≡ 33 → (counts_as_fill x ≡ true) × ((is_scored x ≡ false) × (score_of x ≡ None))
   unfolding counts_as_fill is_scored score_of is_stored is_fill passes
   is_fill_lem e = rw e (refl, (refl, refl))
@@ -76,9 +76,9 @@ module _ (x : Cell) where
 
   is_score :
       IsHeld x → cell_bits x < 65535 → (z : ℤ) → to_z w16 (cell_bits x % 65536) ≡ z →
-      (counts_as_fill x ≡ false) × ((is_scored x ≡ true) × (score_of x ≡ Score z))
+      (counts_as_fill x ≡ false) × ((is_scored x ≡ true) × (score_of x ≡ Some z))
   unfolding counts_as_fill is_scored score_of
-  is_score h l z e = rw (stored_is x h, minus_not x l) (refl, (refl, ap Score e))
+  is_score h l z e = rw (stored_is x h, minus_not x l) (refl, (refl, ap Some e))
 
   low : cell_bits x < 32768 → to_z w16 (cell_bits x % 65536) ≡ pos (cell_bits x)
   low h = let z : cell_bits x % 65536 ≡ cell_bits x = omega arith in ap (to_z w16) z ∙ to_z_pos w16 h

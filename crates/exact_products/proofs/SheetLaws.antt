@@ -1,4 +1,5 @@
 -- Req 13: a score sheet moved in and a page moved out: the refusals in their order. Assumes nothing.
+use Rattle.std.specs.Prelude.{Err, Ok, Result, ⊤}
 use Prim.Native.Nat.{ℕ, ◌+◌, ◌*◌, ◌≤◌, ◌<◌}
 use mathlib.Core.Path.{◌≡◌, refl, sym, ap, ◌∙◌}
 use mathlib.Core.Logic.{◌⊎◌, ⊎_elim}
@@ -12,9 +13,6 @@ use Rattle.wire.specs.Tests.{◌≤?◌}
 use Rattle.wire.proofs.TestLaws.{means, yes, no}
 use Rattle.answer.specs.declared.Refusal.{Refusal}
 use Rattle.answer.specs.declared.Refusal.TheVariants.{Input}
-use Rattle.answer.specs.declared.Verdict.{Verdict}
-use Rattle.answer.specs.declared.Verdict.TheVariants as verdict
-use Rattle.answer.specs.declared.Laid.TheVariants.{Length}
 use Rattle.answer.specs.Refusals.{gate, unless_refused}
 use Rattle.answer.specs.Answers.{cell_kind, cell_bits, cell_verdict}
 use Rattle.geometry.specs.Tiles.{cell_tile}
@@ -64,7 +62,7 @@ sheet_in_exactly f t d room =
 
 -- a tile of the page that a sheet becomes
 
-module _ (f : List ℕ) (t : ℕ) (d : List ℕ) (room n k : ℕ) (u : Bytes f) (v : Bytes d) (e : sheet_laid f t d room ≡ Length n) (row column : ℕ) (r : row < sheet_rows d) (c : column < sheet_columns d) where
+module _ (f : List ℕ) (t : ℕ) (d : List ℕ) (room n k : ℕ) (u : Bytes f) (v : Bytes d) (e : sheet_laid f t d room ≡ Ok n) (row column : ℕ) (r : row < sheet_rows d) (c : column < sheet_columns d) where
   abbrev kind : ℕ
   kind = cell_kind (meaning (sheet_file f t d) k row column 0)
 
@@ -129,35 +127,35 @@ score_no : (v : ℕ) → 1000 < v → (v ≡ unread → ⊥) → score_right v �
 unfolding score_right
 score_no v h e = rw (lt-leb v 1000 h, ne_eqb v unread e)
 
-stays : (r : Refusal) (y : Verdict) → unless_refused verdict.Refused (verdict.Refused r) y ≡ verdict.Refused r
+stays : (r : Refusal) (y : Result ⊤ Refusal) → unless_refused Err (Err r) y ≡ Err r
 unfolding unless_refused
 stays r y = refl
 
 module _ (s : List ℕ) (k : ℕ) where
-  fine_cell : (r c : ℕ) → CellFine s k r c → fault (score_cell s k r c) ≡ verdict.Accepted
+  fine_cell : (r c : ℕ) → CellFine s k r c → fault (score_cell s k r c) ≡ Ok tt
   unfolding fault score_cell gate unless_refused
   fine_cell r c h = rw (h.0, score_yes _ h.1)
 
-  unread_cell : (r c : ℕ) (x : Refusal) → cell_verdict (meaning s k r c 0) ≡ verdict.Refused x → fault (score_cell s k r c) ≡ verdict.Refused x
+  unread_cell : (r c : ℕ) (x : Refusal) → cell_verdict (meaning s k r c 0) ≡ Err x → fault (score_cell s k r c) ≡ Err x
   unfolding fault score_cell unless_refused
   unread_cell r c x e = rw e
 
   wrong_cell :
-      (r c : ℕ) → cell_verdict (meaning s k r c 0) ≡ verdict.Accepted → 1000 < cell_bits (meaning s k r c 0) → (cell_bits (meaning s k r c 0) ≡ unread → ⊥) →
-      fault (score_cell s k r c) ≡ verdict.Refused Input
+      (r c : ℕ) → cell_verdict (meaning s k r c 0) ≡ Ok tt → 1000 < cell_bits (meaning s k r c 0) → (cell_bits (meaning s k r c 0) ≡ unread → ⊥) →
+      fault (score_cell s k r c) ≡ Err Input
   unfolding fault score_cell gate unless_refused
   wrong_cell r c e h f = rw (e, score_no _ h f)
 
-  all_fine : ((r c : ℕ) → r < grid_rows s → c < grid_columns s → CellFine s k r c) → fault_in 0 (grid_rows s) 0 (grid_columns s) (score_cell s k) ≡ verdict.Accepted
+  all_fine : ((r c : ℕ) → r < grid_rows s → c < grid_columns s → CellFine s k r c) → fault_in 0 (grid_rows s) 0 (grid_columns s) (score_cell s k) ≡ Ok tt
   unfolding fault_in
-  all_fine f = inside_none (unless_refused verdict.Refused) verdict.Accepted verdicts 0 (grid_rows s) 0 (grid_columns s) _ (λ r c h. fine_cell r c (f r c (omega arith) (omega arith)))
+  all_fine f = inside_none (unless_refused Err) (Ok tt) verdicts 0 (grid_rows s) 0 (grid_columns s) _ (λ r c h. fine_cell r c (f r c (omega arith) (omega arith)))
 
   first_fault_lem :
-      (r c : ℕ) → r < grid_rows s → c < grid_columns s → FineBefore s k r c → (x : Refusal) → fault (score_cell s k r c) ≡ verdict.Refused x →
-      fault_in 0 (grid_rows s) 0 (grid_columns s) (score_cell s k) ≡ verdict.Refused x
+      (r c : ℕ) → r < grid_rows s → c < grid_columns s → FineBefore s k r c → (x : Refusal) → fault (score_cell s k r c) ≡ Err x →
+      fault_in 0 (grid_rows s) 0 (grid_columns s) (score_cell s k) ≡ Err x
   unfolding fault_in
   first_fault_lem r c h i b x q =
-      inside_first_at (unless_refused verdict.Refused) verdict.Accepted verdicts 0 (grid_rows s) 0 (grid_columns s) _ r c (verdict.Refused x) q
+      inside_first_at (unless_refused Err) (Ok tt) verdicts 0 (grid_rows s) 0 (grid_columns s) _ r c (Err x) q
       (λ i j g. fine_cell i j (b.0 i j (omega arith) (omega arith))) (λ j l w. fine_cell r j (b.1 j w)) (stays x) (omega arith)
 
 pub sheet_out_exactly : SheetOutExactly

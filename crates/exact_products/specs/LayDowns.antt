@@ -1,10 +1,8 @@
 -- Document 01, 'Laying down a page': what a lay-down answers, exactly. f is the front, t the time, ix the indexes, c the cell bytes, room the
 -- buffer's length.
-use Rattle.std.specs.Prelude.{ℕ, ◌*◌, ◌≤◌, ◌<◌, ◌≡◌, List, length, get_or}
+use Rattle.std.specs.Prelude.{ℕ, ◌*◌, ◌≤◌, ◌<◌, ◌≡◌, List, length, get_or, Err, Ok}
 use Rattle.answer.specs.declared.Refusal.{Refusal}
 use Rattle.answer.specs.declared.Refusal.TheVariants.{Ceiling, Input, Room}
-use Rattle.answer.specs.declared.Verdict.TheVariants as verdict
-use Rattle.answer.specs.declared.Laid.TheVariants.{Length, Refused}
 use Rattle.geometry.specs.Tiles.{tile_count}
 use Rattle.geometry.specs.Sizes.{tile_bytes}
 use Rattle.check_header.specs.Stages.{check_front}
@@ -23,14 +21,14 @@ pub record GivenRight (f : List ℕ) (t : ℕ) (ix c : List ℕ) : Type 0 where
 -- the front's refusal before it; "Then 4 if the file would pass its ceiling. Then 13 exactly if the buffer is shorter than the file"; by nothing
 -- else is it refused
 pub record LaidBy (f : List ℕ) (t : ℕ) (ix c : List ℕ) (room : ℕ) : Type 0 where
-  pub front : (r : Refusal) → check_front f ≡ verdict.Refused r → laid f t ix c room ≡ Refused r
-  pub given_wrong : check_front f ≡ verdict.Accepted → (GivenRight f t ix c → ⊥) → laid f t ix c room ≡ Refused Input
-  pub ceiling : check_front f ≡ verdict.Accepted → GivenRight f t ix c → most_file_bytes < file_length f ix → laid f t ix c room ≡ Refused Ceiling
+  pub front : (r : Refusal) → check_front f ≡ Err r → laid f t ix c room ≡ Err r
+  pub given_wrong : check_front f ≡ Ok tt → (GivenRight f t ix c → ⊥) → laid f t ix c room ≡ Err Input
+  pub ceiling : check_front f ≡ Ok tt → GivenRight f t ix c → most_file_bytes < file_length f ix → laid f t ix c room ≡ Err Ceiling
   pub short :
-      check_front f ≡ verdict.Accepted → GivenRight f t ix c → file_length f ix ≤ most_file_bytes → room < file_length f ix → laid f t ix c room ≡ Refused Room
+      check_front f ≡ Ok tt → GivenRight f t ix c → file_length f ix ≤ most_file_bytes → room < file_length f ix → laid f t ix c room ≡ Err Room
   pub done :
-      check_front f ≡ verdict.Accepted → GivenRight f t ix c → file_length f ix ≤ most_file_bytes → file_length f ix ≤ room →
-      laid f t ix c room ≡ Length (file_length f ix)
+      check_front f ≡ Ok tt → GivenRight f t ix c → file_length f ix ≤ most_file_bytes → file_length f ix ≤ room →
+      laid f t ix c room ≡ Ok (file_length f ix)
 
 abbrev pub LaidExactly : Type 0
 LaidExactly = (f : List ℕ) (t : ℕ) (ix c : List ℕ) (room : ℕ) → LaidBy f t ix c room

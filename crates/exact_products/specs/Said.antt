@@ -1,7 +1,6 @@
 -- What some pages say of themselves, by computing. The definitions are of any bytes: not every page here is one that the check accepts.
-use Rattle.std.specs.Prelude.{ℕ, ◌≡◌, List, [], ◌∷◌}
+use Rattle.std.specs.Prelude.{ℕ, ◌≡◌, List, [], ◌∷◌, None, Some}
 use Rattle.wire.specs.Bytes.{put}
-use Rattle.record.specs.declared.Found.TheVariants.{At, Nothing}
 use Rattle.exact_cells.specs.PackedPage.{packed_file}
 use Rattle.check_samples.specs.Rows.{ruled}
 use Rattle.page_samples.specs.Pages.{order, coded}
@@ -56,9 +55,9 @@ pub record SaidSo : Type 0 where
   -- start, name, ID, type, content and description
   pub bare : item_numbers (metadata_says ruled) 9 0 (metadata_records ruled) 9 ≡ 400 ∷ 410 ∷ 10 ∷ 2 ∷ 0 ∷ 429 ∷ 0 ∷ 431 ∷ 0 ∷ []
   pub whole : metadata_says with_texts 400 ≡ 400 ∷ 410 ∷ 10 ∷ 2 ∷ 0 ∷ 429 ∷ 2 ∷ 433 ∷ 1 ∷ []
-  pub found : metadata_number ruled rule_name 2 ≡ At 0
-  pub other_id_lem : metadata_number ruled rule_name 1 ≡ Nothing
-  pub other_name : metadata_number ruled other_case 2 ≡ Nothing
+  pub found : metadata_number ruled rule_name 2 ≡ Some 0
+  pub other_id_lem : metadata_number ruled rule_name 1 ≡ None
+  pub other_name : metadata_number ruled other_case 2 ≡ None
   -- place and length of each name
   pub methods : item_numbers (method_says with_methods) 2 0 (method_indexes with_methods) 4 ≡ 354 ∷ 3 ∷ 359 ∷ 0 ∷ []
   pub page :

@@ -1,7 +1,6 @@
 -- Req 13, a sample: a score sheet of one row and two columns, 900 and -1, moved into a page and out again.
-use Rattle.std.specs.Prelude.{ℕ, ◌≡◌, List, [], ◌∷◌, ◌++◌, replicate}
+use Rattle.std.specs.Prelude.{ℕ, ◌≡◌, List, [], ◌∷◌, ◌++◌, replicate, Err, Ok}
 use Rattle.answer.specs.declared.Refusal.TheVariants.{Input, Room}
-use Rattle.answer.specs.declared.Laid.TheVariants.{Length, Refused}
 use Rattle.lay_down.specs.Sheet.{sheet_laid, sheet_file}
 use Rattle.sheets.specs.Back.{sheet_of, sheet_back}
 use Rattle.small_pages.specs.Pages.{full_file}
@@ -34,12 +33,12 @@ score_page =
 
 pub record SheetSo : Type 0 where
   -- in: 12 of the time before 13, and a buffer of just the file's length
-  pub no_time : sheet_laid front 0 sheet 407 ≡ Refused Input
-  pub short : sheet_laid front 5 sheet 407 ≡ Refused Room
-  pub laid : sheet_laid front 5 sheet 408 ≡ Length 408
+  pub no_time : sheet_laid front 0 sheet 407 ≡ Err Input
+  pub short : sheet_laid front 5 sheet 407 ≡ Err Room
+  pub laid : sheet_laid front 5 sheet 408 ≡ Ok 408
   pub file : sheet_file front 5 sheet ≡ score_page
   -- out: 13, just enough, and the same bytes; a page of two elements is 12
-  pub short_out : sheet_back score_page 0 12 ≡ Refused Room
-  pub back : sheet_back score_page 0 13 ≡ Length 13
+  pub short_out : sheet_back score_page 0 12 ≡ Err Room
+  pub back : sheet_back score_page 0 13 ≡ Ok 13
   pub same : sheet_of score_page 0 ≡ sheet
-  pub two_elements : sheet_back full_file 0 13 ≡ Refused Input
+  pub two_elements : sheet_back full_file 0 13 ≡ Err Input

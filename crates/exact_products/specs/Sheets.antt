@@ -1,10 +1,8 @@
 -- Req 13: a score sheet moved in and a page moved out: the refusals in their order, and that what is not refused is done.
-use Rattle.std.specs.Prelude.{ℕ, ◌+◌, ◌*◌, ◌≤◌, ◌<◌, ◌≡◌, ◌⊎◌, List, true, false}
+use Rattle.std.specs.Prelude.{ℕ, ◌+◌, ◌*◌, ◌≤◌, ◌<◌, ◌≡◌, ◌⊎◌, List, true, false, Err, Ok}
 use Rattle.wire.specs.Bytes.{Bytes}
 use Rattle.answer.specs.declared.Refusal.{Refusal}
 use Rattle.answer.specs.declared.Refusal.TheVariants.{Input, Room}
-use Rattle.answer.specs.declared.Verdict.TheVariants as verdict
-use Rattle.answer.specs.declared.Laid.TheVariants.{Length, Refused}
 use Rattle.answer.specs.Answers.{cell_kind, cell_bits, cell_verdict}
 use Rattle.geometry.specs.Tiles.{cell_tile}
 use Rattle.check_header.specs.Stages.{check_front}
@@ -31,11 +29,11 @@ pub record FrontOf (f d : List ℕ) : Type 0 where
 -- "A bad sheet or front is 12 once the front has passed its own stages. Then the lay-down's refusals in its order": then the answer is
 -- that of a lay-down of the sheet's tiles
 pub record InExactly (f : List ℕ) (t : ℕ) (d : List ℕ) (room : ℕ) : Type 0 where
-  pub front : (r : Refusal) → check_front f ≡ verdict.Refused r → sheet_laid f t d room ≡ Refused r
-  pub bad_sheet : check_front f ≡ verdict.Accepted → sheet_right d ≡ false → sheet_laid f t d room ≡ Refused Input
-  pub bad_front : check_front f ≡ verdict.Accepted → sheet_right d ≡ true → (FrontOf f d → ⊥) → sheet_laid f t d room ≡ Refused Input
+  pub front : (r : Refusal) → check_front f ≡ Err r → sheet_laid f t d room ≡ Err r
+  pub bad_sheet : check_front f ≡ Ok tt → sheet_right d ≡ false → sheet_laid f t d room ≡ Err Input
+  pub bad_front : check_front f ≡ Ok tt → sheet_right d ≡ true → (FrontOf f d → ⊥) → sheet_laid f t d room ≡ Err Input
   pub laid_down :
-      check_front f ≡ verdict.Accepted → sheet_right d ≡ true → FrontOf f d → sheet_laid f t d room ≡ laid f t (kept_tiles f d) (sheet_cells f d) room
+      check_front f ≡ Ok tt → sheet_right d ≡ true → FrontOf f d → sheet_laid f t d room ≡ laid f t (kept_tiles f d) (sheet_cells f d) room
 
 abbrev pub SheetInExactly : Type 0
 SheetInExactly = (f : List ℕ) (t : ℕ) (d : List ℕ) (room : ℕ) → InExactly f t d room
@@ -48,7 +46,7 @@ AllUnread f d row column =
 -- "tiles all -1 stay absent", and no other: in the page that it becomes, a cell is fill there, and stored else
 abbrev pub SheetKinds : Type 0
 SheetKinds =
-    (f : List ℕ) (t : ℕ) (d : List ℕ) (room n k : ℕ) → Bytes f → Bytes d → sheet_laid f t d room ≡ Length n → (row column : ℕ) → row < sheet_rows d →
+    (f : List ℕ) (t : ℕ) (d : List ℕ) (room n k : ℕ) → Bytes f → Bytes d → sheet_laid f t d room ≡ Ok n → (row column : ℕ) → row < sheet_rows d →
     column < sheet_columns d →
     (AllUnread f d row column → cell_kind (meaning (sheet_file f t d) k row column 0) ≡ 33)
     × ((AllUnread f d row column → ⊥) → cell_kind (meaning (sheet_file f t d) k row column 0) ≡ 32)
@@ -65,7 +63,7 @@ pub record GoesOut (s : List ℕ) : Type 0 where
 -- a grid cell that can go out: readable, and from -1 to 1000
 abbrev pub CellFine : List ℕ → ℕ → ℕ → ℕ → Type 0
 CellFine s k r c =
-    (cell_verdict (meaning s k r c 0) ≡ verdict.Accepted) × ((cell_bits (meaning s k r c 0) ≤ 1000) ⊎ (cell_bits (meaning s k r c 0) ≡ 65535))
+    (cell_verdict (meaning s k r c 0) ≡ Ok tt) × ((cell_bits (meaning s k r c 0) ≤ 1000) ⊎ (cell_bits (meaning s k r c 0) ≡ 65535))
 
 -- every cell before one, by rows, can
 abbrev pub FineBefore : List ℕ → ℕ → ℕ → ℕ → Type 0
@@ -74,21 +72,21 @@ FineBefore s k r c = ((i j : ℕ) → i < r → j < grid_columns s → CellFine 
 -- "the check's refusals, then 12 ..; then the first grid cell by rows that is 11, 14 or, outside -1 to 1000, 12; then 13 exactly if the
 -- sheet's buffer is too short"
 pub record OutExactly (s : List ℕ) (k room : ℕ) : Type 0 where
-  pub checked : (r : Refusal) → check s ≡ verdict.Refused r → sheet_back s k room ≡ Refused r
-  pub page : check s ≡ verdict.Accepted → (GoesOut s → ⊥) → sheet_back s k room ≡ Refused Input
+  pub checked : (r : Refusal) → check s ≡ Err r → sheet_back s k room ≡ Err r
+  pub page : check s ≡ Ok tt → (GoesOut s → ⊥) → sheet_back s k room ≡ Err Input
   pub unread :
-      check s ≡ verdict.Accepted → GoesOut s → (r c : ℕ) → r < grid_rows s → c < grid_columns s → FineBefore s k r c → (x : Refusal) →
-      cell_verdict (meaning s k r c 0) ≡ verdict.Refused x → sheet_back s k room ≡ Refused x
+      check s ≡ Ok tt → GoesOut s → (r c : ℕ) → r < grid_rows s → c < grid_columns s → FineBefore s k r c → (x : Refusal) →
+      cell_verdict (meaning s k r c 0) ≡ Err x → sheet_back s k room ≡ Err x
   pub no_score :
-      check s ≡ verdict.Accepted → GoesOut s → (r c : ℕ) → r < grid_rows s → c < grid_columns s → FineBefore s k r c →
-      cell_verdict (meaning s k r c 0) ≡ verdict.Accepted → 1000 < cell_bits (meaning s k r c 0) → (cell_bits (meaning s k r c 0) ≡ 65535 → ⊥) →
-      sheet_back s k room ≡ Refused Input
+      check s ≡ Ok tt → GoesOut s → (r c : ℕ) → r < grid_rows s → c < grid_columns s → FineBefore s k r c →
+      cell_verdict (meaning s k r c 0) ≡ Ok tt → 1000 < cell_bits (meaning s k r c 0) → (cell_bits (meaning s k r c 0) ≡ 65535 → ⊥) →
+      sheet_back s k room ≡ Err Input
   pub short :
-      check s ≡ verdict.Accepted → GoesOut s → ((r c : ℕ) → r < grid_rows s → c < grid_columns s → CellFine s k r c) →
-      room < 9 + 2 * (grid_rows s * grid_columns s) → sheet_back s k room ≡ Refused Room
+      check s ≡ Ok tt → GoesOut s → ((r c : ℕ) → r < grid_rows s → c < grid_columns s → CellFine s k r c) →
+      room < 9 + 2 * (grid_rows s * grid_columns s) → sheet_back s k room ≡ Err Room
   pub out :
-      check s ≡ verdict.Accepted → GoesOut s → ((r c : ℕ) → r < grid_rows s → c < grid_columns s → CellFine s k r c) →
-      9 + 2 * (grid_rows s * grid_columns s) ≤ room → sheet_back s k room ≡ Length (9 + 2 * (grid_rows s * grid_columns s))
+      check s ≡ Ok tt → GoesOut s → ((r c : ℕ) → r < grid_rows s → c < grid_columns s → CellFine s k r c) →
+      9 + 2 * (grid_rows s * grid_columns s) ≤ room → sheet_back s k room ≡ Ok (9 + 2 * (grid_rows s * grid_columns s))
 
 abbrev pub SheetOutExactly : Type 0
 SheetOutExactly = (s : List ℕ) (k room : ℕ) → OutExactly s k room

@@ -8,24 +8,23 @@ ghost use Rattle.std.specs.Prelude.{◌≡◌};
 ghost use Rattle.store.specs.Face.{read_meaning};
 ghost use Rattle.deeds.specs.Deeds.{deed};
 
-use answer::{Cell, Content, Location, Lookup, Refusal};
-use deeds::{Deed, Grade, Lowest};
+use answer::{Cell, Extent, Location, Refusal};
+use deeds::{Deed, Grade};
 use std::io::Read;
 use std::rt::Files;
 use std::{env, fs, io};
 use store::description;
-use store::description::{Described, Specified};
 
 // A cell of element 0. It is proved that by the walk and by the directory this is what the bytes mean, or why they are refused. Compressed
 // content is unpacked only where it has the compressor index that is named, here 256, which none has.
-fn cell(file: &[u8], row: u64, column: u64, walk: bool) -> Cell
+fn cell(file: &[u8], row: u64, column: u64, walk: bool) -> Result<Cell, Refusal>
     ensures { result ≡ read_meaning file.now 256 row column 0 }
 {
     store::cell_of(file, 256, row, column, 0, walk)
 }
 
 // Whether the scores of element 0 in a rectangle are certain, doubtful or unread. It is proved that this goes by the cells' meaning.
-fn judged(file: &[u8], row: u64, column: u64, rows: u64, columns: u64) -> Deed
+fn judged(file: &[u8], row: u64, column: u64, rows: u64, columns: u64) -> Result<Deed, Refusal>
     ensures { result ≡ deed file.now 256 0 row column rows columns }
 {
     let mut memory = [0u32; 4];
@@ -51,28 +50,23 @@ fn print_grade(rt: &impl Print, x: Grade) -> io::Result<()> {
 }
 
 // The lowest score by its bits.
-fn print_lowest(rt: &impl Print, x: Lowest) -> io::Result<()> {
+fn print_lowest(rt: &impl Print, x: Option<i16>) -> io::Result<()> {
     match x {
-        Lowest::Score(z) => print(rt, ", lowest ", answer::bits_16(z) as u64),
-        Lowest::None => print!(rt; ", no score"),
+        Some(z) => print(rt, ", lowest ", answer::bits_16(z) as u64),
+        None => print!(rt; ", no score"),
     }
 }
 
-fn print_deed(rt: &impl Print, label: &str, x: Deed) -> io::Result<()> {
+fn print_deed(rt: &impl Print, label: &str, x: Result<Deed, Refusal>) -> io::Result<()> {
     print!(rt; "scores of {label}: ")?;
     match x {
-        Deed::Graded {
-            rule,
-            grade,
-            fills,
-            lowest,
-        } => {
-            print_grade(rt, grade)?;
-            print(rt, ", fills ", fills)?;
-            print_lowest(rt, lowest)?;
-            println!(rt; ", scale {}", answer::bits_16(rule.scale))
+        Ok(d) => {
+            print_grade(rt, d.grade)?;
+            print(rt, ", fills ", d.fills)?;
+            print_lowest(rt, d.lowest)?;
+            println!(rt; ", scale {}", answer::bits_16(d.rule.scale))
         }
-        Deed::Refused(r) => print_refusal(rt, r),
+        Err(r) => print_refusal(rt, r),
     }
 }
 
@@ -80,14 +74,14 @@ fn print_deed(rt: &impl Print, label: &str, x: Deed) -> io::Result<()> {
 fn print_tiles(rt: &impl Print, file: &[u8]) -> io::Result<()> {
     print!(rt; "tiles: ")?;
     match description::describe(file) {
-        Described::Page(x) => {
+        Ok(x) => {
             print!(rt; "down {}, across {}", x.tiles_down, x.tiles_across)?;
             println!(rt;
                 ", bytes in each {}, behind a front of {}",
                 x.tile_bytes, x.front
             )
         }
-        Described::Refused(r) => print_refusal(rt, r),
+        Err(r) => print_refusal(rt, r),
     }
 }
 
@@ -95,18 +89,12 @@ fn print_tiles(rt: &impl Print, file: &[u8]) -> io::Result<()> {
 fn print_specification(rt: &impl Print, file: &[u8], e: u64) -> io::Result<()> {
     print!(rt; "element {e}: ")?;
     match description::specify(file, e) {
-        Specified::Element {
-            kind,
-            fill,
-            name,
-            name_length,
-            unit,
-            unit_length,
-        } => {
-            print!(rt; "type {kind}, fill {fill}, name at {name}, bytes {name_length}")?;
-            println!(rt; ", unit at {unit}, bytes {unit_length}")
+        Ok(x) => {
+            print!(rt; "type {}, fill {}", x.kind, x.fill)?;
+            print!(rt; ", name at {}, bytes {}", x.name, x.name_length)?;
+            println!(rt; ", unit at {}, bytes {}", x.unit, x.unit_length)
         }
-        Specified::Refused(r) => print_refusal(rt, r),
+        Err(r) => print_refusal(rt, r),
     }
 }
 
@@ -114,9 +102,9 @@ fn print_specification(rt: &impl Print, file: &[u8], e: u64) -> io::Result<()> {
 fn print_element(rt: &impl Print, file: &[u8], name: &str) -> io::Result<()> {
     print!(rt; "element {name}: ")?;
     match store::find_element(file, name.as_bytes()) {
-        Lookup::Number(e) => println!(rt; "number {e}"),
-        Lookup::Absent => println!(rt; "absent"),
-        Lookup::Refused(r) => print_refusal(rt, r),
+        Ok(Some(e)) => println!(rt; "number {e}"),
+        Ok(None) => println!(rt; "absent"),
+        Err(r) => print_refusal(rt, r),
     }
 }
 
@@ -126,32 +114,36 @@ fn print_location(rt: &impl Print, x: Location) -> io::Result<()> {
 }
 
 // A value by its bits, and a refusal by its number.
-fn print_cell(rt: &impl Print, label: &str, x: Cell) -> io::Result<()> {
+fn print_cell(rt: &impl Print, label: &str, x: Result<Cell, Refusal>) -> io::Result<()> {
     print!(rt; "cell {label}: ")?;
     match x {
-        Cell::Stored {
-            value,
-            place,
-            location,
-        } => {
+        Ok(
+            Cell::Stored {
+                value,
+                place,
+                location,
+            },
+        ) => {
             print(rt, "stored ", answer::value_bits(value) as u64)?;
             print(rt, " at ", place as u64)?;
             print_location(rt, location)
         }
-        Cell::Unpacked {
-            value,
-            place,
-            location,
-        } => {
+        Ok(
+            Cell::Unpacked {
+                value,
+                place,
+                location,
+            },
+        ) => {
             print(rt, "unpacked ", answer::value_bits(value) as u64)?;
             print(rt, " at ", place as u64)?;
             print_location(rt, location)
         }
-        Cell::Fill { value, location } => {
+        Ok(Cell::Fill { value, location }) => {
             print(rt, "fill ", answer::value_bits(value) as u64)?;
             print_location(rt, location)
         }
-        Cell::Refused(r) => print_refusal(rt, r),
+        Err(r) => print_refusal(rt, r),
     }
 }
 
@@ -159,12 +151,12 @@ fn print_cell(rt: &impl Print, label: &str, x: Cell) -> io::Result<()> {
 fn print_content(rt: &impl Print, file: &[u8], tile: u64) -> io::Result<()> {
     print!(rt; "content of tile {tile}: ")?;
     match store::reads::content_at(file, 0, tile, 0) {
-        Content::Present { start, length: _ } => {
+        Ok(Some(Extent { start, length: _ })) => {
             let bytes = store::content_of(file, tile, 0).len();
             println!(rt; "present at {start}, bytes {bytes}")
         }
-        Content::Absent => println!(rt; "absent"),
-        Content::Refused(r) => print_refusal(rt, r),
+        Ok(None) => println!(rt; "absent"),
+        Err(r) => print_refusal(rt, r),
     }
 }
 

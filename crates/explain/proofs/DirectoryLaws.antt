@@ -1,13 +1,12 @@
 -- Stage 9: what the functions answer, put together. Assumes nothing.
 use Prim.Native.Nat.{ℕ, ◌+◌, ◌*◌, ◌-◌, ◌/◌, ◌≤◌, ◌<◌, min}
-use mathlib.Core.Path.{◌≡◌, refl, sym, ap, ◌∙◌}
-use mathlib.Core.List.{List}
+use mathlib.Core.Path.{◌≡◌, refl, sym, ◌∙◌}
+use mathlib.Core.List.{List, [], ◌∷◌}
 use mathlib.Core.Bool.{true}
 use native.Mathlib.Omega.{arith}
 use lib.ListN.{length}
 use lib.Dec.{leb}
 use borrow.Author.Tests.{eqb-true, eq-eqb, ne_eqb, le-leb, leb-true}
-use Rattle.wire.specs.Bytes.{largest_integer}
 use Rattle.wire.proofs.TestLaws.{iff}
 use Rattle.wire.proofs.ListLaws.{some_member, select_member}
 use Rattle.header.specs.Fields.{metadata_reference, file_space_reference}
@@ -15,16 +14,14 @@ use Rattle.record.specs.Types.{metadata_directory_type, file_space_directory_typ
 use Rattle.record.specs.Record.{record_limit}
 use Rattle.record.specs.Chain.{records, records_of, header_end}
 use Rattle.record.proofs.ChainLaws.{ok_means, starts_ok}
-use Rattle.geometry.specs.Tiles.{tiles_down, tiles_across}
-use Rattle.bodies.specs.TileDirectory.{tile_directory_at, standard_references, first_row, first_column, listed_rows, listed_columns, reference_count, reference_size, references_end}
+use Rattle.bodies.specs.TileDirectory.{tile_directory_at, standard_references, reference_count, reference_size, references_end}
 use Rattle.bodies.proofs.DirectoryLaws.{size_standard, size_compact}
-use Rattle.bodies.specs.ListDirectories.{file_space_at, free_count, free_entry_at, metadata_at, metadata_count, metadata_entry_at}
+use Rattle.bodies.specs.ListDirectories.{file_space_at, free_count, free_entry_at, metadata_at}
 use Rattle.check_directory.specs.References.{refers_to, refers_or_zero}
-use Rattle.reasons.specs.declared.Reason.{Reason}
-use Rattle.reasons.specs.declared.Reason.TheVariants.{Kept}
-use Rattle.reasons.specs.Rows.{at_most, at_least, judged, or_else, first_failing}
-use Rattle.reasons.proofs.ReasonLaws.{first_none, first_more, first_joined}
-use Rattle.explain.specs.DirectoryRows.{farthest, reference_place, padded_rows, span_rows, rectangle_rows, metadata_fitting_rows, metadata_fit_rows, free_fitting_rows, free_fit_rows}
+use Rattle.reasons.specs.Rows.{at_most, judged, first_failing, Reason}
+use Rattle.reasons.proofs.ReasonLaws.{first_none, first_more, first_joined, or_kept, or_broken, or_end}
+use Rattle.explain.specs.DirectoryRows.{farthest, reference_place, padded_rows, metadata_fitting_rows, metadata_fit_rows, free_fitting_rows, free_fit_rows}
+use Rattle.std.specs.Prelude.{Ok}
 
 -- a reference that is a record's content lies in the file
 pub referred_inside : (s : List ℕ) (kind reference : ℕ) → refers_to s kind reference ≡ true → reference - 8 < length s
@@ -35,14 +32,6 @@ referred_inside s kind reference e =
     let z = eqb-true (x + 8) reference q in
     let o = ok_means s x (starts_ok s x (header_end s) (select_member _ _ m).0) in
     omega (arith, z, o.long, o.inside))
-
-pub rectangle_told :
-    (s : List ℕ) (at : ℕ) →
-    first_failing (rectangle_rows s at)
-    ≡ or_else (first_failing (span_rows 0 (at + 16) (at + 24) (first_row s at) (listed_rows s at) (tiles_down s)))
-    (first_failing (span_rows 1 (at + 20) (at + 28) (first_column s at) (listed_columns s at) (tiles_across s)))
-unfolding rectangle_rows
-rectangle_told s at = first_joined _ _
 
 -- the end of the references
 
@@ -72,13 +61,13 @@ pub ruleset references = (standard_past, standard_inside, compact_past, compact_
 
 -- padding
 
-pub padding_told :
-    (s : List ℕ) (rule at end l : ℕ) (a b c r : Reason) → l ≡ record_limit s at → a ≡ judged (at_most rule 0 at end l) →
-    b ≡ judged (at_most (rule + 1) 0 at l (end + 7)) → c ≡ or_else b Kept → r ≡ or_else a c → end ≤ farthest → r ≡ first_failing (padded_rows s rule at end)
-unfolding first_failing padded_rows
-padding_told s rule at end l a b c r p e f g d h =
-    let z : min end farthest ≡ end = omega arith in
-    rw (z, ← p, ← e, ← f) (d ∙ ap (or_else a) g)
+pub padded_is :
+    (s : List ℕ) (rule at end : ℕ) → end ≤ farthest →
+    padded_rows s rule at end ≡ at_most rule 0 at end (record_limit s at) ∷ at_most (rule + 1) 0 at (record_limit s at) (end + 7) ∷ []
+unfolding padded_rows
+padded_is s rule at end h = let z : min end farthest ≡ end = omega arith in rw z refl
+
+pub ruleset padded = (first_none, first_more, or_kept, or_broken, or_end, padded_is)
 
 limit_below : (s : List ℕ) (at : ℕ) → length s ≤ farthest → record_limit s at < farthest
 unfolding record_limit
@@ -112,7 +101,7 @@ references_fit_told s a e r p q d h = d ∙ rw (p, q) (padding_held s 56 (tile_d
 -- the lists
 
 module _ (s : List ℕ) (r : ℕ) (p : r ≡ metadata_reference s) where
-  pub metadata_fit_none : r ≡ 0 → Kept ≡ first_failing (metadata_fit_rows s)
+  pub metadata_fit_none : r ≡ 0 → Ok tt ≡ first_failing (metadata_fit_rows s)
   unfolding metadata_fit_rows
   metadata_fit_none h = rw (← p, eq-eqb r 0 h) (sym first_none)
 
@@ -125,7 +114,7 @@ module _ (s : List ℕ) (r : ℕ) (p : r ≡ metadata_reference s) where
   metadata_inside h e = referred_inside s metadata_directory_type (metadata_reference s) (rw (ne_eqb (metadata_reference s) 0 (λ z. h (p ∙ z))) at e)
 
 module _ (s : List ℕ) (r : ℕ) (p : r ≡ file_space_reference s) where
-  pub free_fit_none : r ≡ 0 → Kept ≡ first_failing (free_fit_rows s)
+  pub free_fit_none : r ≡ 0 → Ok tt ≡ first_failing (free_fit_rows s)
   unfolding free_fit_rows
   free_fit_none h = rw (← p, eq-eqb r 0 h) (sym first_none)
 
@@ -136,23 +125,6 @@ module _ (s : List ℕ) (r : ℕ) (p : r ≡ file_space_reference s) where
   pub free_inside : (r ≡ 0 → ⊥) → refers_or_zero s file_space_directory_type (file_space_reference s) ≡ true → file_space_at s < length s
   unfolding file_space_at refers_or_zero
   free_inside h e = referred_inside s file_space_directory_type (file_space_reference s) (rw (ne_eqb (file_space_reference s) 0 (λ z. h (p ∙ z))) at e)
-
-pub metadata_fitting_told :
-    (s : List ℕ) →
-    first_failing (metadata_fitting_rows s)
-    ≡ or_else (judged (at_most 62 0 (metadata_reference s) (metadata_count s) largest_integer))
-    (first_failing (padded_rows s 63 (metadata_at s) (metadata_entry_at s (metadata_count s))))
-unfolding metadata_fitting_rows
-metadata_fitting_told s = first_more _ _
-
-pub free_fitting_told :
-    (s : List ℕ) →
-    first_failing (free_fitting_rows s)
-    ≡ or_else (judged (at_least 70 0 (file_space_reference s) (free_count s) 1))
-    (or_else (judged (at_most 71 0 (file_space_reference s) (free_count s) largest_integer))
-    (first_failing (padded_rows s 72 (file_space_at s) (free_entry_at s (free_count s)))))
-unfolding free_fitting_rows
-free_fitting_told s = first_more _ _ ∙ ap (or_else _) (first_more _ _)
 
 pub free_end_told : (s : List ℕ) (a n : ℕ) → a ≡ file_space_at s → n ≡ free_count s → a + 12 + 12 * n ≡ free_entry_at s (free_count s)
 unfolding free_entry_at

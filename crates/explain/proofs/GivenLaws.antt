@@ -18,11 +18,10 @@ use Rattle.bodies.specs.TileDirectory.{tile_directory_at, first_row, first_colum
 use Rattle.check_directory.specs.References.{refers_to}
 use Rattle.check_directory.specs.TileRules.{gives_tile}
 use Rattle.reasons.specs.declared.Fault.{Fault}
-use Rattle.reasons.specs.declared.Reason.{Reason}
-use Rattle.reasons.specs.declared.Reason.TheVariants.{Kept, Broken}
-use Rattle.reasons.specs.Rows.{first_failing, rows_below}
-use Rattle.reasons.proofs.ReasonLaws.{below_stop, below_whole}
+use Rattle.reasons.specs.Rows.{first_failing, rows_below, Reason}
+use Rattle.reasons.proofs.ReasonLaws.{below_stop}
 use Rattle.explain.specs.DirectoryRows.{number_in, given_right, given_rows}
+use Rattle.std.specs.Prelude.{Ok, Err}
 
 pub number_told :
     (s : List ℕ) (i at a q m f g d e w : ℕ) → at ≡ tile_directory_at s → a ≡ tiles_across s → q ≡ i / a → m ≡ i % a → f ≡ first_row s at →
@@ -81,11 +80,6 @@ module _ (s : List ℕ) (i r : ℕ) (p : r ≡ tile_reference s i) where
           go true d = absurd (e (index ∙ (gives_of s i d).1))
 
 pub given_stop :
-    (s : List ℕ) (n i : ℕ) (a : Reason) (x : Fault) → n ≡ tile_count s → a ≡ first_failing (given_rows s i) → a ≡ Broken x →
-    first_failing (rows_below i (given_rows s)) ≡ Kept → i < n → Broken x ≡ first_failing (rows_below (tile_count s) (given_rows s))
+    (s : List ℕ) (n i : ℕ) (a : Reason) (x : Fault) → n ≡ tile_count s → a ≡ first_failing (given_rows s i) → a ≡ Err x →
+    first_failing (rows_below i (given_rows s)) ≡ Ok tt → i < n → Err x ≡ first_failing (rows_below (tile_count s) (given_rows s))
 given_stop s n i a x p q r h k = below_stop i (given_rows s) a q (tile_count s) x r h (omega arith)
-
-pub given_whole :
-    (s : List ℕ) (n i : ℕ) → n ≡ tile_count s → first_failing (rows_below i (given_rows s)) ≡ Kept → i ≤ n → n ≤ i →
-    Kept ≡ first_failing (rows_below (tile_count s) (given_rows s))
-given_whole s n i p q h k = below_whole (tile_count s) i (given_rows s) q (omega arith) (omega arith)

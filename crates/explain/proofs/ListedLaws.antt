@@ -1,4 +1,5 @@
 -- Stage 9: a loop over the entries of a list that counts those of one record, and the first record that is not listed once. Assumes nothing.
+use Rattle.std.specs.Prelude.{None, Option, Some}
 use Prim.Native.Nat.{ℕ, ◌+◌, ◌≤◌, ◌<◌}
 use mathlib.Core.Path.{◌≡◌, refl, sym, ap, ◌∙◌}
 use mathlib.Core.List.{List, Memᴰ}
@@ -7,24 +8,20 @@ use native.Mathlib.Omega.{arith}
 use native.Mathlib.Numerals.{add-one}
 use lib.ListN.{length}
 use lib.Dec.{leb}
-use borrow.Author.Tests.{leb-true, leb-false, le-leb, lt-leb}
+use borrow.Author.Tests.{leb-true, leb-false, le-leb, lt-leb, eq-eqb}
 use Rattle.wire.specs.Lists.{one_if, count_below}
-use Rattle.record.specs.declared.Found.{Found}
-use Rattle.record.specs.declared.Found.TheVariants.{At, Nothing}
 use Rattle.record.specs.Chain.{starts, first_record, header_end, records, records_of}
 use Rattle.record.proofs.FindLaws.{of_type}
-use Rattle.reasons.specs.declared.Reason.{Reason}
-use Rattle.reasons.specs.declared.Reason.TheVariants.{Kept}
-use Rattle.reasons.specs.Rows.{first_failing}
-use Rattle.reasons.proofs.ReasonLaws.{or_kept, first_none, first_more, equal_yes}
+use Rattle.reasons.specs.Rows.{first_failing, Reason, equal}
+use Rattle.reasons.proofs.ReasonLaws.{or_kept, first_none, first_more, row_kept}
 use Rattle.check_lists.specs.declared.ListKind.{ListKind}
 use Rattle.check_lists.specs.inner.Search.{listed_kind, list_count, list_fits, list_entry_at, list_entry_of, list_entry_is, list_entry_size, not_listed_once, first_unlisted}
 use Rattle.check_lists.proofs.ListLaws.{list_room, list_step, entry_is}
 use Rattle.check_lists.proofs.FirstLaws.{first_means, none_means}
 use Rattle.check_lists.proofs.FindLaws.{unlisted_not}
-use Rattle.explain.specs.declared.Ask.TheVariants.{Once}
-use Rattle.explain.specs.DirectoryRows.{rows_over, once_rows, once_from_rows, place_or, asked_from, ask_rows}
+use Rattle.explain.specs.DirectoryRows.{rows_over, once_rows, once_from_rows, place_or, asked_from}
 use Rattle.explain.proofs.OverLaws.{over_same}
+use Rattle.std.specs.Prelude.{Ok}
 
 count_next : (k : ℕ) (f : ℕ → Bool) → count_below (k + 1) f ≡ count_below k f + one_if (f k)
 unfolding count_below
@@ -66,11 +63,11 @@ module _ (s : List ℕ) (l : ListKind) (x n p k found : ℕ) (g : Timing s l x p
 
 -- records before the first that is not listed once keep their rows, so they need not be asked
 
-pub asked_at : (s : List ℕ) (l : ListKind) (f : Found) (x : ℕ) → f ≡ first_unlisted s l → f ≡ At x → x ≡ asked_from s l
+pub asked_at : (s : List ℕ) (l : ListKind) (f : Option ℕ) (x : ℕ) → f ≡ first_unlisted s l → f ≡ Some x → x ≡ asked_from s l
 unfolding asked_from
 asked_at s l f x p e = rw (← p, e)
 
-pub asked_end : (s : List ℕ) (l : ListKind) (f : Found) → f ≡ first_unlisted s l → f ≡ Nothing → length s ≡ asked_from s l
+pub asked_end : (s : List ℕ) (l : ListKind) (f : Option ℕ) → f ≡ first_unlisted s l → f ≡ None → length s ≡ asked_from s l
 unfolding asked_from
 asked_end s l f p e = rw (← p, e)
 
@@ -83,13 +80,13 @@ before_asked s l x f m h =
     unlisted_not s l x t.1 (go t.0 (first_record s (header_end s) (not_listed_once s l)) refl (rw f at h))
   where
     go :
-        Memᴰ x (starts s (header_end s)) → (g : Found) → first_record s (header_end s) (not_listed_once s l) ≡ g →
+        Memᴰ x (starts s (header_end s)) → (g : Option ℕ) → first_record s (header_end s) (not_listed_once s l) ≡ g →
         x < place_or (length s) (first_record s (header_end s) (not_listed_once s l)) → not_listed_once s l x ≡ false
-    go n (At y) e i = (first_means (not_listed_once s l) s y (header_end s) e).before x n (rw e at i)
-    go n Nothing e i = none_means (not_listed_once s l) s x (header_end s) e n
+    go n (Some y) e i = (first_means (not_listed_once s l) s y (header_end s) e).before x n (rw e at i)
+    go n None e i = none_means (not_listed_once s l) s x (header_end s) e n
 
 module _ (rule n : ℕ) (entryIs : ℕ → ℕ → Bool) (from k x : ℕ) where
-  pub from_before : x < from → Kept ≡ first_failing (once_from_rows from rule n entryIs k x)
+  pub from_before : x < from → Ok tt ≡ first_failing (once_from_rows from rule n entryIs k x)
   unfolding once_from_rows
   from_before h = rw (lt-leb from x h) (sym first_none)
 
@@ -97,9 +94,9 @@ module _ (rule n : ℕ) (entryIs : ℕ → ℕ → Bool) (from k x : ℕ) where
   unfolding once_from_rows
   from_behind r q h = rw (le-leb from x h) q
 
-  once_kept : count_below n (entryIs x) ≡ 1 → Kept ≡ first_failing (once_rows rule n entryIs k x)
+  once_kept : count_below n (entryIs x) ≡ 1 → Ok tt ≡ first_failing (once_rows rule n entryIs k x)
   unfolding once_rows
-  once_kept e = sym (first_more _ _ ∙ or_kept _ _ (sym (equal_yes rule k x (count_below n (entryIs x)) 1 e)) ∙ first_none)
+  once_kept e = sym (first_more _ _ ∙ or_kept _ _ (row_kept (equal rule k x (count_below n (entryIs x)) 1) (eq-eqb (count_below n (entryIs x)) 1 e)) ∙ first_none)
 
 module _ (s : List ℕ) (l : ListKind) (rule from : ℕ) (f : list_fits s l ≡ true) (q : from ≡ asked_from s l) where
   from_same :
@@ -117,9 +114,8 @@ module _ (s : List ℕ) (l : ListKind) (rule from : ℕ) (f : list_fits s l ≡ 
           ∙ once_kept rule (list_count s l) (list_entry_is s l) from k x (before_asked s l x f m (omega (arith, h, q)))
 
   pub once_told :
-      (kind : ℕ) (r : Reason) → kind ≡ listed_kind l → r ≡ first_failing (rows_over (ask_rows s (Once rule l from)) 0 (records_of s kind)) →
+      (kind : ℕ) (r : Reason) → kind ≡ listed_kind l → r ≡ first_failing (rows_over (once_from_rows from rule (list_count s l) (list_entry_is s l)) 0 (records_of s kind)) →
       r ≡ first_failing (rows_over (once_rows rule (list_count s l) (list_entry_is s l)) 0 (records_of s kind))
-  unfolding ask_rows
   once_told kind r t e =
       e ∙ over_same (once_from_rows from rule (list_count s l) (list_entry_is s l)) (once_rows rule (list_count s l) (list_entry_is s l)) (records_of s kind)
       (λ k x m. from_same k x (rw t at m)) 0

@@ -15,19 +15,15 @@ use Rattle.record.specs.declared.Step.{Step}
 use Rattle.record.specs.declared.Step.TheVariants.{Record}
 use Rattle.record.specs.Record.{type_at, length_at, record_ok, step_at}
 use Rattle.record.specs.Chain.{starts, header_end, records, records_of}
-use Rattle.record.proofs.ChainLaws.{stepped, less, starts_none, starts_record}
-use Rattle.record.proofs.SeekLaws.{seek_inside, over}
+use Rattle.record.proofs.ChainLaws.{stepped, starts_none, starts_record}
+use Rattle.record.proofs.SeekLaws.{over}
 use Rattle.record.specs.contracts.Step.{the_type}
 use Rattle.reasons.specs.declared.Fault.{Fault}
-use Rattle.reasons.specs.declared.Reason.{Reason}
-use Rattle.reasons.specs.declared.Reason.TheVariants.{Kept, Broken}
-use Rattle.reasons.specs.Rows.{Row, or_else, first_failing}
+use Rattle.std.specs.Prelude.{Ok, Err}
+use Rattle.reasons.specs.Rows.{Row, Reason, or_else, first_failing}
 use Rattle.reasons.proofs.ReasonLaws.{or_kept, or_broken, first_none, first_joined}
-use Rattle.check_lists.specs.declared.ListKind.{ListKind}
-use Rattle.check_lists.specs.inner.Search.{list_count, list_fits, list_entry_is}
-use Rattle.explain.specs.declared.Ask.{Ask}
-use Rattle.explain.specs.declared.Ask.TheVariants.{Other, Listed, Once}
-use Rattle.explain.specs.DirectoryRows.{rows_over, other_rows, listed_tile_rows, once_from_rows, ask_rows, askable}
+use Rattle.explain.specs.DirectoryRows.{rows_over}
+use Rattle.explain.specs.Asked.{Asks, Tells}
 
 -- those of the type from a position on
 unfoldable pub among : List ℕ → ℕ → ℕ → List ℕ
@@ -49,7 +45,7 @@ among_none : (s : List ℕ) (kind at : ℕ) → record_ok s at ≡ false → amo
 unfolding among select
 among_none s kind at h = rw (starts_none s at h)
 
-over_none : (f : ℕ → ℕ → List Row) (k : ℕ) → first_failing (rows_over f k []) ≡ Kept
+over_none : (f : ℕ → ℕ → List Row) (k : ℕ) → first_failing (rows_over f k []) ≡ Ok tt
 unfolding rows_over
 over_none f k = first_none
 
@@ -89,7 +85,7 @@ module _
       left : among s kind at ≡ at ∷ among s kind (at + length_at s at)
       left = let h = stepped u v in among_here s kind at h.ok (rw (← h.start) (sym h.kind ∙ t))
 
-      pub ask_next : a ≡ Kept → Asking f s kind (k + 1) nx.at
+      pub ask_next : a ≡ Ok tt → Asking f s kind (k + 1) nx.at
       ask_next e =
           let h = stepped u v in
           record {
@@ -99,40 +95,58 @@ module _
             few = omega (arith, h.next, i.few, h.is.long);
           }
 
-      pub ask_found : {y : Fault} → a ≡ Broken y → Broken y ≡ first_failing (rows_over f 0 (records_of s kind))
+      pub ask_found : {y : Fault} → a ≡ Err y → Err y ≡ first_failing (rows_over f 0 (records_of s kind))
       ask_found {y} e =
           sym (over_more f k at _ ∙ or_broken _ _ y (here ∙ e)) ∙ ap (λ (l : List ℕ). first_failing (rows_over f k l)) (sym left) ∙ i.same
 
 pub ask_over :
     {f : ℕ → ℕ → List Row} {s : List ℕ} {kind k at : ℕ} {x : Step} → Asking f s kind k at → x ≡ step_at s at →
-    (tag_of the_type x ≡ 1) ⊎ (tag_of the_type x ≡ 2) → Kept ≡ first_failing (rows_over f 0 (records_of s kind))
+    (tag_of the_type x ≡ 1) ⊎ (tag_of the_type x ≡ 2) → Ok tt ≡ first_failing (rows_over f 0 (records_of s kind))
 ask_over {f} {s} {kind} {k} {at} {x} i v t =
     sym (over_none f k) ∙ ap (λ (l : List ℕ). first_failing (rows_over f k l)) (sym (among_none s kind at (over s at x v t))) ∙ i.same
 
-pub ruleset asking = (less, seek_inside, ask_begin, ask_stay, ask_next, ask_found, ask_over)
+-- where the rows are those that a closure's answers tell
 
--- what is asked, by its name
+pub asked : (s : List ℕ) (at : ℕ) {k own st n : ℕ} {nx : Cursor} {x : Step} (p : ℕ → ℕ → Type 0) → Asks s p → k ≤ at → x ≡ Record own st n nx → x ≡ step_at s at → p k st
+asked s at p a i u v = let h = stepped u v in a _ _ (omega (arith, i, h.start)) (omega (arith, h.start, h.before_end))
 
-pub ask_other :
-    (s : List ℕ) (w : Ask) (rule reference k at : ℕ) (r : Reason) → w ≡ Other rule reference → r ≡ first_failing (other_rows rule reference k at) →
-    r ≡ first_failing (ask_rows s w k at)
-unfolding ask_rows
-ask_other s w rule reference k at r p e = rw p e
+pub record Told (s : List ℕ) (post : ℕ → ℕ → Reason → Type 0) (kind k at : ℕ) : Type 0 where
+  pub so_far : (f : ℕ → ℕ → List Row) → Tells s post f → Asking f s kind k at
+  pub few : k ≤ at
 
-pub ask_listed :
-    (s : List ℕ) (w : Ask) (k at : ℕ) (r : Reason) → w ≡ Listed → r ≡ first_failing (listed_tile_rows s k at) → r ≡ first_failing (ask_rows s w k at)
-unfolding ask_rows
-ask_listed s w k at r p e = rw p e
+pub told_begin : {s : List ℕ} {post : ℕ → ℕ → Reason → Type 0} {kind at : ℕ} → at ≡ header_end s → Told s post kind 0 at
+told_begin e = record { so_far = λ f d. ask_begin e; few = omega arith }
 
-pub ask_once :
-    (s : List ℕ) (w : Ask) (rule : ℕ) (l : ListKind) (from k at : ℕ) (r : Reason) → w ≡ Once rule l from →
-    r ≡ first_failing (once_from_rows from rule (list_count s l) (list_entry_is s l) k at) → r ≡ first_failing (ask_rows s w k at)
-unfolding ask_rows
-ask_once s w rule l from k at r p e = rw p e
+module _
+    {s : List ℕ} {post : ℕ → ℕ → Reason → Type 0} {kind k at own st n : ℕ} {nx : Cursor} {x : Step} (i : Told s post kind k at)
+    (u : x ≡ Record own st n nx) (v : x ≡ step_at s at)
+  where
+    pub told_room : k < length s
+    told_room = let h = stepped u v in omega (arith, i.few, h.before_end)
 
-pub once_fits : (s : List ℕ) (w : Ask) (rule : ℕ) (l : ListKind) (from : ℕ) → w ≡ Once rule l from → askable s w ≡ true → list_fits s l ≡ true
-unfolding askable
-once_fits s w rule l from p e = rw p at e
+    pub told_stay : (own ≡ kind → ⊥) → Told s post kind k nx.at
+    told_stay e =
+        let h = stepped u v in
+        record { so_far = λ f d. ask_stay (i.so_far f d) u v e; few = omega (arith, h.next, i.few, h.is.long) }
+
+    module _ {a : Reason} (t : own ≡ kind) (q : post k st a) where
+      said : (f : ℕ → ℕ → List Row) → Tells s post f → a ≡ first_failing (f k st)
+      said f d = let h = stepped u v in d k st (omega (arith, i.few, h.start)) (omega (arith, h.start, h.before_end)) a q
+
+      pub told_next : a ≡ Ok tt → Told s post kind (k + 1) nx.at
+      told_next e =
+          let h = stepped u v in
+          record { so_far = λ f d. ask_next (i.so_far f d) u v t (said f d) e; few = omega (arith, h.next, i.few, h.is.long) }
+
+      pub told_found :
+          {y : Fault} → a ≡ Err y → (f : ℕ → ℕ → List Row) → Tells s post f → Err y ≡ first_failing (rows_over f 0 (records_of s kind))
+      told_found e f d = ask_found (i.so_far f d) u v t (said f d) e
+
+pub told_over :
+    {s : List ℕ} {post : ℕ → ℕ → Reason → Type 0} {kind k at : ℕ} {x : Step} → Told s post kind k at → x ≡ step_at s at →
+    (tag_of the_type x ≡ 1) ⊎ (tag_of the_type x ≡ 2) → (f : ℕ → ℕ → List Row) → Tells s post f →
+    Ok tt ≡ first_failing (rows_over f 0 (records_of s kind))
+told_over i v t f d = ask_over (i.so_far f d) v t
 
 -- rows of which the same is said of each record say the same
 pub over_same :

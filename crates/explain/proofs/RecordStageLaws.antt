@@ -1,4 +1,5 @@
 -- Stages 6 to 8: the stages of the records have the check's verdict. Assumes nothing.
+use Rattle.std.specs.Prelude.{Result, Some, ⊤}
 use Prim.Native.Nat.{ℕ, ◌+◌}
 use mathlib.Core.Path.{◌≡◌, refl, sym, ap, ◌∙◌}
 use mathlib.Core.List.{List, [], ◌∷◌, ◌++◌}
@@ -8,9 +9,7 @@ use lib.Dec.{leb}
 use Rattle.wire.specs.Pick.{pick}
 use Rattle.answer.specs.declared.Refusal.{Refusal}
 use Rattle.answer.specs.declared.Refusal.TheVariants.{Chain, Checksum, Body}
-use Rattle.answer.specs.declared.Verdict.{Verdict}
 use Rattle.answer.specs.Refusals.{gate}
-use Rattle.record.specs.declared.Found.TheVariants.{At}
 use Rattle.record.specs.Chain.{records, records_end, find, find_not}
 use Rattle.check_records.specs.Checksum.{checksum_right}
 use Rattle.check_records.specs.Faults.{chain_fault, body_right, right_of, first_wrong, checksum_fault, body_fault}
@@ -22,13 +21,13 @@ use Rattle.record_reasons.proofs.RecordRowLaws.{chain_by, checksum_keeps, body_k
 use Rattle.explain.specs.Whole.{last_stages, body_stages, checksum_stages, chain_stages}
 
 chain_case :
-    (s : List ℕ) (behind : Verdict) (b : Bool) → leb (length s) (records_end s) ≡ b → keeps (chain_rows s) ≡ b →
+    (s : List ℕ) (behind : Result ⊤ Refusal) (b : Bool) → leb (length s) (records_end s) ≡ b → keeps (chain_rows s) ≡ b →
     unless (chain_fault s) Chain behind ≡ gate (keeps (chain_rows s)) (Chain (records_end s)) behind
 unfolding unless chain_fault gate
 chain_case s behind true e k = rw (e, k) refl
 chain_case s behind false e k = rw (e, k) refl
 
-chain_gate : (s : List ℕ) (behind : Verdict) → unless (chain_fault s) Chain behind ≡ gate (keeps (chain_rows s)) (Chain (records_end s)) behind
+chain_gate : (s : List ℕ) (behind : Result ⊤ Refusal) → unless (chain_fault s) Chain behind ≡ gate (keeps (chain_rows s)) (Chain (records_end s)) behind
 chain_gate s behind = go (leb (length s) (records_end s)) refl
   where
     go : (b : Bool) → leb (length s) (records_end s) ≡ b → unless (chain_fault s) Chain behind ≡ gate (keeps (chain_rows s)) (Chain (records_end s)) behind
@@ -44,7 +43,7 @@ module _ (refusal : ℕ → Refusal) (rows : ℕ → ℕ → List Row) (p : ℕ 
     where
       go :
           (b : Bool) → verdict_by (stages_of refusal rows (k + 1) xs ++ more) ≡ unless (find_not p xs) refusal (verdict_by more) →
-          gate b (refusal x) (verdict_by (stages_of refusal rows (k + 1) xs ++ more)) ≡ unless (pick (not b) (At x) (find_not p xs)) refusal (verdict_by more)
+          gate b (refusal x) (verdict_by (stages_of refusal rows (k + 1) xs ++ more)) ≡ unless (pick (not b) (Some x) (find_not p xs)) refusal (verdict_by more)
       go true r = r
       go false r = refl
 

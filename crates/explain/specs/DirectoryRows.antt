@@ -1,11 +1,9 @@
 -- Document 01, stage 9, as rows.
-use Rattle.std.specs.Prelude.{ℕ, ◌+◌, ◌*◌, ◌/◌, ◌%◌, min, List, [], ◌∷◌, ◌++◌, Bool, true, ◌||◌, length, leb, eqb}
+use Rattle.std.specs.Prelude.{ℕ, ◌+◌, ◌*◌, ◌/◌, ◌%◌, min, List, [], ◌∷◌, ◌++◌, Bool, true, ◌||◌, length, leb, eqb, None, Option, Some}
 use Rattle.wire.specs.Pick.{pick}
 use Rattle.wire.specs.Lists.{count_below}
 use Rattle.wire.specs.Tests.{◌≤?◌}
 use Rattle.wire.specs.Bytes.{largest_integer}
-use Rattle.record.specs.declared.Found.{Found}
-use Rattle.record.specs.declared.Found.TheVariants.{At, Nothing}
 use Rattle.record.specs.Record.{content_at, record_limit}
 use Rattle.record.specs.Chain.{records_of}
 use Rattle.record.specs.Types.{free_type, metadata_type, tile_type, tile_directory_type, metadata_directory_type, file_space_directory_type}
@@ -20,10 +18,8 @@ use Rattle.check_lists.specs.FileSpace.{free_entry_is}
 use Rattle.metadata_keys.specs.Pairs.{keys_distinct}
 use Rattle.check_lists.specs.Metadata.{metadata_entry_is}
 use Rattle.check_lists.specs.declared.ListKind.{ListKind}
-use Rattle.check_lists.specs.inner.Search.{list_count, list_fits, list_entry_is, first_unlisted}
+use Rattle.check_lists.specs.inner.Search.{first_unlisted}
 use Rattle.reasons.specs.Rows.{Row, fault_of, at_most, at_least, equal, holds, rows_below}
-use Rattle.explain.specs.declared.Ask.{Ask}
-use Rattle.explain.specs.declared.Ask.TheVariants.{Other, Listed, Once}
 
 -- above every position in a file
 abbrev pub farthest : ℕ
@@ -105,24 +101,13 @@ unfoldable pub once_from_rows : ℕ → ℕ → ℕ → (ℕ → ℕ → Bool) �
 once_from_rows from rule n entryIs k x = pick (leb from x) (once_rows rule n entryIs k x) []
 
 -- the place that was found, else the end
-abbrev pub place_or : ℕ → Found → ℕ
-place_or end (At x) = x
-place_or end Nothing = end
+abbrev pub place_or : ℕ → Option ℕ → ℕ
+place_or end (Some x) = x
+place_or end None = end
 
 -- where the first record starts that is not listed once; the file's end where there is none
 unfoldable pub asked_from : List ℕ → ListKind → ℕ
 asked_from s list = place_or (length s) (first_unlisted s list)
-
--- what is asked of each record of a type, and where it may be asked: of a list only if its entries fit
-unfoldable pub ask_rows : List ℕ → Ask → ℕ → ℕ → List Row
-ask_rows s (Other rule reference) = other_rows rule reference
-ask_rows s Listed = listed_tile_rows s
-ask_rows s (Once rule list from) = once_from_rows from rule (list_count s list) (list_entry_is s list)
-
-unfoldable pub askable : List ℕ → Ask → Bool
-askable s (Other rule reference) = true
-askable s Listed = true
-askable s (Once rule list from) = list_fits s list
 
 unfoldable pub list_rows : List ℕ → ℕ → ℕ → ℕ → ℕ → (ℕ → ℕ → Bool) → List Row
 list_rows s rule p kind n entryIs =

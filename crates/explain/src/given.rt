@@ -2,6 +2,8 @@
 //
 // One pass over the records marks the indexes whose reference is right. One over the indexes looks for the record of a reference only where
 // it is not zero and its index has no mark: then it is wrong, and the pass ends.
+#![tactic(auto, using(reasons::proofs::ReasonLaws::chain), unfolding(crate::specs::DirectoryRows::given_rows))]
+
 ghost use Rattle.std.specs.Prelude.{◌≡◌, ◌≤◌, ◌<◌, length};
 ghost use Rattle.geometry.specs.Tiles.{tile_count};
 ghost use Rattle.bodies.specs.TileDirectory.{tile_directory_at};
@@ -13,7 +15,7 @@ use crate::tile_directory_rows;
 use bodies::tile_directory;
 use check_directory::references;
 use geometry::tiles;
-use reasons::{Reason, rows};
+use reasons::{Fault, rows};
 use record::{Cursor, Step, chain, frame};
 use record_reasons::ends;
 
@@ -47,15 +49,14 @@ fn given_right(s: &[u8], i: u32) -> bool
     false
 }
 
-fn given_row(s: &[u8], i: u32) -> Reason
+fn given_row(s: &[u8], i: u32) -> Result<(), Fault>
     requires { tile_directory_at s.now < length s.now }
     ensures { result ≡ first_failing (given_rows s.now i) }
 {
     let place = tile_directory_rows::place_of(s, number_in(s, i));
     let found = tile_directory::tile_reference(s, i);
     let kept = given_right(s, i);
-    let a = rows::holds(59, i as u64, place, found, 0, kept);
-    rows::or_else(a, Reason::Kept)
+    rows::holds(59, i as u64, place, found, 0, kept)
 }
 
 // A mark at the index of the record of a type at a position, where that is a tile record that the index's reference gives.
@@ -106,7 +107,7 @@ fn mark_tiles(s: &[u8], marks: &mut [u8])
 }
 
 // The row of a tile index; where there is a mark it is kept.
-fn marked_row(s: &[u8], marks: &[u8], i: u32) -> Reason
+fn marked_row(s: &[u8], marks: &[u8], i: u32) -> Result<(), Fault>
     requires inside { tile_directory_at s.now < length s.now }
     requires marked { Marked s.now marks.now }
     ensures { result ≡ first_failing (given_rows s.now i) }
@@ -114,31 +115,26 @@ fn marked_row(s: &[u8], marks: &[u8], i: u32) -> Reason
     let j = i as usize;
     if j < marks.len() {
         if marks[j] == 1 {
-            return Reason::Kept;
+            return Ok(());
         }
     }
     given_row(s, i)
 }
 
 // Of every tile index.
-fn marked_rows(s: &[u8], marks: &[u8]) -> Reason
+fn marked_rows(s: &[u8], marks: &[u8]) -> Result<(), Fault>
     requires inside { (tile_directory_at s.now < length s.now) × (tile_count s.now ≤ 65536) }
     requires marked { Marked s.now marks.now }
     ensures { result ≡ first_failing (rows_below (tile_count s.now) (given_rows s.now)) }
 {
-    let n = tiles::tile_count(s) as u32;
-    let mut i: u32 = 0;
-    while i < n {
-        if let Reason::Broken(x) = marked_row(s, marks, i) {
-            return Reason::Broken(x);
-        }
-        i += 1;
+    for i in 0..tiles::tile_count(s) as u32 {
+        marked_row(s, marks, i)?;
     }
-    Reason::Kept
+    Ok(())
 }
 
 // The same, with marks of its own.
-pub(crate) fn given_tiles(s: &[u8]) -> Reason
+pub(crate) fn given_tiles(s: &[u8]) -> Result<(), Fault>
     requires { (tile_directory_at s.now < length s.now) × (tile_count s.now ≤ 65536) }
     ensures { result ≡ first_failing (rows_below (tile_count s.now) (given_rows s.now)) }
 {

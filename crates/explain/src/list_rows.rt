@@ -1,4 +1,6 @@
 // Stage 9: the metadata directory and the file-space directory.
+#![tactic(auto, using(reasons::proofs::ReasonLaws::chain), unfolding(crate::specs::DirectoryRows::then_rows, crate::specs::DirectoryRows::list_rows, crate::specs::DirectoryRows::key_rows, crate::specs::DirectoryRows::metadata_fitting_rows, crate::specs::DirectoryRows::metadata_referred_rows, crate::specs::DirectoryRows::metadata_frame_rows, crate::specs::DirectoryRows::metadata_directory_rows, crate::specs::DirectoryRows::free_fitting_rows, crate::specs::DirectoryRows::file_space_referred_rows, crate::specs::DirectoryRows::file_space_frame_rows, crate::specs::DirectoryRows::file_space_rows))]
+
 ghost use Rattle.std.specs.Prelude.{◌≡◌, true, ◌+◌, ◌≤◌, ◌<◌, length};
 ghost use Rattle.record.specs.Chain.{records_of};
 ghost use Rattle.record.specs.Types.{free_type, metadata_type, metadata_directory_type, file_space_directory_type};
@@ -15,21 +17,20 @@ use bodies::list_directories;
 use check_directory::references;
 use header::fields;
 use metadata_keys::keys;
-use reasons::{Reason, rows};
+use reasons::{Fault, rows};
 use record::{chain, frame};
 
 // The header refers to a metadata directory, or to none.
-fn metadata_referred(s: &[u8]) -> Reason
+fn metadata_referred(s: &[u8]) -> Result<(), Fault>
     ensures { result ≡ first_failing (metadata_referred_rows s.now) }
 {
     let reference = fields::metadata_reference(s);
     let kept = references::refers_or_zero(s, record::METADATA_DIRECTORY, reference);
-    let a = rows::holds(60, 0, 64, reference, 0, kept);
-    rows::or_else(a, Reason::Kept)
+    rows::holds(60, 0, 64, reference, 0, kept)
 }
 
 // There is no other.
-fn metadata_others(s: &[u8]) -> Reason
+fn metadata_others(s: &[u8]) -> Result<(), Fault>
     ensures { result ≡ first_failing (rows_over (other_rows 61 (metadata_reference s.now)) 0 (records_of s.now metadata_directory_type)) }
 {
     let reference = fields::metadata_reference(s);
@@ -57,32 +58,31 @@ fn metadata_list_end(s: &[u8]) -> usize
 }
 
 // Its count, and that its entries fit.
-fn metadata_fitting(s: &[u8]) -> Reason
+fn metadata_fitting(s: &[u8]) -> Result<(), Fault>
     requires { metadata_at s.now < length s.now }
     ensures { result ≡ first_failing (metadata_fitting_rows s.now) }
 {
     let reference = fields::metadata_reference(s);
     let count = list_directories::metadata_count(s) as u64;
-    let a = rows::at_most(62, 0, reference, count, wire::LARGEST_INTEGER as u64);
+    rows::at_most(62, 0, reference, count, wire::LARGEST_INTEGER as u64)?;
     let at = list_directories::metadata_at(s);
     let end = metadata_list_end(s) as u64;
-    let b = padding::padding(s, 63, at, end);
-    rows::or_else(a, b)
+    padding::padding(s, 63, at, end)
 }
 
 // The same where there may be none.
-fn metadata_fit(s: &[u8]) -> Reason
+fn metadata_fit(s: &[u8]) -> Result<(), Fault>
     requires { refers_or_zero s.now metadata_directory_type (metadata_reference s.now) ≡ true }
     ensures { result ≡ first_failing (metadata_fit_rows s.now) }
 {
     if fields::metadata_reference(s) == 0 {
-        return Reason::Kept;
+        return Ok(());
     }
     metadata_fitting(s)
 }
 
 // It has as many entries as there are metadata records.
-fn metadata_counted(s: &[u8]) -> Reason
+fn metadata_counted(s: &[u8]) -> Result<(), Fault>
     ensures { result ≡ judged (equal 65 0 (metadata_reference s.now) (metadata_count s.now) (length (records_of s.now metadata_type))) }
 {
     let reference = fields::metadata_reference(s);
@@ -92,27 +92,25 @@ fn metadata_counted(s: &[u8]) -> Reason
 }
 
 // No two metadata records have the same pair of name and ID.
-fn key_row(s: &[u8]) -> Reason
+fn key_row(s: &[u8]) -> Result<(), Fault>
     ensures { result ≡ first_failing (key_rows s.now) }
 {
     let reference = fields::metadata_reference(s);
     let kept = keys::keys_distinct(s);
-    let a = rows::holds(67, 0, reference, 0, 0, kept);
-    rows::or_else(a, Reason::Kept)
+    rows::holds(67, 0, reference, 0, 0, kept)
 }
 
 // The header refers to a file-space directory, or to none.
-fn file_space_referred(s: &[u8]) -> Reason
+fn file_space_referred(s: &[u8]) -> Result<(), Fault>
     ensures { result ≡ first_failing (file_space_referred_rows s.now) }
 {
     let reference = fields::file_space_reference(s);
     let kept = references::refers_or_zero(s, record::FILE_SPACE_DIRECTORY, reference);
-    let a = rows::holds(68, 0, 56, reference, 0, kept);
-    rows::or_else(a, Reason::Kept)
+    rows::holds(68, 0, 56, reference, 0, kept)
 }
 
 // There is no other.
-fn file_space_others(s: &[u8]) -> Reason
+fn file_space_others(s: &[u8]) -> Result<(), Fault>
     ensures { result ≡ first_failing (rows_over (other_rows 69 (file_space_reference s.now)) 0 (records_of s.now file_space_directory_type)) }
 {
     let reference = fields::file_space_reference(s);
@@ -131,33 +129,32 @@ fn free_list_end(s: &[u8]) -> u64
 }
 
 // Its count, and that its entries fit.
-fn free_fitting(s: &[u8]) -> Reason
+fn free_fitting(s: &[u8]) -> Result<(), Fault>
     requires { file_space_at s.now < length s.now }
     ensures { result ≡ first_failing (free_fitting_rows s.now) }
 {
     let reference = fields::file_space_reference(s);
     let count = list_directories::free_count(s) as u64;
-    let a = rows::at_least(70, 0, reference, count, 1);
-    let b = rows::at_most(71, 0, reference, count, wire::LARGEST_INTEGER as u64);
+    rows::at_least(70, 0, reference, count, 1)?;
+    rows::at_most(71, 0, reference, count, wire::LARGEST_INTEGER as u64)?;
     let at = list_directories::file_space_at(s);
     let end = free_list_end(s);
-    let c = padding::padding(s, 72, at, end);
-    rows::or_else(a, rows::or_else(b, c))
+    padding::padding(s, 72, at, end)
 }
 
 // The same where there may be none.
-fn free_fit(s: &[u8]) -> Reason
+fn free_fit(s: &[u8]) -> Result<(), Fault>
     requires { refers_or_zero s.now file_space_directory_type (file_space_reference s.now) ≡ true }
     ensures { result ≡ first_failing (free_fit_rows s.now) }
 {
     if fields::file_space_reference(s) == 0 {
-        return Reason::Kept;
+        return Ok(());
     }
     free_fitting(s)
 }
 
 // It has as many entries as there are free-space records.
-fn free_counted(s: &[u8]) -> Reason
+fn free_counted(s: &[u8]) -> Result<(), Fault>
     ensures { result ≡ judged (equal 74 0 (file_space_reference s.now) (free_count s.now) (length (records_of s.now free_type))) }
 {
     let reference = fields::file_space_reference(s);
@@ -167,96 +164,80 @@ fn free_counted(s: &[u8]) -> Reason
 }
 
 // Rules 61 to 64.
-fn metadata_frame(s: &[u8]) -> Reason
+fn metadata_frame(s: &[u8]) -> Result<(), Fault>
     requires { refers_or_zero s.now metadata_directory_type (metadata_reference s.now) ≡ true }
     ensures { result ≡ first_failing (metadata_frame_rows s.now) }
 {
-    let a = metadata_others(s);
-    let b = metadata_fit(s);
-    rows::or_else(a, b)
+    metadata_others(s)?;
+    metadata_fit(s)
 }
 
 // Rules 65 and 66.
-fn metadata_list(s: &[u8]) -> Reason
+fn metadata_list(s: &[u8]) -> Result<(), Fault>
     requires { metadata_fits s.now ≡ true }
     ensures { result ≡ first_failing (list_rows s.now 65 (metadata_reference s.now) metadata_type (metadata_count s.now) (metadata_entry_is s.now)) }
 {
-    if let Reason::Broken(x) = metadata_counted(s) {
-        return Reason::Broken(x);
-    }
+    metadata_counted(s)?;
     over::metadata_once(s)
 }
 
 // Rules 65 to 67.
-fn metadata_last(s: &[u8]) -> Reason
+fn metadata_last(s: &[u8]) -> Result<(), Fault>
     requires { metadata_fits s.now ≡ true }
     ensures { result ≡ first_failing (then_rows (list_rows s.now 65 (metadata_reference s.now) metadata_type (metadata_count s.now) (metadata_entry_is s.now)) (key_rows s.now)) }
 {
-    if let Reason::Broken(x) = metadata_list(s) {
-        return Reason::Broken(x);
-    }
+    metadata_list(s)?;
     key_row(s)
 }
 
 // Rules 61 to 67.
-fn metadata_behind(s: &[u8]) -> Reason
+fn metadata_behind(s: &[u8]) -> Result<(), Fault>
     requires { refers_or_zero s.now metadata_directory_type (metadata_reference s.now) ≡ true }
     ensures { result ≡ first_failing (then_rows (metadata_frame_rows s.now) (then_rows (list_rows s.now 65 (metadata_reference s.now) metadata_type (metadata_count s.now) (metadata_entry_is s.now)) (key_rows s.now))) }
 {
-    if let Reason::Broken(x) = metadata_frame(s) {
-        return Reason::Broken(x);
-    }
+    metadata_frame(s)?;
     metadata_last(s)
 }
 
 // Rules 60 to 67: the metadata directory.
-pub fn metadata_directory_row(s: &[u8]) -> Reason
+pub fn metadata_directory_row(s: &[u8]) -> Result<(), Fault>
     ensures { result ≡ first_failing (metadata_directory_rows s.now) }
 {
-    if let Reason::Broken(x) = metadata_referred(s) {
-        return Reason::Broken(x);
-    }
+    metadata_referred(s)?;
     metadata_behind(s)
 }
 
 // Rules 69 to 73.
-fn file_space_frame(s: &[u8]) -> Reason
+fn file_space_frame(s: &[u8]) -> Result<(), Fault>
     requires { refers_or_zero s.now file_space_directory_type (file_space_reference s.now) ≡ true }
     ensures { result ≡ first_failing (file_space_frame_rows s.now) }
 {
-    let a = file_space_others(s);
-    let b = free_fit(s);
-    rows::or_else(a, b)
+    file_space_others(s)?;
+    free_fit(s)
 }
 
 // Rules 74 and 75.
-fn free_list(s: &[u8]) -> Reason
+fn free_list(s: &[u8]) -> Result<(), Fault>
     requires { free_fits s.now ≡ true }
     ensures { result ≡ first_failing (list_rows s.now 74 (file_space_reference s.now) free_type (free_count s.now) (free_entry_is s.now)) }
 {
-    if let Reason::Broken(x) = free_counted(s) {
-        return Reason::Broken(x);
-    }
+    free_counted(s)?;
     over::free_once(s)
 }
 
 // Rules 69 to 75.
-fn file_space_behind(s: &[u8]) -> Reason
+fn file_space_behind(s: &[u8]) -> Result<(), Fault>
     requires { refers_or_zero s.now file_space_directory_type (file_space_reference s.now) ≡ true }
     ensures { result ≡ first_failing (then_rows (file_space_frame_rows s.now) (list_rows s.now 74 (file_space_reference s.now) free_type (free_count s.now) (free_entry_is s.now))) }
 {
-    if let Reason::Broken(x) = file_space_frame(s) {
-        return Reason::Broken(x);
-    }
+    file_space_frame(s)?;
     free_list(s)
 }
 
 // Rules 68 to 75: the file-space directory.
-pub fn file_space_row(s: &[u8]) -> Reason
+pub fn file_space_row(s: &[u8]) -> Result<(), Fault>
     ensures { result ≡ first_failing (file_space_rows s.now) }
 {
-    if let Reason::Broken(x) = file_space_referred(s) {
-        return Reason::Broken(x);
-    }
+    file_space_referred(s)?;
     file_space_behind(s)
 }

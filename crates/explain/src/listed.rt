@@ -10,8 +10,7 @@ ghost use Rattle.explain.specs.DirectoryRows.{once_rows, once_from_rows, asked_f
 
 use bodies::list_directories;
 use check_lists::{ListKind, file_space, lists, metadata};
-use reasons::{Reason, rows};
-use record::Found;
+use reasons::{Fault, rows};
 
 // How many entries a list has.
 fn entries_in(s: &[u8], list: ListKind) -> u32
@@ -92,13 +91,13 @@ fn times_listed(s: &[u8], list: ListKind, x: usize) -> u32
 }
 
 // The record at a position, number k of its type, is listed once.
-fn once_row(s: &[u8], rule: u32, list: ListKind, k: u64, at: usize) -> Reason
+#[tactic(auto, using(reasons::proofs::ReasonLaws::chain), unfolding(crate::specs::DirectoryRows::once_rows))]
+fn once_row(s: &[u8], rule: u32, list: ListKind, k: u64, at: usize) -> Result<(), Fault>
     requires { list_fits s.now list ≡ true }
     ensures { result ≡ first_failing (once_rows rule (list_count s.now list) (list_entry_is s.now list) k at) }
 {
     let found = times_listed(s, list, at) as u64;
-    let a = rows::equal(rule, k, at as u64, found, 1);
-    rows::or_else(a, Reason::Kept)
+    rows::equal(rule, k, at as u64, found, 1)
 }
 
 // The same, but nothing is asked of a record that starts before `from`.
@@ -109,12 +108,12 @@ pub(crate) fn once_from(
     from: usize,
     k: u64,
     at: usize,
-) -> Reason
+) -> Result<(), Fault>
     requires { list_fits s.now list ≡ true }
     ensures { result ≡ first_failing (once_from_rows from rule (list_count s.now list) (list_entry_is s.now list) k at) }
 {
     if at < from {
-        return Reason::Kept;
+        return Ok(());
     }
     once_row(s, rule, list, k, at)
 }
@@ -123,7 +122,7 @@ pub(crate) fn once_from(
 pub(crate) fn asked_from(s: &[u8], list: ListKind) -> usize
     ensures { result ≡ asked_from s.now list }
 {
-    if let Found::At(x) = lists::first_unlisted(s, list) {
+    if let Some(x) = lists::first_unlisted(s, list) {
         return x;
     }
     s.len()

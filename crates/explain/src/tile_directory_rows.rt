@@ -1,4 +1,6 @@
 // Stage 9: the tile directory, rules 49 to 57.
+#![tactic(auto, using(reasons::proofs::ReasonLaws::chain), unfolding(crate::specs::DirectoryRows::then_rows, crate::specs::DirectoryRows::span_rows, crate::specs::DirectoryRows::form_rows, crate::specs::DirectoryRows::rectangle_rows, crate::specs::DirectoryRows::tile_referred_rows, crate::specs::DirectoryRows::tile_list_rows, crate::specs::DirectoryRows::tile_directory_rows))]
+
 ghost use Rattle.std.specs.Prelude.{◌≡◌, ◌+◌, ◌≤◌, ◌<◌, min, length};
 ghost use Rattle.geometry.specs.Tiles.{tiles_down, tiles_across, tile_count};
 ghost use Rattle.bodies.specs.TileDirectory.{tile_directory_at, first_row, first_column, listed_rows, listed_columns, references_end};
@@ -10,46 +12,43 @@ use bodies::tile_directory;
 use check_directory::references;
 use geometry::tiles;
 use header::fields;
-use reasons::{Reason, rows};
+use reasons::{Fault, rows};
 
 // No number found in these rules is above it.
 const FARTHEST: u64 = 10000000000000000000;
 
 // The header refers to a tile directory.
-fn referred_row(s: &[u8]) -> Reason
+fn referred_row(s: &[u8]) -> Result<(), Fault>
     ensures { result ≡ first_failing (tile_referred_rows s.now) }
 {
     let reference = fields::tile_directory_reference(s);
     let kept = references::refers_to(s, record::TILE_DIRECTORY, reference);
-    let a = rows::holds(49, 0, 80, reference, 0, kept);
-    rows::or_else(a, Reason::Kept)
+    rows::holds(49, 0, 80, reference, 0, kept)
 }
 
-fn form(s: &[u8]) -> Reason
+fn form(s: &[u8]) -> Result<(), Fault>
     requires { tile_directory_at s.now < length s.now }
     ensures { result ≡ first_failing (form_rows s.now (tile_directory_at s.now)) }
 {
     let at = tile_directory::tile_directory_at(s);
     let format = tile_directory::directory_format(s, at) as u64;
     let standard = tile_directory::standard_references(s, at) as u64;
-    let a = rows::equal(51, 0, (at + 8) as u64, format, 0);
-    let b = rows::at_most(52, 0, (at + 9) as u64, standard, 1);
-    rows::or_else(a, rows::or_else(b, Reason::Kept))
+    rows::equal(51, 0, (at + 8) as u64, format, 0)?;
+    rows::at_most(52, 0, (at + 9) as u64, standard, 1)
 }
 
 // One direction of the rectangle.
-fn span(i: u64, p: u64, q: u64, start: u32, side: u32, tiles: u32) -> Reason
+fn span(i: u64, p: u64, q: u64, start: u32, side: u32, tiles: u32) -> Result<(), Fault>
     ensures { result ≡ first_failing (span_rows i p q start side tiles) }
 {
     let most = wire::LARGEST_INTEGER as u64;
-    let a = rows::at_most(53, i, p, start as u64, most);
-    let b = rows::at_most(54, i, q, side as u64, most);
+    rows::at_most(53, i, p, start as u64, most)?;
+    rows::at_most(54, i, q, side as u64, most)?;
     let end = start as u64 + side as u64;
-    let c = rows::at_most(55, i, q, end, tiles as u64);
-    rows::or_else(a, rows::or_else(b, rows::or_else(c, Reason::Kept)))
+    rows::at_most(55, i, q, end, tiles as u64)
 }
 
-fn span_down(s: &[u8], at: usize) -> Reason
+fn span_down(s: &[u8], at: usize) -> Result<(), Fault>
     requires { at < length s.now }
     ensures { result ≡ first_failing (span_rows 0 (at + 16) (at + 24) (first_row s.now at) (listed_rows s.now at) (tiles_down s.now)) }
 {
@@ -65,7 +64,7 @@ fn span_down(s: &[u8], at: usize) -> Reason
     )
 }
 
-fn span_across(s: &[u8], at: usize) -> Reason
+fn span_across(s: &[u8], at: usize) -> Result<(), Fault>
     requires { at < length s.now }
     ensures { result ≡ first_failing (span_rows 1 (at + 20) (at + 28) (first_column s.now at) (listed_columns s.now at) (tiles_across s.now)) }
 {
@@ -81,13 +80,12 @@ fn span_across(s: &[u8], at: usize) -> Reason
     )
 }
 
-fn rectangle(s: &[u8], at: usize) -> Reason
+fn rectangle(s: &[u8], at: usize) -> Result<(), Fault>
     requires { at < length s.now }
     ensures { result ≡ first_failing (rectangle_rows s.now at) }
 {
-    let a = span_down(s, at);
-    let b = span_across(s, at);
-    rows::or_else(a, b)
+    span_down(s, at)?;
+    span_across(s, at)
 }
 
 // Where the references begin.
@@ -127,7 +125,7 @@ fn references_end(s: &[u8]) -> u64
 }
 
 // The references fit their record.
-fn references_padded(s: &[u8]) -> Reason
+fn references_padded(s: &[u8]) -> Result<(), Fault>
     requires { tile_directory_at s.now < length s.now }
     ensures { result ≡ first_failing (padded_rows s.now 56 (tile_directory_at s.now) (references_end s.now)) }
 {
@@ -137,48 +135,42 @@ fn references_padded(s: &[u8]) -> Reason
 }
 
 // Rules 50 to 57.
-fn tile_frame(s: &[u8]) -> Reason
+#[tactic(auto, using(reasons::proofs::ReasonLaws::chain), unfolding(crate::specs::DirectoryRows::tile_frame_rows))]
+fn tile_frame(s: &[u8]) -> Result<(), Fault>
     requires { tile_directory_at s.now < length s.now }
     ensures { result ≡ first_failing (tile_frame_rows s.now) }
 {
     let reference = fields::tile_directory_reference(s);
-    let a = over::others(s, record::TILE_DIRECTORY, 50, reference);
-    let b = form(s);
+    over::others(s, record::TILE_DIRECTORY, 50, reference)?;
+    form(s)?;
     let at = tile_directory::tile_directory_at(s);
-    let c = rectangle(s, at);
-    let d = references_padded(s);
-    rows::or_else(a, rows::or_else(b, rows::or_else(c, d)))
+    rectangle(s, at)?;
+    references_padded(s)
 }
 
 // Rules 58 and 59.
-fn tile_list(s: &[u8]) -> Reason
+fn tile_list(s: &[u8]) -> Result<(), Fault>
     requires { (tile_directory_at s.now < length s.now) × (tile_count s.now ≤ 65536) }
     ensures { result ≡ first_failing (tile_list_rows s.now) }
 {
-    if let Reason::Broken(x) = over::tile_records_listed(s) {
-        return Reason::Broken(x);
-    }
+    over::tile_records_listed(s)?;
     given::given_tiles(s)
 }
 
 // Rules 50 to 59.
-fn tile_behind(s: &[u8]) -> Reason
+fn tile_behind(s: &[u8]) -> Result<(), Fault>
     requires { (tile_directory_at s.now < length s.now) × (tile_count s.now ≤ 65536) }
     ensures { result ≡ first_failing (then_rows (tile_frame_rows s.now) (tile_list_rows s.now)) }
 {
-    if let Reason::Broken(x) = tile_frame(s) {
-        return Reason::Broken(x);
-    }
+    tile_frame(s)?;
     tile_list(s)
 }
 
 // Rules 49 to 59: the tile directory.
-pub(crate) fn tile_directory_row(s: &[u8]) -> Reason
+pub(crate) fn tile_directory_row(s: &[u8]) -> Result<(), Fault>
     requires { tile_count s.now ≤ 65536 }
     ensures { result ≡ first_failing (tile_directory_rows s.now) }
 {
-    if let Reason::Broken(x) = referred_row(s) {
-        return Reason::Broken(x);
-    }
+    referred_row(s)?;
     tile_behind(s)
 }

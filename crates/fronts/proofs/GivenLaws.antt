@@ -1,4 +1,6 @@
 -- A front that is made is one for a lay-down, and says what it was told. Assumes nothing.
+use Rattle.std.specs.Prelude.{Err, Ok, Result, ⊤}
+use Rattle.answer.specs.declared.Refusal.{Refusal}
 use Prim.Native.Nat.{ℕ, zero, suc, ◌+◌, ◌-◌, ◌*◌, ◌/◌, ◌≤◌, ◌<◌}
 use mathlib.Core.Path.{◌≡◌, refl, ap, ◌∙◌}
 use mathlib.Core.List.{List}
@@ -12,9 +14,6 @@ use Rattle.wire.specs.Pick.{pick}
 use Rattle.wire.specs.Bytes.{Bytes, part}
 use Rattle.wire.proofs.ByteLaws.{part_length, part_out, bytes_none, bytes_cons, bytes_append, bytes_part, bytes_of_lem, zeros_bytes}
 use Rattle.wire.proofs.TestLaws.{means, below_each}
-use Rattle.answer.specs.declared.Verdict.{Verdict}
-use Rattle.answer.specs.declared.Verdict.TheVariants as verdict
-use Rattle.answer.specs.declared.Laid.TheVariants.{Length, Refused}
 use Rattle.answer.specs.Refusals.{unless_refused}
 use Rattle.answer.proofs.VerdictLaws.{gate_passed, behind_passed}
 use Rattle.check_header.specs.Identification.{mark}
@@ -140,14 +139,14 @@ front_bytes g u es ts wg we ok bu bt =
     (string_bytes _ (bytes_part _ _ bt)))
     (zeros_bytes 8)))
 
-length_of : (v : Verdict) (n m : ℕ) → unless_refused Refused v (Length n) ≡ Length m → (v ≡ verdict.Accepted) × (n ≡ m)
+length_of : (v : Result ⊤ Refusal) (n m : ℕ) → unless_refused Err v (Ok n) ≡ Ok m → (v ≡ Ok tt) × (n ≡ m)
 unfolding unless_refused
-length_of verdict.Accepted n m e = (refl, cc)
-length_of (verdict.Refused r) n m e = let z : ◌≡◌ {A = ℕ} 0 1 = cc in absurd (omega arith)
+length_of (Ok accepted) n m e = (refl, cc)
+length_of (Err r) n m e = let z : ◌≡◌ {A = ℕ} 0 1 = cc in absurd (omega arith)
 
 -- what is made fits its fields
 pub made_fits :
-    (g u es ts : List ℕ) (room n : ℕ) → Words g → Words es → front_made g u es ts room ≡ Length n → Fits (described_by g u es ts)
+    (g u es ts : List ℕ) (room n : ℕ) → Words g → Words es → front_made g u es ts room ≡ Ok n → Fits (described_by g u es ts)
 unfolding front_made front_verdict
 made_fits g u es ts room n wg we e = fits g u es ts wg we (gate_passed _ _ _ (length_of _ _ _ e).0).0
 

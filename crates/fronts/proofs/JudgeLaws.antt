@@ -1,4 +1,5 @@
 -- How a description is judged by its numbers and texts. Assumes nothing.
+use Rattle.std.specs.Prelude.{Err, Ok, Result, ⊤}
 use Prim.Native.Nat.{ℕ, min, ◌+◌, ◌-◌, ◌*◌, ◌/◌, ◌≤◌, ◌<◌}
 use mathlib.Core.Path.{◌≡◌, sym, ap, ◌∙◌}
 use mathlib.Core.List.{List, []}
@@ -14,9 +15,6 @@ use Rattle.wire.proofs.TestLaws.{not_both, means, yes, no, either_way, sum_none}
 use Rattle.utf8.specs.Utf8.{utf8}
 use Rattle.answer.specs.declared.Refusal.{Refusal}
 use Rattle.answer.specs.declared.Refusal.TheVariants.{Header, Ceiling, Input, Room}
-use Rattle.answer.specs.declared.Verdict.{Verdict}
-use Rattle.answer.specs.declared.Verdict.TheVariants as verdict
-use Rattle.answer.specs.declared.Laid.TheVariants.{Length, Refused}
 use Rattle.answer.specs.Refusals.{gate, unless_refused}
 use Rattle.answer.specs.Answers.{written}
 use Rattle.answer.proofs.VerdictLaws.{gate_passed, behind_passed}
@@ -281,12 +279,12 @@ unfolding header_told described_by
 sides_of g es ts b q k = (means _ (sym (q []) ∙ k)).0
 
 module _ (g u es ts : List ℕ) (room : ℕ) (a : Bool) (p : a ≡ describable g u es ts) where
-  pub verdict_input : a ≡ false → verdict.Refused Input ≡ front_verdict g u es ts room
+  pub verdict_input : a ≡ false → Err Input ≡ front_verdict g u es ts room
   unfolding front_verdict gate
   verdict_input h = rw (← p, h)
 
   module _ (h : a ≡ true) (b : Bool) (q : (v : List ℕ) → b ≡ header_told (described_by g v es ts)) where
-    pub verdict_header : b ≡ false → verdict.Refused Header ≡ front_verdict g u es ts room
+    pub verdict_header : b ≡ false → Err Header ≡ front_verdict g u es ts room
     unfolding front_verdict gate told_verdict unless_refused
     verdict_header k = rw (← p, h, ← q u, k)
 
@@ -297,7 +295,7 @@ module _ (g u es ts : List ℕ) (room : ℕ) (a : Bool) (p : a ≡ describable g
         ceilings_are : c ≡ ceilings_told (described_by g u es ts)
         ceilings_are = r u ts (right_of_lem g u es ts (sym p ∙ h)).allowed
 
-        pub verdict_ceiling : c ≡ false → verdict.Refused Ceiling ≡ front_verdict g u es ts room
+        pub verdict_ceiling : c ≡ false → Err Ceiling ≡ front_verdict g u es ts room
         unfolding front_verdict gate told_verdict unless_refused
         verdict_ceiling l = rw (← p, h, ← q u, k, ← ceilings_are, l)
 
@@ -305,11 +303,11 @@ module _ (g u es ts : List ℕ) (room : ℕ) (a : Bool) (p : a ≡ describable g
           long : length (front_of (described_by g u es ts)) ≡ n
           long = (right_of_lem g u es ts (sym p ∙ h)).long ∙ sym e
 
-          pub verdict_room : room < n → verdict.Refused Room ≡ front_verdict g u es ts room
+          pub verdict_room : room < n → Err Room ≡ front_verdict g u es ts room
           unfolding front_verdict gate told_verdict unless_refused passes
           verdict_room m = rw (← p, h, ← q u, k, ← ceilings_are, l, long, lt-leb n room m)
 
-          pub verdict_done : n ≤ room → verdict.Accepted ≡ front_verdict g u es ts room
+          pub verdict_done : n ≤ room → Ok tt ≡ front_verdict g u es ts room
           unfolding front_verdict gate told_verdict unless_refused passes
           verdict_done m = rw (← p, h, ← q u, k, ← ceilings_are, l, long, le-leb n room m)
 
@@ -322,7 +320,7 @@ pub record Passed (g u es ts : List ℕ) (room : ℕ) : Type 0 where
   pub small : front_counted g es ≤ 16777216
   pub fits : front_counted g es ≤ room
 
-pub passed_of : (g u es ts : List ℕ) (room : ℕ) → front_verdict g u es ts room ≡ verdict.Accepted → Passed g u es ts room
+pub passed_of : (g u es ts : List ℕ) (room : ℕ) → front_verdict g u es ts room ≡ Ok tt → Passed g u es ts room
 unfolding front_verdict
 passed_of g u es ts room e =
     let a = gate_passed _ _ _ e in
@@ -337,14 +335,14 @@ passed_of g u es ts room e =
       fits = omega (arith, r.long, (means _ c.0).0);
     }
 
-module _ (g u es ts d : List ℕ) (v : Verdict) (p : v ≡ front_verdict g u es ts (length d)) where
-  pub made_refused : (r : Refusal) → v ≡ verdict.Refused r → (Refused r ≡ front_made g u es ts (length d)) × (d ≡ written (front_made g u es ts (length d)) (front_of (described_by g u es ts)) d)
+module _ (g u es ts d : List ℕ) (v : Result ⊤ Refusal) (p : v ≡ front_verdict g u es ts (length d)) where
+  pub made_refused : (r : Refusal) → v ≡ Err r → (Err r ≡ front_made g u es ts (length d)) × (d ≡ written (front_made g u es ts (length d)) (front_of (described_by g u es ts)) d)
   unfolding front_made unless_refused
   made_refused r e = (rw (← p, e), rw (← p, e))
 
   pub made_done :
-      (n : ℕ) (l : List ℕ) → v ≡ verdict.Accepted → n ≡ front_counted g es → l ≡ put d 0 (front_of (described_by g u es ts)) →
-      (Length n ≡ front_made g u es ts (length d)) × (l ≡ written (front_made g u es ts (length d)) (front_of (described_by g u es ts)) d)
+      (n : ℕ) (l : List ℕ) → v ≡ Ok tt → n ≡ front_counted g es → l ≡ put d 0 (front_of (described_by g u es ts)) →
+      (Ok n ≡ front_made g u es ts (length d)) × (l ≡ written (front_made g u es ts (length d)) (front_of (described_by g u es ts)) d)
   unfolding front_made unless_refused
   made_done n l e q s =
       let w = passed_of g u es ts (length d) (sym p ∙ e) in

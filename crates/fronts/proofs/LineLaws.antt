@@ -8,11 +8,10 @@ use native.Mathlib.Numerals.{add-one}
 use lib.ListN.{length, get_or, length-append}
 use Rattle.wire.specs.Bytes.{bytes_of, put, zeros}
 use Rattle.wire.proofs.ByteLaws.{bytes_length, zeros_length}
-use Rattle.wire.proofs.PutLaws.{length_put, put_nil, put_out, first, then}
+use Rattle.wire.proofs.PutLaws.{length_put, put_nil, first, then}
 use Rattle.wire.proofs.TestLaws.{means, sum_none, sum_more}
-use Rattle.check_header.specs.Identification.{mark}
 use Rattle.fronts.specs.declared.entries.Numbers.{Numbers}
-use Rattle.fronts.specs.Front.{strung, entry_length, entry_of, block_bytes}
+use Rattle.fronts.specs.Front.{strung, entry_length, entry_of}
 use Rattle.fronts.specs.Given.{number_of, texts_length, text_at, stated_by, texts_short}
 use Rattle.fronts.specs.Writing.{numbers_at, Ready, entries_bytes, AllReady, sides_bytes, fixed_bytes}
 use Rattle.fronts.proofs.EntryLaws.{strung_more, strung_within, entry_length_lem}
@@ -89,21 +88,6 @@ pub lined_all :
 lined_all d at es ts l p from e n w h k = let q : e ≡ n = omega arith in rw (← q) (w.place, w.is)
 
 -- the block, the sides, the fields
-
-pub mark_put :
-    (d a b c l : List ℕ) → a ≡ put d 0 (bytes_of 4 1936881255) → b ≡ put a 4 (bytes_of 4 1935766048) → c ≡ put b 8 (bytes_of 4 7497076) → l ≡ put c 12 (bytes_of 4 1025) →
-    16 ≤ length d → l ≡ put d 0 block_bytes
-unfolding block_bytes mark bytes_of
-mark_put d a b c l p q r s h =
-    let w1 = first p refl in
-    let w2 = then w1 (bytes_of 4 1935766048) 4 4 q refl refl (omega arith) in
-    let w3 = then w2 (bytes_of 4 7497076) 4 8 r refl refl (omega arith) in
-    let w4 = then w3 (bytes_of 4 1025) 4 12 s refl refl (omega arith) in
-    w4.is
-
-pub mark_out : (d : List ℕ) → length d < 16 → d ≡ put d 0 block_bytes
-unfolding block_bytes mark
-mark_out d h = put_out d 0 block_bytes refl (omega arith)
 
 pub sides_put :
     (d e f g l : List ℕ) (at a b c i : ℕ) → e ≡ put d at (bytes_of 4 a) → f ≡ put e (at + 4) (bytes_of 4 b) → g ≡ put f (at + 8) (bytes_of 4 c) →

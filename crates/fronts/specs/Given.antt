@@ -2,15 +2,12 @@
 -- Of a page: grid rows, grid columns, tile rows, tile columns, whether checksums are on, the bytes of the product label, then the bytes
 -- of each compression method's name. Of an element: type code, continuous, the bytes of its name, label, description and unit, then eight
 -- numbers of its range and fill block. The texts stand in the order of the file, without lengths.
-use Rattle.std.specs.Prelude.{ℕ, min, ◌+◌, ◌-◌, ◌*◌, ◌/◌, ◌%◌, ◌<◌, ◌≡◌, List, [], ◌∷◌, Bool, true, length, get_or, eqb}
+use Rattle.std.specs.Prelude.{ℕ, min, ◌+◌, ◌-◌, ◌*◌, ◌/◌, ◌%◌, ◌<◌, ◌≡◌, List, [], ◌∷◌, Bool, true, length, get_or, eqb, Err, Ok, Result, ⊤}
+use Rattle.answer.specs.declared.Refusal.{Refusal}
 use Rattle.wire.specs.Pick.{pick}
 use Rattle.wire.specs.Tests.{◌≤?◌, ◌≡?◌, is, passes, all_below, sum_below}
 use Rattle.wire.specs.Bytes.{Bytes, part}
 use Rattle.answer.specs.declared.Refusal.TheVariants.{Input, Room}
-use Rattle.answer.specs.declared.Verdict.{Verdict}
-use Rattle.answer.specs.declared.Verdict.TheVariants as verdict
-use Rattle.answer.specs.declared.Laid.{Laid}
-use Rattle.answer.specs.declared.Laid.TheVariants.{Length, Refused}
 use Rattle.answer.specs.Refusals.{gate, unless_refused}
 use Rattle.check_header.specs.Ceilings.{most_file_bytes}
 use Rattle.check_header.specs.Stages.{check_front}
@@ -81,15 +78,15 @@ describable g u es ts =
     ∷ (length (front_of (described_by g u es ts)) ≤? most_file_bytes) ∷ [])
 
 -- 12; then 3 and 4 as the check gives them; then 13
-unfoldable pub front_verdict : List ℕ → List ℕ → List ℕ → List ℕ → ℕ → Verdict
+unfoldable pub front_verdict : List ℕ → List ℕ → List ℕ → List ℕ → ℕ → Result ⊤ Refusal
 front_verdict g u es ts room =
     gate (describable g u es ts) Input
-    (unless_refused verdict.Refused (told_verdict (described_by g u es ts))
-    (gate (passes ((length (front_of (described_by g u es ts)) ≤? room) ∷ [])) Room verdict.Accepted))
+    (unless_refused Err (told_verdict (described_by g u es ts))
+    (gate (passes ((length (front_of (described_by g u es ts)) ≤? room) ∷ [])) Room (Ok tt)))
 
 -- the answer is the front's length, or the refusal
-unfoldable pub front_made : List ℕ → List ℕ → List ℕ → List ℕ → ℕ → Laid
-front_made g u es ts room = unless_refused Refused (front_verdict g u es ts room) (Length (length (front_of (described_by g u es ts))))
+unfoldable pub front_made : List ℕ → List ℕ → List ℕ → List ℕ → ℕ → Result ℕ Refusal
+front_made g u es ts room = unless_refused Err (front_verdict g u es ts room) (Ok (length (front_of (described_by g u es ts))))
 
 -- numbers of 32 bits, as a slice of u32 holds them
 pub record Words (l : List ℕ) : Type 0 where
@@ -105,7 +102,7 @@ pub record WholeTexts (es ts : List ℕ) (e : ℕ) : Type 0 where
 -- of every front that is made: its length, that it is a front for a lay-down, and that it says what it was told, each string whole
 pub record Made (g u es ts : List ℕ) (n : ℕ) : Type 0 where
   pub long : length (front_of (described_by g u es ts)) ≡ n
-  pub accepted : check_front (front_of (described_by g u es ts)) ≡ verdict.Accepted
+  pub accepted : check_front (front_of (described_by g u es ts)) ≡ Ok tt
   pub says : FrontSays (front_of (described_by g u es ts)) (described_by g u es ts)
   pub bytes : Bytes (front_of (described_by g u es ts))
   pub whole : (e : ℕ) → e < length es / 14 → WholeTexts es ts e
@@ -113,7 +110,7 @@ pub record Made (g u es ts : List ℕ) (n : ℕ) : Type 0 where
   pub label : length (described_by g u es ts).label ≡ get_or g 5 0
 
 abbrev pub FrontMade : Type 0
-FrontMade = (g u es ts : List ℕ) (room n : ℕ) → Words g → Bytes u → Words es → Bytes ts → front_made g u es ts room ≡ Length n → Made g u es ts n
+FrontMade = (g u es ts : List ℕ) (room n : ℕ) → Words g → Bytes u → Words es → Bytes ts → front_made g u es ts room ≡ Ok n → Made g u es ts n
 
 -- and what is refused behind 12 and before 13 is what the check refuses
 abbrev pub RefusedAsChecked : Type 0

@@ -1,13 +1,12 @@
 -- How a front that is made from a description is judged, and what it says.
-use Rattle.std.specs.Prelude.{ℕ, min, ◌+◌, ◌<◌, ◌≡◌, List, [], ◌∷◌, Bool, true, length, leb, eqb}
+use Rattle.std.specs.Prelude.{ℕ, min, ◌+◌, ◌<◌, ◌≡◌, List, [], ◌∷◌, Bool, true, length, leb, eqb, Ok, Result, ⊤}
+use Rattle.answer.specs.declared.Refusal.{Refusal}
 use Rattle.wire.specs.Pick.{pick}
 use Rattle.wire.specs.Tests.{◌≤?◌, is, is_not, passes, all_below, sum_below}
 use Rattle.wire.specs.Bytes.{byte_at, part, same_bytes}
 use Rattle.wire.specs.Items.{advance}
 use Rattle.utf8.specs.Utf8.{utf8}
 use Rattle.answer.specs.declared.Refusal.TheVariants.{Header, Ceiling}
-use Rattle.answer.specs.declared.Verdict.{Verdict}
-use Rattle.answer.specs.declared.Verdict.TheVariants.{Accepted}
 use Rattle.answer.specs.Refusals.{gate}
 use Rattle.header.specs.Names.{identifier, longest_name}
 use Rattle.header.specs.Fields.{grid_rows, grid_columns, tile_rows, tile_columns, checksum_enabled, element_count, header_limit}
@@ -70,8 +69,8 @@ ceilings_told d =
     ((length (front_of d) ≤? most_file_bytes) ∷ is (sides_allowed d.rows d.columns d.tile_rows_lem d.tile_columns_lem)
     ∷ is (counts_allowed d.rows d.columns d.tile_rows_lem d.tile_columns_lem d.elements d.element) ∷ [])
 
-unfoldable pub told_verdict : Description → Verdict
-told_verdict d = gate (header_told d) Header (gate (ceilings_told d) Ceiling Accepted)
+unfoldable pub told_verdict : Description → Result ⊤ Refusal
+told_verdict d = gate (header_told d) Header (gate (ceilings_told d) Ceiling (Ok tt))
 
 -- the front is judged as its description is: refused exactly if the check would refuse it
 abbrev pub FrontJudged : Type 0

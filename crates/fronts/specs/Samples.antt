@@ -1,8 +1,7 @@
 -- The front of document 01's page of the listing: a grid of 3 by 3 cells, tiles of 2 by 2, checksums on, one Short named `z` whose fill is
 -- 7, no UUID. Made from its description it has 336 bytes.
-use Rattle.std.specs.Prelude.{ℕ, ◌≡◌, List, [], ◌∷◌, ◌++◌, replicate}
+use Rattle.std.specs.Prelude.{ℕ, ◌≡◌, List, [], ◌∷◌, ◌++◌, replicate, Err, Ok}
 use Rattle.answer.specs.declared.Refusal.TheVariants.{Header, Input, Room}
-use Rattle.answer.specs.declared.Laid.TheVariants.{Length, Refused}
 use Rattle.fronts.specs.Front.{front_of}
 use Rattle.fronts.specs.Given.{described_by, front_made}
 
@@ -25,7 +24,7 @@ bytes =
 
 pub record SampleFront : Type 0 where
   pub is : front_of (described_by numbers (none 16) elements (122 ∷ [])) ≡ bytes
-  pub made : front_made numbers (none 16) elements (122 ∷ []) 336 ≡ Length 336
-  pub short : front_made numbers (none 16) elements (122 ∷ []) 335 ≡ Refused Room
-  pub unsaid : front_made numbers (none 16) elements [] 336 ≡ Refused Input
-  pub unnamed : front_made numbers (none 16) elements (95 ∷ []) 336 ≡ Refused Header
+  pub made : front_made numbers (none 16) elements (122 ∷ []) 336 ≡ Ok 336
+  pub short : front_made numbers (none 16) elements (122 ∷ []) 335 ≡ Err Room
+  pub unsaid : front_made numbers (none 16) elements [] 336 ≡ Err Input
+  pub unnamed : front_made numbers (none 16) elements (95 ∷ []) 336 ≡ Err Header

@@ -8,7 +8,9 @@ use Rattle.geometry.specs.Sizes.{uncompressed}
 use Rattle.check_header.specs.Ceilings.{most_file_bytes}
 use Rattle.written_records.specs.Pieces.{record_length}
 use Rattle.fronts.specs.declared.entries.Numbers.{Numbers}
+use Rattle.fronts.specs.declared.sides.Sides.{Sides}
 use Rattle.fronts.specs.Front.{strung, string_of, range_count, range_number, entry_of}
+use Rattle.fronts.specs.Judged.{sides_told, sides_allowed}
 use Rattle.fronts.specs.Given.{number_of, texts_length, text_at, stated_by, method_length, method_at, texts_short, method_short}
 
 -- the first n numbers of a block, which stand in a list from `first` on
@@ -32,6 +34,16 @@ unfoldable pub tail_bytes : List ℕ → List ℕ → List ℕ → List ℕ
 tail_bytes a b c =
     string_of a ++ string_of b ++ string_of c
     ++ zeros (tail_length (length a) (length b) (length c) - (6 + length a + length b + length c))
+
+-- the sides among a page's numbers; whether each is a side, and none above its ceiling
+abbrev pub sides_of : List ℕ → Sides
+sides_of g = record { rows = get_or g 0 0; columns = get_or g 1 0; tile_rows = get_or g 2 0; tile_columns = get_or g 3 0 }
+
+abbrev pub told : Sides → Bool
+told s = sides_told s.rows s.columns s.tile_rows s.tile_columns
+
+abbrev pub allowed : Sides → Bool
+allowed s = sides_allowed s.rows s.columns s.tile_rows s.tile_columns
 
 -- what an element's numbers say, as they are read at once
 unfoldable pub numbers_at : List ℕ → ℕ → Numbers

@@ -27,13 +27,11 @@ fn put_methods(
 {
     let mut p = at;
     let mut start = from;
-    let mut i = 0;
-    while i < n {
+    for i in 0..n {
         let k = wire::number_in(page, 6 + i) as usize;
         entries::put_string(out, p, wire::part_of(texts, start, k));
         p += 2 + k;
         start += k;
-        i += 1;
     }
     p
 }

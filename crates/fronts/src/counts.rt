@@ -37,15 +37,7 @@ fn elements_short(elements: &[u32], n: usize) -> bool
     requires { n * 14 ≤ length elements.now }
     ensures { result ≡ all_below n (texts_short elements.now) }
 {
-    let mut e = 0;
-    while e < n {
-        if texts_short(elements, e) {
-            e += 1;
-        } else {
-            return false;
-        }
-    }
-    true
+    (0..n).all(|e| texts_short(elements, e))
 }
 
 // Whether the name of method i is short enough.
@@ -63,15 +55,7 @@ fn methods_short(page: &[u32], n: usize) -> bool
     requires { 6 + n ≤ length page.now }
     ensures { result ≡ all_below n (method_short page.now) }
 {
-    let mut i = 0;
-    while i < n {
-        if method_short(page, i) {
-            i += 1;
-        } else {
-            return false;
-        }
-    }
-    true
+    (0..n).all(|i| method_short(page, i))
 }
 
 // Where the strings of element n start among the texts: the bytes of those before it.
@@ -80,10 +64,8 @@ pub(crate) fn texts_before(elements: &[u32], n: usize) -> usize
     ensures { result ≡ text_at elements.now n }
 {
     let mut sum = 0;
-    let mut e = 0;
-    while e < n {
+    for e in 0..n {
         sum += entries::texts_of(elements, e);
-        e += 1;
     }
     sum
 }
@@ -94,10 +76,8 @@ pub(crate) fn methods_before(page: &[u32], n: usize) -> usize
     ensures { result ≡ sum_below n (method_length page.now) }
 {
     let mut sum = 0;
-    let mut i = 0;
-    while i < n {
+    for i in 0..n {
         sum += wire::number_in(page, 6 + i) as usize;
-        i += 1;
     }
     sum
 }
@@ -119,10 +99,8 @@ fn entries_length(elements: &[u32], n: usize) -> usize
     ensures { result ≡ sum_below n (entry_counted elements.now) }
 {
     let mut sum = 0;
-    let mut e = 0;
-    while e < n {
+    for e in 0..n {
         sum += entry_length(elements, e);
-        e += 1;
     }
     sum
 }

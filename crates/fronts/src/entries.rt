@@ -9,6 +9,11 @@ ghost use Rattle.fronts.specs.Writing.{range_bytes, head_length, head_bytes, tai
 use wire::writing;
 use written_records::pieces;
 
+// The type codes that a range and fill block depends on.
+const INTEGER_CODED: u8 = header::entries::INTEGER_CODED as u8;
+
+pub(crate) const SHORT: u8 = header::entries::SHORT as u8;
+
 // A string: its length, and its bytes.
 pub(crate) fn put_string(out: &mut [u8], at: usize, t: &[u8])
     ensures { out.new ≡ put out.old at (string_of t.now) }
@@ -34,20 +39,14 @@ pub(crate) fn range_count(kind: u8) -> usize
     ensures is { result ≡ range_count kind }
     ensures few { result ≤ 8 }
 {
-    if kind == 1 {
-        return 8;
-    }
-    3
+    if kind == INTEGER_CODED { 8 } else { 3 }
 }
 
 // A number as its block has it.
 fn range_number(kind: u8, v: u32) -> u32
     ensures { result ≡ range_number kind v }
 {
-    if kind == 3 {
-        return v % 65536;
-    }
-    v
+    if kind == SHORT { v % 65536 } else { v }
 }
 
 // The first n numbers of a range and fill block.
@@ -55,11 +54,9 @@ fn put_block(out: &mut [u8], at: usize, kind: u8, n: usize, range: &[u32], first
     requires { (n ≤ 8) × ((at + 4 * n ≤ length out.old) × (first + 8 ≤ length range.now)) }
     ensures { out.new ≡ put out.old at (range_bytes kind n range.now first) }
 {
-    let mut i = 0;
-    while i < n {
+    for i in 0..n {
         let v = range_number(kind, wire::number_in(range, first + i));
         writing::put_u32(out, at + 4 * i, v);
-        i += 1;
     }
 }
 
@@ -67,25 +64,24 @@ fn put_block(out: &mut [u8], at: usize, kind: u8, n: usize, range: &[u32], first
 fn put_entry_head(
     out: &mut [u8],
     at: usize,
-    kind: u8,
-    continuous: u8,
+    x: Numbers,
     name: &[u8],
     range: &[u32],
     first: usize,
 ) -> usize
-    requires { (length name.now < 65536) × ((at + head_length kind (length name.now) ≤ length out.old) × (first + 8 ≤ length range.now)) }
-    ensures end { result ≡ at + head_length kind (length name.now) }
-    ensures holds { out.new ≡ put out.old at (head_bytes kind continuous name.now range.now first) }
+    requires { (length name.now < 65536) × ((at + head_length x.kind (length name.now) ≤ length out.old) × (first + 8 ≤ length range.now)) }
+    ensures end { result ≡ at + head_length x.kind (length name.now) }
+    ensures holds { out.new ≡ put out.old at (head_bytes x.kind x.continuous name.now range.now first) }
 {
-    let count = range_count(kind);
+    let count = range_count(x.kind);
     let block = 10 + name.len();
     let end = block + 4 * count;
     let pad = pieces::padding(end);
-    writing::put_byte(out, at, kind);
-    writing::put_byte(out, at + 1, continuous);
+    writing::put_byte(out, at, x.kind);
+    writing::put_byte(out, at + 1, x.continuous);
     writing::put_zeros(out, at + 2, 6);
     put_string(out, at + 8, name);
-    put_block(out, at + block, kind, count, range, first);
+    put_block(out, at + block, x.kind, count, range, first);
     writing::put_zeros(out, at + end, pad);
     at + end + pad
 }
@@ -107,7 +103,8 @@ fn put_entry_tail(out: &mut [u8], at: usize, a: &[u8], b: &[u8], c: &[u8]) -> us
     at + n + pad
 }
 
-// What an element's numbers say: its type code, whether it is continuous, the lengths of its strings.
+// What an element's numbers say: its type code, whether it is continuous, the lengths of its strings. The code stays a number: the
+// lengths are counted before it is judged, and another one than a kind's is refused only then.
 #[derive(Clone, Copy)]
 pub(crate) struct Numbers {
     pub(crate) kind: u8,
@@ -122,20 +119,14 @@ pub(crate) struct Numbers {
 pub(crate) fn code_of(x: u32) -> u8
     ensures { result ≡ min x 255 }
 {
-    if 255 < x {
-        return 255;
-    }
-    x as u8
+    x.min(255) as u8
 }
 
 // 0 as it is, anything else as 1.
 fn truth_of(x: u32) -> u8
     ensures { result ≡ pick (eqb x 0) 0 1 }
 {
-    if x == 0 {
-        return 0;
-    }
-    1
+    u8::from(x != 0)
 }
 
 pub(crate) fn numbers_at(elements: &[u32], e: usize) -> Numbers
@@ -175,7 +166,7 @@ fn put_entry(
     let label = wire::part_of(texts, second, x.label as usize);
     let description = wire::part_of(texts, third, x.description as usize);
     let unit = wire::part_of(texts, fourth, x.unit as usize);
-    let middle = put_entry_head(out, at, x.kind, x.continuous, name, elements, first);
+    let middle = put_entry_head(out, at, x, name, elements, first);
     put_entry_tail(out, middle, label, description, unit)
 }
 
@@ -202,11 +193,9 @@ pub(crate) fn put_entries(
 {
     let mut p = at;
     let mut from = 0;
-    let mut e = 0;
-    while e < n {
+    for e in 0..n {
         p = put_entry(out, p, elements, e, texts, from);
         from += texts_of(elements, e);
-        e += 1;
     }
     p
 }

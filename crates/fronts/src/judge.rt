@@ -3,58 +3,23 @@ ghost use Rattle.std.specs.Prelude.{◌≡◌, true, List, ℕ, min, ◌+◌, �
 ghost use Rattle.wire.specs.Tests.{all_below};
 ghost use Rattle.wire.specs.Bytes.{part};
 ghost use Rattle.header.specs.Element.{most_elements};
-ghost use Rattle.geometry.specs.Tiles.{tiles_along, tiles_in};
 ghost use Rattle.geometry.specs.Sizes.{uncompressed};
-ghost use Rattle.check_header.specs.HeaderRecord.{positive};
-ghost use Rattle.check_header.specs.Ceilings.{most_file_bytes, most_grid_side, most_tile_side};
+ghost use Rattle.check_header.specs.Ceilings.{most_file_bytes, most_tile_side};
 ghost use Rattle.fronts.specs.Front.{front_of};
-ghost use Rattle.fronts.specs.Judged.{sides_told, names_apart, texts_told, element_told, elements_told, label_told, header_told, sides_allowed, counts_allowed, ceilings_told};
+ghost use Rattle.fronts.specs.Judged.{names_apart, texts_told, element_told, elements_told, label_told, header_told, counts_allowed, ceilings_told};
 ghost use Rattle.fronts.specs.Given.{stated_by, method_at, described_by};
-ghost use Rattle.fronts.specs.Writing.{tile_counted, Summed, Counted};
+ghost use Rattle.fronts.specs.Writing.{tile_counted, Summed, Counted, sides_of, told, allowed};
 
+use crate::sides::Sides;
 use crate::{counts, entries};
-use geometry::tiles;
 use header::names;
 
-// The type code of a Short, above which there is none.
-const SHORT: u8 = header::entries::SHORT as u8;
-
-// The ceilings: elements, sides of the grid and of a tile, tiles, uncompressed bytes of one tile.
+// The ceilings: elements, tiles, uncompressed bytes of one tile.
 const MOST_ELEMENTS: usize = header::entries::MOST_ELEMENTS as usize;
-
-const MOST_GRID_SIDE: u32 = 65536;
-
-const MOST_TILE_SIDE: u32 = 4096;
 
 const MOST_TILES: u64 = 65536;
 
 const MOST_TILE_BYTES: u64 = 1048576;
-
-// A side is at least 1, and not negative.
-fn side_told(x: u32) -> bool
-    ensures { result ≡ positive x }
-{
-    if x < 1 {
-        return false;
-    }
-    if wire::LARGEST_INTEGER < x {
-        return false;
-    }
-    true
-}
-
-fn sides_told(rows: u32, columns: u32, height: u32, width: u32) -> bool
-    ensures { result ≡ sides_told rows columns height width }
-{
-    if side_told(rows) {
-        if side_told(columns) {
-            if side_told(height) {
-                return side_told(width);
-            }
-        }
-    }
-    false
-}
 
 // Whether the names of two elements differ.
 fn names_apart(elements: &[u32], texts: &[u8], e: usize, i: usize) -> bool
@@ -78,15 +43,7 @@ fn name_new(elements: &[u32], texts: &[u8], e: usize) -> bool
     requires { Summed elements.now (e + 1) }
     ensures { result ≡ all_below e (names_apart (stated_by elements.now texts.now) e) }
 {
-    let mut i = 0;
-    while i < e {
-        if names_apart(elements, texts, e, i) {
-            i += 1;
-        } else {
-            return false;
-        }
-    }
-    true
+    (0..e).all(|i| names_apart(elements, texts, e, i))
 }
 
 // Whether the label, the description and the unit of element e are UTF-8.
@@ -112,7 +69,7 @@ fn element_told(elements: &[u32], texts: &[u8], e: usize) -> bool
     ensures { result ≡ element_told (stated_by elements.now texts.now) e }
 {
     let x = entries::numbers_at(elements, e);
-    if SHORT < x.kind {
+    if entries::SHORT < x.kind {
         return false;
     }
     let at = counts::texts_before(elements, e);
@@ -130,25 +87,14 @@ fn each_told(elements: &[u32], texts: &[u8], n: usize) -> bool
     requires { Summed elements.now n }
     ensures { result ≡ all_below n (element_told (stated_by elements.now texts.now)) }
 {
-    let mut e = 0;
-    while e < n {
-        if element_told(elements, texts, e) {
-            e += 1;
-        } else {
-            return false;
-        }
-    }
-    true
+    (0..n).all(|e| element_told(elements, texts, e))
 }
 
 // Of n elements those that a check reads.
 fn elements_read(n: usize) -> usize
     ensures { result ≡ min n most_elements }
 {
-    if n <= MOST_ELEMENTS {
-        return n;
-    }
-    MOST_ELEMENTS
+    n.min(MOST_ELEMENTS)
 }
 
 // The elements, n of them.
@@ -189,12 +135,8 @@ pub(crate) fn header_told(page: &[u32], elements: &[u32], texts: &[u8]) -> bool
     requires { Counted page.now elements.now }
     ensures { (u : List ℕ) → result ≡ header_told (described_by page.now u elements.now texts.now) }
 {
-    let rows = wire::number_in(page, 0);
-    let columns = wire::number_in(page, 1);
-    let height = wire::number_in(page, 2);
-    let width = wire::number_in(page, 3);
     let n = elements.len() / 14;
-    if sides_told(rows, columns, height, width) {
+    if Sides::of(page).are_told() {
         if 1 < wire::number_in(page, 4) {
             return false;
         }
@@ -203,42 +145,6 @@ pub(crate) fn header_told(page: &[u32], elements: &[u32], texts: &[u8]) -> bool
         }
     }
     false
-}
-
-// The sides against their ceilings.
-fn sides_allowed(rows: u32, columns: u32, height: u32, width: u32) -> bool
-    ensures { result ≡ sides_allowed rows columns height width }
-{
-    if MOST_GRID_SIDE < rows {
-        return false;
-    }
-    if MOST_GRID_SIDE < columns {
-        return false;
-    }
-    if MOST_TILE_SIDE < height {
-        return false;
-    }
-    if MOST_TILE_SIDE < width {
-        return false;
-    }
-    true
-}
-
-// The tiles that a side of the grid takes.
-fn tiles_on_side(side: u32, tile: u32) -> u32
-    requires { (side ≤ most_grid_side) × ((1 ≤ tile) × (tile ≤ most_tile_side)) }
-    ensures { result ≡ tiles_along side tile }
-{
-    tiles::quotient(side + (tile - 1), tile)
-}
-
-fn tiles_told(rows: u32, columns: u32, height: u32, width: u32) -> u64
-    requires { (sides_told rows columns height width ≡ true) × (sides_allowed rows columns height width ≡ true) }
-    ensures { result ≡ tiles_in rows columns height width }
-{
-    let down = tiles_on_side(rows, height);
-    let across = tiles_on_side(columns, width);
-    down as u64 * (across as u64)
 }
 
 // The uncompressed bytes of an element of a type code in a tile.
@@ -257,28 +163,26 @@ fn tile_told(elements: &[u32], n: usize, height: u32, width: u32) -> u64
     ensures { result ≡ tile_counted elements.now n height width }
 {
     let mut sum: u64 = 0;
-    let mut e = 0;
-    while e < n {
+    for e in 0..n {
         let x = entries::numbers_at(elements, e);
         sum += element_in_tile(height, width, x.kind);
-        e += 1;
     }
     sum
 }
 
 // The number of tiles, the number of elements and the bytes of a tile against their ceilings.
-fn counts_allowed(elements: &[u32], rows: u32, columns: u32, height: u32, width: u32) -> bool
-    requires { (sides_told rows columns height width ≡ true) × (sides_allowed rows columns height width ≡ true) }
-    ensures { (ts : List ℕ) → result ≡ counts_allowed rows columns height width (length elements.now / 14) (stated_by elements.now ts) }
+fn counts_allowed(elements: &[u32], sides: Sides) -> bool
+    requires { (told sides ≡ true) × (allowed sides ≡ true) }
+    ensures { (ts : List ℕ) → result ≡ counts_allowed sides.rows sides.columns sides.tile_rows sides.tile_columns (length elements.now / 14) (stated_by elements.now ts) }
 {
     let n = elements.len() / 14;
-    if MOST_TILES < tiles_told(rows, columns, height, width) {
+    if MOST_TILES < sides.tiles() {
         return false;
     }
     if MOST_ELEMENTS < n {
         return false;
     }
-    if MOST_TILE_BYTES < tile_told(elements, n, height, width) {
+    if MOST_TILE_BYTES < tile_told(elements, n, sides.tile_rows, sides.tile_columns) {
         return false;
     }
     true
@@ -286,15 +190,12 @@ fn counts_allowed(elements: &[u32], rows: u32, columns: u32, height: u32, width:
 
 // Stage 4, behind stage 3, of a front that is no longer than a file may be.
 pub(crate) fn ceilings_told(page: &[u32], elements: &[u32]) -> bool
-    requires { sides_told (get_or page.now 0 0) (get_or page.now 1 0) (get_or page.now 2 0) (get_or page.now 3 0) ≡ true }
+    requires { told (sides_of page.now) ≡ true }
     ensures { (u ts : List ℕ) → length (front_of (described_by page.now u elements.now ts)) ≤ most_file_bytes → result ≡ ceilings_told (described_by page.now u elements.now ts) }
 {
-    let rows = wire::number_in(page, 0);
-    let columns = wire::number_in(page, 1);
-    let height = wire::number_in(page, 2);
-    let width = wire::number_in(page, 3);
-    if sides_allowed(rows, columns, height, width) {
-        return counts_allowed(elements, rows, columns, height, width);
+    let sides = Sides::of(page);
+    if sides.are_allowed() {
+        return counts_allowed(elements, sides);
     }
     false
 }

@@ -10,48 +10,61 @@ mod counts;
 mod entries;
 mod fixed;
 mod judge;
+mod sides;
 
 ghost use Rattle.std.specs.Prelude.{◌≡◌, length};
 ghost use Rattle.answer.specs.Answers.{written};
 ghost use Rattle.fronts.specs.Front.{front_of};
 ghost use Rattle.fronts.specs.Given.{described_by, front_verdict, front_made};
 
-use answer::{Laid, Refusal, Verdict};
+use answer::Refusal;
 
 // Whether a description is refused, where its front goes into a buffer of so many bytes.
-fn front_verdict(page: &[u32], uuid: &[u8], elements: &[u32], texts: &[u8], room: usize) -> Verdict
+fn front_verdict(
+    page: &[u32],
+    uuid: &[u8],
+    elements: &[u32],
+    texts: &[u8],
+    room: usize,
+) -> Result<(), Refusal>
     ensures { result ≡ front_verdict page.now uuid.now elements.now texts.now room }
 {
     if counts::is_describable(page, uuid, elements, texts) {
         if judge::header_told(page, elements, texts) {
             if judge::ceilings_told(page, elements) {
                 if room < counts::front_length(page, elements) {
-                    return Verdict::Refused(Refusal::Room);
+                    return Err(Refusal::Room);
                 }
-                return Verdict::Accepted;
+                return Ok(());
             }
-            return Verdict::Refused(Refusal::Ceiling);
+            return Err(Refusal::Ceiling);
         }
-        return Verdict::Refused(Refusal::Header);
+        return Err(Refusal::Header);
     }
-    Verdict::Refused(Refusal::Input)
+    Err(Refusal::Input)
 }
 
 // Makes a front. Of a page: grid rows, grid columns, tile rows, tile columns, checksums (1 on, 0 off), the bytes of the product label,
 // then the bytes of each compression method's name. Of each element 14 numbers: type code, continuous, the bytes of its name, label,
 // description and unit, then the eight of its range and fill block. The texts stand in the order of the file, without lengths: of each
 // element name, label, description and unit; the methods' names; the product label.
-pub fn make(page: &[u32], uuid: &[u8], elements: &[u32], texts: &[u8], front: &mut [u8]) -> Laid
+pub fn make(
+    page: &[u32],
+    uuid: &[u8],
+    elements: &[u32],
+    texts: &[u8],
+    front: &mut [u8],
+) -> Result<usize, Refusal>
     ensures answer { result ≡ front_made page.now uuid.now elements.now texts.now (length front.old) }
     ensures buffer { front.new ≡ written (front_made page.now uuid.now elements.now texts.now (length front.old)) (front_of (described_by page.now uuid.now elements.now texts.now)) front.old }
 {
     let room = front.len();
     match front_verdict(page, uuid, elements, texts, room) {
-        Verdict::Refused(r) => Laid::Refused(r),
-        Verdict::Accepted => {
+        Err(r) => Err(r),
+        Ok(()) => {
             let n = counts::front_length(page, elements);
             body::put_whole(front, n, page, uuid, elements, texts);
-            Laid::Length(n)
+            Ok(n)
         }
     }
 }

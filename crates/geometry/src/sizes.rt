@@ -9,7 +9,7 @@ use header::{entries, fields};
 // Above every length of four bytes, so none of them tells it from a greater U.
 const CAP: u64 = 4294967296;
 
-// U, or the cap where U is more.
+// U, or the cap where U is more. No enum for a type code here: header::Element says why.
 fn uncompressed(h: u32, w: u32, kind: u32) -> u64
     ensures { result ≡ min (uncompressed h w kind) cap }
 {
@@ -87,12 +87,9 @@ pub fn kind_packing(s: &[u8], kind: u32, l: u32) -> Packing
 pub fn tile_bytes(s: &[u8]) -> u64
     ensures { result ≡ min (tile_bytes s.now) cap }
 {
-    let n = entries::entries_read(s);
-    let mut sum: u64 = 0;
-    let mut e = 0;
-    while e < n {
+    let mut sum = 0;
+    for e in 0..entries::entries_read(s) {
         sum = capped(sum, element_bytes(s, e));
-        e += 1;
     }
     sum
 }
@@ -102,8 +99,5 @@ fn capped(a: u64, b: u64) -> u64
     requires { (a ≤ cap) × (b ≤ cap) }
     ensures { result ≡ min (a + b) cap }
 {
-    if a + b <= CAP {
-        return a + b;
-    }
-    CAP
+    (a + b).min(CAP)
 }

@@ -1,4 +1,5 @@
 -- Numbers written at the front of a list, any number of them, and those of a page and of an element. Assumes nothing.
+use Rattle.std.specs.Prelude.{Ok, Err, Result}
 use Prim.Native.Nat.{ℕ, zero, suc, ◌+◌, ◌≤◌, ◌<◌}
 use mathlib.Core.Path.{◌≡◌, refl, ap, ◌∙◌}
 use mathlib.Core.List.{List, [], ◌∷◌}
@@ -8,10 +9,7 @@ use lib.Seq.{take_all}
 use Rattle.answer.specs.declared.Refusal.{Refusal}
 use Rattle.answer.specs.Refusals.{refusal_place}
 use Rattle.store.specs.declared.description.PageNumbers.{PageNumbers}
-use Rattle.store.specs.declared.description.Described.{Described}
-use Rattle.store.specs.declared.description.Described.TheVariants as described_as
-use Rattle.store.specs.declared.description.Specified.{Specified}
-use Rattle.store.specs.declared.description.Specified.TheVariants as specified_as
+use Rattle.store.specs.declared.description.ElementNumbers.{ElementNumbers}
 use Rattle.says.specs.declared.further.PageSaid.{PageSaid}
 use Rattle.says.specs.declared.further.ElementSaid.{ElementSaid}
 use Rattle.gvrs_c.specs.Report.{reported}
@@ -59,41 +57,40 @@ module _ (vs o : List ℕ) where
 
 -- a page's numbers, or the place of a refusal
 
-module _ (x : Described) where
-  pub page_told : (p : PageNumbers) (l : List ℕ) → x ≡ described_as.Page p → l ≡ numbers_in_order p → l ≡ page_numbers x
+module _ (x : Result PageNumbers Refusal) where
+  pub page_told : (p : PageNumbers) (l : List ℕ) → x ≡ Ok p → l ≡ numbers_in_order p → l ≡ page_numbers x
   page_told p l e f = f ∙ rw e
 
-  pub page_refused : (r : Refusal) (a : ℕ) → x ≡ described_as.Refused r → a ≡ refusal_place r → a ∷ 0 ∷ 0 ∷ 0 ∷ 0 ∷ 0 ∷ 0 ∷ 0 ∷ 0 ∷ 0 ∷ 0 ∷ 0 ∷ 0 ∷ [] ≡ page_numbers x
+  pub page_refused : (r : Refusal) (a : ℕ) → x ≡ Err r → a ≡ refusal_place r → a ∷ 0 ∷ 0 ∷ 0 ∷ 0 ∷ 0 ∷ 0 ∷ 0 ∷ 0 ∷ 0 ∷ 0 ∷ 0 ∷ 0 ∷ [] ≡ page_numbers x
   page_refused r a e f = rw (e, f)
 
 -- with the further ones
-module _ (y : PageSaid) (x : Described) where
+module _ (y : PageSaid) (x : Result PageNumbers Refusal) where
   pub page_all_told :
-      (p : PageNumbers) (z : PageSaid) (l : List ℕ) → x ≡ described_as.Page p → z ≡ y → l ≡ numbers_said p z → l ≡ page_numbers_said y x
+      (p : PageNumbers) (z : PageSaid) (l : List ℕ) → x ≡ Ok p → z ≡ y → l ≡ numbers_said p z → l ≡ page_numbers_said y x
   page_all_told p z l e g f = f ∙ rw (g, e)
 
   pub page_all_refused :
-      (r : Refusal) (a : ℕ) → x ≡ described_as.Refused r → a ≡ refusal_place r →
+      (r : Refusal) (a : ℕ) → x ≡ Err r → a ≡ refusal_place r →
       a ∷ 0 ∷ 0 ∷ 0 ∷ 0 ∷ 0 ∷ 0 ∷ 0 ∷ 0 ∷ 0 ∷ 0 ∷ 0 ∷ 0 ∷ 0 ∷ 0 ∷ 0 ∷ 0 ∷ 0 ∷ 0 ∷ 0 ∷ 0 ∷ [] ≡ page_numbers_said y x
   page_all_refused r a e f = rw (e, f)
 
 -- the same of an element
-module _ (x : Specified) where
+module _ (x : Result ElementNumbers Refusal) where
   pub element_told_lem :
-      (kind fill name n unit u : ℕ) → x ≡ specified_as.Element kind fill name n unit u → kind ∷ fill ∷ name ∷ n ∷ unit ∷ u ∷ [] ≡ element_numbers x
-  element_told_lem kind fill name n unit u e = rw e
+      (n : ElementNumbers) → x ≡ Ok n → n.kind ∷ n.fill ∷ n.name ∷ n.name_length ∷ n.unit ∷ n.unit_length ∷ [] ≡ element_numbers x
+  element_told_lem n e = rw e
 
-  pub element_refused : (r : Refusal) (a : ℕ) → x ≡ specified_as.Refused r → a ≡ refusal_place r → a ∷ 0 ∷ 0 ∷ 0 ∷ 0 ∷ 0 ∷ [] ≡ element_numbers x
+  pub element_refused : (r : Refusal) (a : ℕ) → x ≡ Err r → a ≡ refusal_place r → a ∷ 0 ∷ 0 ∷ 0 ∷ 0 ∷ 0 ∷ [] ≡ element_numbers x
   element_refused r a e f = rw (e, f)
 
-module _ (y : ElementSaid) (x : Specified) where
+module _ (y : ElementSaid) (x : Result ElementNumbers Refusal) where
   pub element_all_told :
-      (kind fill name n unit u : ℕ) (z : ElementSaid) → x ≡ specified_as.Element kind fill name n unit u → z ≡ y →
-      kind ∷ fill ∷ name ∷ n ∷ unit ∷ u ∷ further_in_order z ≡ element_numbers_said y x
-  element_all_told kind fill name n unit u z e f = rw (e, f)
+      (n : ElementNumbers) (z : ElementSaid) → x ≡ Ok n → z ≡ y → n.kind ∷ n.fill ∷ n.name ∷ n.name_length ∷ n.unit ∷ n.unit_length ∷ further_in_order z ≡ element_numbers_said y x
+  element_all_told n z e f = rw (e, f)
 
   pub element_all_refused :
-      (r : Refusal) (a : ℕ) → x ≡ specified_as.Refused r → a ≡ refusal_place r →
+      (r : Refusal) (a : ℕ) → x ≡ Err r → a ≡ refusal_place r →
       a ∷ 0 ∷ 0 ∷ 0 ∷ 0 ∷ 0 ∷ 0 ∷ 0 ∷ 0 ∷ 0 ∷ 0 ∷ 0 ∷ 0 ∷ 0 ∷ 0 ∷ 0 ∷ 0 ∷ 0 ∷ [] ≡ element_numbers_said y x
   element_all_refused r a e f = rw (e, f)
 

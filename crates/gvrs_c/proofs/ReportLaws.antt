@@ -1,4 +1,7 @@
 -- Numbers written at the front of a list, one after the other. Assumes nothing.
+use Rattle.std.specs.Prelude.{Option, Result, ⊤}
+use Rattle.answer.specs.declared.Extent.{Extent}
+use Rattle.answer.specs.declared.Refusal.{Refusal}
 use Prim.Native.Nat.{ℕ, ◌*◌, ◌≤◌, ◌<◌}
 use mathlib.Core.Path.{◌≡◌, refl, ap, ◌∙◌}
 use mathlib.Core.List.{List, [], ◌∷◌}
@@ -13,11 +16,8 @@ use Rattle.wire.specs.Pick.{pick}
 use Rattle.wire.specs.Bytes.{put}
 use Rattle.wire.specs.Bytes.{same_bytes}
 use Rattle.wire.specs.Compare.{pairs_read, compared}
-use Rattle.answer.specs.declared.Verdict.{Verdict}
 use Rattle.answer.specs.declared.Cell.{Cell}
-use Rattle.answer.specs.declared.Content.{Content}
 use Rattle.answer.specs.declared.Held.{Held}
-use Rattle.answer.specs.declared.Laid.{Laid}
 use Rattle.answer.specs.Refusals.{verdict_number, verdict_place}
 use Rattle.answer.specs.Answers.{cell_kind, cell_type, cell_bits, cell_place, content_kind, content_place, content_length, held_kind, held_place, laid_number, written, answer_tile, answer_inside}
 use Rattle.check_start.specs.Start.{check_start, needed}
@@ -63,7 +63,7 @@ three_told kind f g h o p q t x y n a b c e i j k l u v w = (w ∙ ap kind e, v 
 
 -- a check's number and place
 pub checked :
-    (s o p : List ℕ) (v : Verdict) (n a : ℕ) → v ≡ check s → a ≡ verdict_place v → p ≡ set o 0 a → n ≡ verdict_number v →
+    (s o p : List ℕ) (v : Result ⊤ Refusal) (n a : ℕ) → v ≡ check s → a ≡ verdict_place v → p ≡ set o 0 a → n ≡ verdict_number v →
     (n ≡ verdict_number (check s)) × (p ≡ reported (verdict_place (check s) ∷ []) o)
 checked s o p v n a = one_told verdict_number verdict_place o p v (check s) n a
 
@@ -77,14 +77,14 @@ module _ (s : List ℕ) (k n r : ℕ) where
   needs_not e = rw (ne_eqb n 16 e)
 
 pub start_told :
-    (s o p q : List ℕ) (k : ℕ) (v : Verdict) (n a b : ℕ) → v ≡ check_start s k → n ≡ verdict_number v → a ≡ verdict_place v → p ≡ set o 0 a →
+    (s o p q : List ℕ) (k : ℕ) (v : Result ⊤ Refusal) (n a b : ℕ) → v ≡ check_start s k → n ≡ verdict_number v → a ≡ verdict_place v → p ≡ set o 0 a →
     b ≡ pick (eqb n 16) (needed s k) 0 → q ≡ set p 1 b →
     (n ≡ verdict_number (check_start s k)) × (q ≡ reported (start_numbers s k) o)
 start_told s o p q k v n a b e f g h i j = (f ∙ ap verdict_number e, j ∙ rw h (two_reported o a b ∙ rw (g, i, f, e)))
 
 -- a cell's, by a route
 
-module _ (s : List ℕ) (ci row column e route : ℕ) (r : Cell) where
+module _ (s : List ℕ) (ci row column e route : ℕ) (r : Result Cell Refusal) where
   pub by_walk : route ≡ 1 → r ≡ read_by_walk s ci row column e → r ≡ read_by route s ci row column e
   unfolding read_by
   by_walk h q = rw h q
@@ -111,11 +111,11 @@ route_means route s ci row column e = go (eqb route 1) refl (eqb route 2) refl
     go false f false g = directory_read s ci row column e
 
 pub cell_numbers_are :
-    (x : Cell) (a b c d e : ℕ) → a ≡ cell_type x → b ≡ cell_bits x → c ≡ cell_place x → d ≡ answer_tile x → e ≡ answer_inside x → a ∷ b ∷ c ∷ d ∷ e ∷ [] ≡ cell_numbers x
+    (x : Result Cell Refusal) (a b c d e : ℕ) → a ≡ cell_type x → b ≡ cell_bits x → c ≡ cell_place x → d ≡ answer_tile x → e ≡ answer_inside x → a ∷ b ∷ c ∷ d ∷ e ∷ [] ≡ cell_numbers x
 cell_numbers_are x a b c d e f g h i j = rw (f, g, h, i, j)
 
 pub cell_told :
-    (route : ℕ) (s : List ℕ) (ci row column e : ℕ) (o p l : List ℕ) (x : Cell) (n : ℕ) → x ≡ read_by route s ci row column e → l ≡ cell_numbers x → p ≡ reported l o →
+    (route : ℕ) (s : List ℕ) (ci row column e : ℕ) (o p l : List ℕ) (x : Result Cell Refusal) (n : ℕ) → x ≡ read_by route s ci row column e → l ≡ cell_numbers x → p ≡ reported l o →
     n ≡ cell_kind x →
     (n ≡ cell_kind (read_by route s ci row column e))
     × ((p ≡ reported (cell_numbers (read_by route s ci row column e)) o)
@@ -126,7 +126,7 @@ cell_told route s ci row column e o p l x n d f g h =
 
 -- an element's content
 pub content_told :
-    (o p q : List ℕ) (x y : Content) (n a b : ℕ) → x ≡ y → a ≡ content_place x → p ≡ set o 0 a → b ≡ content_length x → q ≡ set p 1 b →
+    (o p q : List ℕ) (x y : Result (Option Extent) Refusal) (n a b : ℕ) → x ≡ y → a ≡ content_place x → p ≡ set o 0 a → b ≡ content_length x → q ≡ set p 1 b →
     n ≡ content_kind x → (n ≡ content_kind y) × (q ≡ reported (content_numbers y) o)
 content_told o p q x y n a b e f g h i l = (l ∙ ap content_kind e, i ∙ rw g (two_reported o a b ∙ rw (f, h, e)))
 
@@ -143,11 +143,11 @@ small_product a b h k =
     let m : a * b ≤ 4294967295 * 4294967295 = mul-le-mul p q in
     omega arith
 
-pub counted : (s : List ℕ) (x y : Held) (r : ℕ) → x ≡ y → r ≡ held_count s y → r ≡ held_count s x
+pub counted : (s : List ℕ) (x y : Result Held Refusal) (r : ℕ) → x ≡ y → r ≡ held_count s y → r ≡ held_count s x
 counted s x y r p q = rw p q
 
 pub held_told :
-    (s : List ℕ) (e : ℕ) (o p q d m : List ℕ) (x y : Held) (n a b : ℕ) → x ≡ y → m ≡ put d 0 (held_bits s e x) → a ≡ held_place x → p ≡ set o 0 a → b ≡ held_count s x →
+    (s : List ℕ) (e : ℕ) (o p q d m : List ℕ) (x y : Result Held Refusal) (n a b : ℕ) → x ≡ y → m ≡ put d 0 (held_bits s e x) → a ≡ held_place x → p ≡ set o 0 a → b ≡ held_count s x →
     q ≡ set p 1 b → n ≡ held_kind x → (n ≡ held_kind y) × ((q ≡ reported (held_numbers s y) o) × (m ≡ put d 0 (held_bits s e y)))
 held_told s e o p q d m x y n a b u v f g h i l = (l ∙ ap held_kind u, (i ∙ rw g (two_reported o a b ∙ rw (f, h, u)), v ∙ rw u))
 
@@ -161,25 +161,25 @@ two_put o p q a b v w e h f i = i ∙ rw h (two_reported o a b ∙ rw (e, f))
 
 -- the answer of a call, which it hands on
 pub laid_told :
-    (o p : List ℕ) (x y : Laid) (n : ℕ) → x ≡ y → n ≡ laid_number x → p ≡ reported (laid_report x ∷ []) o →
+    (o p : List ℕ) (x y : Result ℕ Refusal) (n : ℕ) → x ≡ y → n ≡ laid_number x → p ≡ reported (laid_report x ∷ []) o →
     (n ≡ laid_number y) × (p ≡ reported (laid_report y ∷ []) o)
 laid_told o p x y n e i j = (rw (← e) i, rw (← e) j)
 
 -- the number and length, or place, of a lay-down or a correction, handed on, and what the buffer holds
 pub laid_handed :
-    (o p f g : List ℕ) (x y : Laid) (n : ℕ) → x ≡ y → f ≡ g → n ≡ laid_number x → p ≡ reported (laid_report x ∷ []) o →
+    (o p f g : List ℕ) (x y : Result ℕ Refusal) (n : ℕ) → x ≡ y → f ≡ g → n ≡ laid_number x → p ≡ reported (laid_report x ∷ []) o →
     (n ≡ laid_number y) × ((p ≡ reported (laid_report y ∷ []) o) × (f ≡ g))
 laid_handed o p f g x y n e h i j = (rw (← e) i, (rw (← e) j, h))
 
 -- the same, where the buffer is said by the answer
 pub moved_handed :
-    (o p f v b : List ℕ) (x y : Laid) (n : ℕ) → x ≡ y → f ≡ written x v b → n ≡ laid_number x → p ≡ reported (laid_report x ∷ []) o →
+    (o p f v b : List ℕ) (x y : Result ℕ Refusal) (n : ℕ) → x ≡ y → f ≡ written x v b → n ≡ laid_number x → p ≡ reported (laid_report x ∷ []) o →
     (n ≡ laid_number y) × ((p ≡ reported (laid_report y ∷ []) o) × (f ≡ written y v b))
-moved_handed o p f v b x y n e h i j = laid_handed o p f (written y v b) x y n e (h ∙ ap (λ (z : Laid). written z v b) e) i j
+moved_handed o p f v b x y n e h i j = laid_handed o p f (written y v b) x y n e (h ∙ ap (λ (z : Result ℕ Refusal). written z v b) e) i j
 
 -- and of a call that stops, with the number of stores
 pub stopped_handed :
-    (o p f g : List ℕ) (x y : Laid) (n a b : ℕ) → x ≡ y → a ≡ b → f ≡ g → n ≡ laid_number x → p ≡ reported (laid_report x ∷ a ∷ []) o →
+    (o p f g : List ℕ) (x y : Result ℕ Refusal) (n a b : ℕ) → x ≡ y → a ≡ b → f ≡ g → n ≡ laid_number x → p ≡ reported (laid_report x ∷ a ∷ []) o →
     (n ≡ laid_number y) × ((p ≡ reported (laid_report y ∷ b ∷ []) o) × (f ≡ g))
 stopped_handed o p f g x y n a b e d h i j = (rw (← e) i, (rw (← e, ← d) j, h))
 

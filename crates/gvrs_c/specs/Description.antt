@@ -1,11 +1,9 @@
 -- The numbers of a page and of an element, in the order in which `out` takes them. Of a refusal its place, and zeros.
-use Rattle.std.specs.Prelude.{ℕ, List, [], ◌∷◌, replicate}
+use Rattle.answer.specs.declared.Refusal.{Refusal}
+use Rattle.std.specs.Prelude.{ℕ, List, [], ◌∷◌, replicate, Ok, Err, Result}
 use Rattle.answer.specs.Refusals.{refusal_place}
 use Rattle.store.specs.declared.description.PageNumbers.{PageNumbers}
-use Rattle.store.specs.declared.description.Described.{Described}
-use Rattle.store.specs.declared.description.Described.TheVariants as described_as
-use Rattle.store.specs.declared.description.Specified.{Specified}
-use Rattle.store.specs.declared.description.Specified.TheVariants as specified_as
+use Rattle.store.specs.declared.description.ElementNumbers.{ElementNumbers}
 use Rattle.says.specs.declared.further.PageSaid.{PageSaid}
 use Rattle.says.specs.declared.further.ElementSaid.{ElementSaid}
 
@@ -16,9 +14,9 @@ numbers_in_order x =
     x.shape.rows ∷ x.shape.columns ∷ x.shape.tile_rows ∷ x.shape.tile_columns ∷ x.tiles_down ∷ x.tiles_across
     ∷ x.shape.elements ∷ x.tile_bytes ∷ x.front ∷ x.tile_records ∷ x.metadata_records ∷ x.time_modified ∷ x.checksums ∷ []
 
-abbrev pub page_numbers : Described → List ℕ
-page_numbers (described_as.Page x) = numbers_in_order x
-page_numbers (described_as.Refused r) = refusal_place r ∷ replicate 12 0
+abbrev pub page_numbers : Result PageNumbers Refusal → List ℕ
+page_numbers (Ok x) = numbers_in_order x
+page_numbers (Err r) = refusal_place r ∷ replicate 12 0
 
 -- behind these thirteen place and length of the product label, the UUID's place, the number of methods, raster space, coordinate system,
 -- place and length of the coordinates
@@ -29,14 +27,14 @@ numbers_said x y =
     ∷ y.label ∷ y.label_length ∷ y.uuid ∷ y.methods ∷ y.raster_space ∷ y.coordinate_system ∷ y.coordinates
     ∷ y.coordinates_length ∷ []
 
-abbrev pub page_numbers_said : PageSaid → Described → List ℕ
-page_numbers_said y (described_as.Page x) = numbers_said x y
-page_numbers_said y (described_as.Refused r) = refusal_place r ∷ replicate 20 0
+abbrev pub page_numbers_said : PageSaid → Result PageNumbers Refusal → List ℕ
+page_numbers_said y (Ok x) = numbers_said x y
+page_numbers_said y (Err r) = refusal_place r ∷ replicate 20 0
 
 -- type code, bits of the fill, place and length of the name; by Req 10 those of the unit
-abbrev pub element_numbers : Specified → List ℕ
-element_numbers (specified_as.Element kind fill name n unit u) = kind ∷ fill ∷ name ∷ n ∷ unit ∷ u ∷ []
-element_numbers (specified_as.Refused r) = refusal_place r ∷ replicate 5 0
+abbrev pub element_numbers : Result ElementNumbers Refusal → List ℕ
+element_numbers (Ok n) = n.kind ∷ n.fill ∷ n.name ∷ n.name_length ∷ n.unit ∷ n.unit_length ∷ []
+element_numbers (Err r) = refusal_place r ∷ replicate 5 0
 
 -- place and length of the label and of the description, continuous, the bits of minimum and maximum, and those of the Floats of an
 -- integer-coded element: minimum, maximum, fill, scale, offset
@@ -46,6 +44,6 @@ further_in_order y =
     ∷ y.coded.minimum ∷ y.coded.maximum ∷ y.coded.fill ∷ y.coded.scale ∷ y.coded.offset ∷ []
 
 -- behind an element's six numbers the further ones
-abbrev pub element_numbers_said : ElementSaid → Specified → List ℕ
-element_numbers_said y (specified_as.Element kind fill name n unit u) = kind ∷ fill ∷ name ∷ n ∷ unit ∷ u ∷ further_in_order y
-element_numbers_said y (specified_as.Refused r) = refusal_place r ∷ replicate 17 0
+abbrev pub element_numbers_said : ElementSaid → Result ElementNumbers Refusal → List ℕ
+element_numbers_said y (Ok n) = n.kind ∷ n.fill ∷ n.name ∷ n.name_length ∷ n.unit ∷ n.unit_length ∷ further_in_order y
+element_numbers_said y (Err r) = refusal_place r ∷ replicate 17 0

@@ -1,14 +1,12 @@
 -- What `out` holds behind a call: the answer's numbers in their order, as many as it has room for; what stands behind them stays.
-use Rattle.std.specs.Prelude.{ℕ, List, [], ◌∷◌, eqb}
+use Rattle.std.specs.Prelude.{ℕ, List, [], ◌∷◌, eqb, Err, Ok, Option, Result}
+use Rattle.answer.specs.declared.Extent.{Extent}
+use Rattle.answer.specs.declared.Refusal.{Refusal}
 use Rattle.answer.specs.declared.Cell.{Cell}
-use Rattle.answer.specs.declared.Content.{Content}
 use Rattle.answer.specs.declared.Held.{Held}
-use Rattle.answer.specs.declared.Laid.{Laid}
-use Rattle.answer.specs.declared.Laid.TheVariants.{Length, Refused}
 use Rattle.answer.specs.Refusals.{refusal_place, verdict_number, verdict_place}
 use Rattle.answer.specs.Answers.{cell_type, cell_bits, cell_place, answer_tile, answer_inside, content_place, content_length, held_place}
 use Rattle.deeds.specs.declared.Deed.{Deed}
-use Rattle.deeds.specs.declared.Deed.TheVariants as deeds
 use Rattle.deeds.specs.Deeds.{deed_has_lowest, deed_lowest_bits, deed_scale}
 use Rattle.comparisons.specs.declared.Comparison.{Comparison}
 use Rattle.comparisons.specs.Comparisons.{comparison_page, comparison_count}
@@ -28,28 +26,28 @@ abbrev pub start_numbers : List ℕ → ℕ → List ℕ
 start_numbers s n = verdict_place (check_start s n) ∷ pick (eqb (verdict_number (check_start s n)) 16) (needed s n) 0 ∷ []
 
 -- a cell's numbers: its type code, its bits and its place; by Req 10 its tile's index and its number inside the tile
-abbrev pub cell_numbers : Cell → List ℕ
+abbrev pub cell_numbers : Result Cell Refusal → List ℕ
 cell_numbers x = cell_type x ∷ cell_bits x ∷ cell_place x ∷ answer_tile x ∷ answer_inside x ∷ []
 
 -- a content's: its start, or the refusal's place, and its length
-abbrev pub content_numbers : Content → List ℕ
+abbrev pub content_numbers : Result (Option Extent) Refusal → List ℕ
 content_numbers x = content_place x ∷ content_length x ∷ []
 
 -- of all cells of an element in a tile: where their content starts, or the refusal's place, and how many there are
-abbrev pub held_numbers : List ℕ → Held → List ℕ
+abbrev pub held_numbers : List ℕ → Result Held Refusal → List ℕ
 held_numbers s x = held_place x ∷ held_count s x ∷ []
 
 -- a lay-down's number: the file's length where it is done, and the place of its refusal
-abbrev pub laid_report : Laid → ℕ
-laid_report (Length n) = n
-laid_report (Refused r) = refusal_place r
+abbrev pub laid_report : Result ℕ Refusal → ℕ
+laid_report (Ok n) = n
+laid_report (Err r) = refusal_place r
 
 -- a deed's: the number of fill cells, or the refusal's place; then whether there is a lowest score, its bits, and the scale
-abbrev pub deed_report : Deed → ℕ
-deed_report (deeds.Graded rule grade fills lowest) = fills
-deed_report (deeds.Refused r) = refusal_place r
+abbrev pub deed_report : Result Deed Refusal → ℕ
+deed_report (Ok x) = x.fills
+deed_report (Err r) = refusal_place r
 
-abbrev pub deed_numbers : Deed → List ℕ
+abbrev pub deed_numbers : Result Deed Refusal → List ℕ
 deed_numbers x = deed_report x ∷ deed_has_lowest x ∷ deed_lowest_bits x ∷ deed_scale x ∷ []
 
 -- a comparison's: the number of differing cells, or the refusal's place, and whose page it is

@@ -4,25 +4,21 @@ ghost use Rattle.deeds.specs.Deeds.{deed, deed_number};
 ghost use Rattle.gvrs_c.specs.Report.{reported, deed_report, deed_numbers};
 
 use crate::description;
+use answer::Refusal;
 use deeds::Deed;
 
 // The number of fill cells, or the refusal's place.
-fn deed_report(x: Deed) -> u64
+fn deed_report(x: Result<Deed, Refusal>) -> u64
     ensures { result ≡ deed_report x }
 {
     match x {
-        Deed::Graded {
-            rule: _,
-            grade: _,
-            fills,
-            lowest: _,
-        } => fills,
-        Deed::Refused(r) => answer::refusal_place(r) as u64,
+        Ok(d) => d.fills,
+        Err(r) => answer::refusal_place(r) as u64,
     }
 }
 
 // What `out` takes of a deed.
-fn deed_numbers(x: Deed) -> [u64; 4]
+fn deed_numbers(x: Result<Deed, Refusal>) -> [u64; 4]
     ensures { result ≡ deed_numbers x }
 {
     [

@@ -5,10 +5,11 @@ ghost use Rattle.says.specs.Further.{said_of_page, said_of_element};
 ghost use Rattle.gvrs_c.specs.Report.{reported};
 ghost use Rattle.gvrs_c.specs.Description.{numbers_in_order, page_numbers, numbers_said, page_numbers_said, element_numbers, element_numbers_said};
 
+use answer::Refusal;
 use says::further;
 use says::further::PageSaid;
 use store::description;
-use store::description::{Described, PageNumbers, Specified};
+use store::description::{ElementNumbers, PageNumbers};
 
 // All numbers of an answer, as many as `out` has room for.
 pub(crate) fn report_all(out: &mut [u64], numbers: &[u64])
@@ -44,12 +45,12 @@ fn in_order(x: PageNumbers) -> [u64; 13]
 }
 
 // What `out` takes of a page: its numbers; of a refusal its place, and zeros.
-fn page_numbers(x: Described) -> [u64; 13]
+fn page_numbers(x: Result<PageNumbers, Refusal>) -> [u64; 13]
     ensures { result ≡ page_numbers x }
 {
     match x {
-        Described::Page(p) => in_order(p),
-        Described::Refused(r) => {
+        Ok(p) => in_order(p),
+        Err(r) => {
             let place = answer::refusal_place(r) as u64;
             [place, 0, 0, 0, 0, 0, 0, 0, 0, 0, 0, 0, 0]
         }
@@ -87,15 +88,15 @@ fn all_in_order(x: PageNumbers, y: PageSaid) -> [u64; 21]
 }
 
 // The same of a page with the further numbers.
-fn page_numbers_said(file: &[u8], x: Described) -> [u64; 21]
+fn page_numbers_said(file: &[u8], x: Result<PageNumbers, Refusal>) -> [u64; 21]
     ensures { result ≡ page_numbers_said (said_of_page file.now) x }
 {
     match x {
-        Described::Page(p) => {
+        Ok(p) => {
             let y = further::of_page(file);
             all_in_order(p, y)
         }
-        Described::Refused(r) => {
+        Err(r) => {
             let place = answer::refusal_place(r) as u64;
             [
                 place, 0, 0, 0, 0, 0, 0, 0, 0, 0, 0, 0, 0, 0, 0, 0, 0, 0, 0, 0, 0,
@@ -105,26 +106,19 @@ fn page_numbers_said(file: &[u8], x: Described) -> [u64; 21]
 }
 
 // What `out` takes of an element.
-fn element_numbers(x: Specified) -> [u64; 6]
+fn element_numbers(x: Result<ElementNumbers, Refusal>) -> [u64; 6]
     ensures { result ≡ element_numbers x }
 {
     match x {
-        Specified::Element {
-            kind,
-            fill,
-            name,
-            name_length,
-            unit,
-            unit_length,
-        } => [
-            kind as u64,
-            fill as u64,
-            name as u64,
-            name_length as u64,
-            unit as u64,
-            unit_length as u64,
+        Ok(n) => [
+            n.kind as u64,
+            n.fill as u64,
+            n.name as u64,
+            n.name_length as u64,
+            n.unit as u64,
+            n.unit_length as u64,
         ],
-        Specified::Refused(r) => {
+        Err(r) => {
             let place = answer::refusal_place(r) as u64;
             [place, 0, 0, 0, 0, 0]
         }
@@ -132,28 +126,21 @@ fn element_numbers(x: Specified) -> [u64; 6]
 }
 
 // The same of an element with the further numbers.
-fn element_numbers_said(file: &[u8], element: u64, x: Specified) -> [u64; 18]
+fn element_numbers_said(file: &[u8], element: u64, x: Result<ElementNumbers, Refusal>) -> [u64; 18]
     ensures { result ≡ element_numbers_said (said_of_element file.now element) x }
 {
     match x {
-        Specified::Element {
-            kind,
-            fill,
-            name,
-            name_length,
-            unit,
-            unit_length,
-        } => {
+        Ok(n) => {
             let y = further::of_element(file, element);
             let texts = y.texts;
             let coded = y.coded;
             [
-                kind as u64,
-                fill as u64,
-                name as u64,
-                name_length as u64,
-                unit as u64,
-                unit_length as u64,
+                n.kind as u64,
+                n.fill as u64,
+                n.name as u64,
+                n.name_length as u64,
+                n.unit as u64,
+                n.unit_length as u64,
                 texts.label as u64,
                 texts.label_length as u64,
                 texts.description as u64,
@@ -168,7 +155,7 @@ fn element_numbers_said(file: &[u8], element: u64, x: Specified) -> [u64; 18]
                 coded.offset as u64,
             ]
         }
-        Specified::Refused(r) => {
+        Err(r) => {
             let place = answer::refusal_place(r) as u64;
             [place, 0, 0, 0, 0, 0, 0, 0, 0, 0, 0, 0, 0, 0, 0, 0, 0, 0]
         }

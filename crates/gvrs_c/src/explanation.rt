@@ -6,24 +6,25 @@ ghost use Rattle.gvrs_c.specs.Explanation.{explained_number, explained_numbers};
 
 use crate::description;
 use explain::whole;
-use reasons::Explained;
+use reasons::Explanation;
 
-fn explained_number(x: Explained) -> u32
+fn explained_number(x: Result<(), Explanation>) -> u32
     ensures { result ≡ explained_number x }
 {
     match x {
-        Explained::Accepted => 0,
-        Explained::Refused { refusal, fault: _ } => answer::refusal_number(refusal),
+        Ok(()) => 0,
+        Err(why) => answer::refusal_number(why.refusal),
     }
 }
 
-fn explained_numbers(x: Explained) -> [u64; 6]
+fn explained_numbers(x: Result<(), Explanation>) -> [u64; 6]
     ensures { result ≡ explained_numbers x }
 {
     match x {
-        Explained::Accepted => [0, 0, 0, 0, 0, 0],
-        Explained::Refused { refusal, fault } => {
-            let place = answer::refusal_place(refusal) as u64;
+        Ok(()) => [0, 0, 0, 0, 0, 0],
+        Err(why) => {
+            let place = answer::refusal_place(why.refusal) as u64;
+            let fault = why.fault;
             [
                 place,
                 fault.rule as u64,

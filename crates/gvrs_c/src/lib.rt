@@ -31,7 +31,7 @@ ghost use Rattle.store.specs.Lookup.{read_element_named};
 ghost use Rattle.gvrs_c.specs.Report.{reported, start_numbers, cell_numbers, content_numbers, held_numbers, laid_report};
 ghost use Rattle.gvrs_c.specs.Route.{read_by, meaning_by};
 
-use answer::{Cell, Held, Laid};
+use answer::{Cell, Held, Refusal};
 use cells::reads;
 use check_start::start;
 use header::{fields, names};
@@ -94,7 +94,14 @@ pub extern "C" fn gvrs_check_rest(file: &[u8], out: &mut [u64]) -> u32
 }
 
 // A cell by a route: 1 the walk, 2 the walk without stage 9, every other number the directory.
-fn read_by(file: &[u8], compressor: u32, row: u64, column: u64, element: u64, route: u32) -> Cell
+fn read_by(
+    file: &[u8],
+    compressor: u32,
+    row: u64,
+    column: u64,
+    element: u64,
+    route: u32,
+) -> Result<Cell, Refusal>
     ensures { result ≡ read_by route file.now compressor row column element }
 {
     if route == 1 {
@@ -107,7 +114,7 @@ fn read_by(file: &[u8], compressor: u32, row: u64, column: u64, element: u64, ro
 }
 
 // What `out` takes of a cell.
-fn cell_numbers(x: Cell) -> [u64; 5]
+fn cell_numbers(x: Result<Cell, Refusal>) -> [u64; 5]
     ensures { result ≡ cell_numbers x }
 {
     [
@@ -179,15 +186,17 @@ pub extern "C" fn gvrs_cell_with(
 }
 
 // How many cells an answer about all of them is of.
-fn held_count(file: &[u8], held: Held) -> u64
+fn held_count(file: &[u8], held: Result<Held, Refusal>) -> u64
     ensures { result ≡ held_count file.now held }
 {
     match held {
-        Held::Stored(_) => fields::tile_rows(file) as u64 * fields::tile_columns(file) as u64,
-        Held::Unpacked(_) => fields::tile_rows(file) as u64 * fields::tile_columns(file) as u64,
-        Held::Absent => 0,
-        Held::Alone => 0,
-        Held::Refused(_) => 0,
+        Ok(held) => match held {
+            Held::Stored(_) => fields::tile_rows(file) as u64 * fields::tile_columns(file) as u64,
+            Held::Unpacked(_) => fields::tile_rows(file) as u64 * fields::tile_columns(file) as u64,
+            Held::Absent => 0,
+            Held::Alone => 0,
+        },
+        Err(_) => 0,
     }
 }
 
@@ -251,17 +260,17 @@ pub extern "C" fn gvrs_content(file: &[u8], tile: u64, element: u64, out: &mut [
 }
 
 // The page's length where a lay-down or a correction is done, and the place of its refusal.
-pub(crate) fn laid_report(x: Laid) -> usize
+pub(crate) fn laid_report(x: Result<usize, Refusal>) -> usize
     ensures { result ≡ laid_report x }
 {
     match x {
-        Laid::Length(n) => n,
-        Laid::Refused(r) => answer::refusal_place(r),
+        Ok(n) => n,
+        Err(r) => answer::refusal_place(r),
     }
 }
 
 // 0 where a page is laid down or corrected, else the refusal's number; out[0] takes the page's length, or the refusal's place.
-pub(crate) fn tell_laid(x: Laid, out: &mut [u64]) -> u32
+pub(crate) fn tell_laid(x: Result<usize, Refusal>, out: &mut [u64]) -> u32
     ensures number { result ≡ laid_number x }
     ensures length { out.new ≡ reported (laid_report x ∷ []) out.old }
 {
@@ -270,7 +279,7 @@ pub(crate) fn tell_laid(x: Laid, out: &mut [u64]) -> u32
 }
 
 // The same with a second number, which out[1] takes.
-pub(crate) fn tell_laid_and(x: Laid, more: usize, out: &mut [u64]) -> u32
+pub(crate) fn tell_laid_and(x: Result<usize, Refusal>, more: usize, out: &mut [u64]) -> u32
     ensures number { result ≡ laid_number x }
     ensures numbers { out.new ≡ reported (laid_report x ∷ more ∷ []) out.old }
 {

@@ -69,9 +69,9 @@ pub entry_whole_lem :
 unfolding entry_at
 entry_whole_lem s at k n f e p q r t = rw (p, q, r, t)
 
-pub entries_begin : (s : List ℕ) (e l : ℕ) → l ≡ header_limit s → advance (entry_end s) l e 284 ≡ entry_start s e
+pub entries_begin : (s : List ℕ) (e l : ℕ) → l ≡ header_limit s → advance (entry_end s) l (e - 0) 284 ≡ entry_start s e
 unfolding entry_start
-entries_begin s e l p = rw p
+entries_begin s e l p = let z : e - 0 ≡ e = omega arith in rw (z, p)
 
 -- an entry more
 
@@ -93,16 +93,24 @@ unfolding element entry_at
 kind_is s e at k p q = q ∙ rw p
 
 -- a string more
-pub strings_step :
-    (s : List ℕ) (limit left at n x : ℕ) → advance (string_end s) limit left at ≡ x → 0 < left → at ≤ limit → n ≡ string_size s at →
-    advance (string_end s) limit (left - 1) (at + n) ≡ x
-strings_step s limit left at n x e h k p = items_step (string_end s) limit left at (at + n) x e h k (string_is s at n p)
+-- one of `count` items more, behind i of them
+pub items_next :
+    (next : ℕ → ℕ) (limit count i at b x : ℕ) → advance next limit (count - i) at ≡ x → i < count → at ≤ limit → b ≡ next at →
+    advance next limit (count - (i + 1)) b ≡ x
+items_next next limit count i at b x e h k p =
+    let m : count - (i + 1) ≡ count - i - 1 = omega arith in
+    rw m (items_step next limit (count - i) at b x e (omega arith) k p)
+
+pub strings_next :
+    (s : List ℕ) (limit count i at n x : ℕ) → advance (string_end s) limit (count - i) at ≡ x → i < count → at ≤ limit → n ≡ string_size s at →
+    advance (string_end s) limit (count - (i + 1)) (at + n) ≡ x
+strings_next s limit count i at n x e h k p = items_next (string_end s) limit count i at (at + n) x e h k (string_is s at n p)
 
 pub methods_begin :
     (s : List ℕ) (l m n : ℕ) → l ≡ header_limit s → m ≡ methods_at s → n ≡ method_count s →
-    advance (string_end s) l n (m + 4) ≡ product_label_at s
+    advance (string_end s) l (n - 0) (m + 4) ≡ product_label_at s
 unfolding product_label_at
-methods_begin s l m n p q r = rw (p, q, r)
+methods_begin s l m n p q r = let z : n - 0 ≡ n = omega arith in rw (z, p, q, r)
 
 pub fields_is : (s : List ℕ) (p n : ℕ) → p ≡ product_label_at s → n ≡ string_size s p → p + n + 8 ≡ fields_end s
 unfolding fields_end string_end

@@ -1,102 +1,64 @@
 -- The bytes of a name, and the loop over them. Assumes nothing.
-use Prim.Native.Nat.{ℕ, suc, ◌+◌, ◌-◌, ◌≤◌, ◌<◌}
-use mathlib.Core.Path.{◌≡◌, refl, sym, ◌∙◌}
+use Prim.Native.Nat.{ℕ, ◌-◌, ◌≤◌, ◌<◌}
+use mathlib.Core.Path.{◌≡◌, refl, sym, ap, ap₂, ◌∙◌}
 use mathlib.Core.List.{List, [], ◌∷◌, ◌++◌}
-use mathlib.Core.Bool.{Bool, true, false, or-true}
+use mathlib.Core.Bool.{Bool, true, false}
 use native.Mathlib.Omega.{arith}
-use native.Mathlib.Numerals.{add-one}
-use lib.ListN.{length, get_or, take, drop, drop_of_length-le, length-append}
-use lib.Seq.{drop-cons, take_all, get_or_at}
-use borrow.Author.Tests.{le-leb}
+use Rattle.std.specs.Prelude.{◌==◌, ◌&&◌, ◌||◌, leb}
+use Rattle.std.specs.List.{list_all}
+use Rattle.std.specs.Int.{is_in_range}
+use Rattle.std.specs.Char.{is_ascii_alphabetic, is_ascii_alphanumeric}
+use lib.ListN.{length, get_or, length-append}
+use lib.Seq.{get_or_at}
+use borrow.Author.Tests.{le-leb, eq-eqb, eqb-true}
 use Rattle.wire.specs.Tests.{◌≢?◌, both, is, passes}
 use Rattle.wire.specs.Bytes.{byte_at}
-use Rattle.wire.proofs.TestLaws.{yes, no, not_both}
+use Rattle.wire.proofs.TestLaws.{yes, no, not_both, iff, means}
 use Rattle.header.specs.Names.{within, letter, name_byte, name_bytes, five_rules, last_byte, identifier, Underscores}
 
-within_in : (a b x : ℕ) → a ≤ x → x ≤ b → within a b x ≡ true
-unfolding within
-within_in a b x h k = sym (yes _ (h, (k, tt)))
+-- std's tests of a byte are the rules
 
-within_low : (a b x : ℕ) → x < a → within a b x ≡ false
-unfolding within
-within_low a b x h = sym (no _ (λ z. omega arith))
-
-within_high : (a b x : ℕ) → b < x → within a b x ≡ false
-unfolding within
-within_high a b x h = sym (no _ (λ z. omega arith))
-
--- letters, by the tests in their order
-
-pub letter_upper : (b : ℕ) → 65 ≤ b → b ≤ 90 → true ≡ letter b
-unfolding letter
-letter_upper b h k = rw (within_in 65 90 b h k)
-
-pub letter_lower : (b : ℕ) → 97 ≤ b → b ≤ 122 → true ≡ letter b
-unfolding letter
-letter_lower b h k = rw (within_in 97 122 b h k, or-true)
-
-pub letter_below : (b : ℕ) → b < 65 → false ≡ letter b
-unfolding letter
-letter_below b h = rw (within_low 65 90 b h, within_low 97 122 b (omega arith))
-
-pub letter_between : (b : ℕ) → 90 < b → b < 97 → false ≡ letter b
-unfolding letter
-letter_between b h k = rw (within_high 65 90 b h, within_low 97 122 b k)
-
-pub letter_above : (b : ℕ) → 122 < b → false ≡ letter b
-unfolding letter
-letter_above b h = rw (within_high 65 90 b (omega arith), within_high 97 122 b h)
-
--- the bytes of a name
-
-pub name_letter : (b : ℕ) {r : Bool} → r ≡ letter b → r ≡ true → true ≡ name_byte b
-unfolding name_byte
-name_letter b p q = rw (← p, q)
-
-pub name_underscore : (b : ℕ) → b ≡ 95 → true ≡ name_byte b
-unfolding name_byte
-name_underscore b e = rw (within_in 95 95 b (omega arith) (omega arith), or-true, or-true)
-
-pub name_digit : (b : ℕ) → 48 ≤ b → b ≤ 57 → true ≡ name_byte b
-unfolding name_byte
-name_digit b h k = rw (within_in 48 57 b h k, or-true)
-
-one_not : (b : ℕ) → (b ≡ 95 → ⊥) → within 95 95 b ≡ false
-unfolding within
-one_not b n = sym (no _ (λ z. n (omega arith)))
-
-pub name_below : (b : ℕ) {r : Bool} → r ≡ letter b → r ≡ false → (b ≡ 95 → ⊥) → b < 48 → false ≡ name_byte b
-unfolding name_byte
-name_below b p q n h = rw (← p, q, within_low 48 57 b h, one_not b n)
-
-pub name_above : (b : ℕ) {r : Bool} → r ≡ letter b → r ≡ false → (b ≡ 95 → ⊥) → 57 < b → false ≡ name_byte b
-unfolding name_byte
-name_above b p q n h = rw (← p, q, within_high 48 57 b h, one_not b n)
-
--- the loop: the bytes from i on are still to be judged
-
-unfoldable pub name_from : List ℕ → ℕ → Bool
-name_from l i = name_bytes (drop i l)
-
-pub from_start : (l : List ℕ) → name_from l 0 ≡ name_bytes l
-unfolding name_from
-from_start l = refl
-
-pub from_more : (l : List ℕ) (i : ℕ) {r : Bool} → i < length l → r ≡ name_byte (get_or l i 0) → r ≡ true → name_from l (i + 1) ≡ name_from l i
-unfolding name_from name_bytes passes
-from_more l i h p q = rw (add-one, drop-cons l i 0 h, ← p, q) (go (name_bytes (drop (suc i) l)))
+in_range : (a b x : ℕ) → is_in_range a b x ≡ within a b x
+unfolding within passes
+in_range a b x = go (leb a x) (leb x b)
   where
-    go : (b : Bool) → b ≡ passes (is b ∷ [])
-    go true = refl
-    go false = refl
+    go : (p q : Bool) → (p && q) ≡ both p (both q true)
+    go true true = refl
+    go true false = refl
+    go false q = refl
 
-pub from_not : (l : List ℕ) (i : ℕ) {r : Bool} → i < length l → r ≡ name_byte (get_or l i 0) → r ≡ false → false ≡ name_from l i
-unfolding name_from name_bytes passes
-from_not l i h p q = rw (drop-cons l i 0 h, ← p, q)
+pub letter_is : (b : ℕ) → is_ascii_alphabetic b ≡ letter b
+unfolding letter
+letter_is b = ap₂ (λ (p q : Bool). p || q) (in_range 65 90 b) (in_range 97 122 b)
 
-pub from_end : (l : List ℕ) (i : ℕ) → length l ≤ i → true ≡ name_from l i
-unfolding name_from name_bytes
-from_end l i h = rw (drop_of_length-le l h)
+pub name_byte_is : (b : ℕ) → (is_ascii_alphanumeric b || (b == 95)) ≡ name_byte b
+unfolding name_byte letter within
+name_byte_is b =
+    rw (in_range 48 57 b, in_range 65 90 b, in_range 97 122 b, one_is b)
+    (go (within 48 57 b) (within 65 90 b) (within 97 122 b) (within 95 95 b))
+  where
+    one_is : (x : ℕ) → (x == 95) ≡ within 95 95 x
+    one_is x = iff _ _ (λ e. sym (yes _ (omega (arith, eqb-true x 95 e), (omega (arith, eqb-true x 95 e), tt)))) (λ e. let m = means _ e in eq-eqb x 95 (omega (arith, m.0, m.1.0)))
+
+    go : (p q r t : Bool) → (((p || q) || r) || t) ≡ ((q || r) || (p || t))
+    go true true r t = refl
+    go true false true t = refl
+    go true false false t = refl
+    go false q r t = refl
+
+-- the rule of each byte is the rule of all
+pub all_is : (l : List ℕ) → list_all name_byte l ≡ name_bytes l
+unfolding name_bytes passes
+all_is [] = refl
+all_is (b ∷ bs) = go (name_byte b) (all_is bs)
+  where
+    go : (p : Bool) → list_all name_byte bs ≡ name_bytes bs → (p && list_all name_byte bs) ≡ both p (both (name_bytes bs) true)
+    go true e = e ∙ with_true (name_bytes bs)
+      where
+        with_true : (q : Bool) → q ≡ both q true
+        with_true true = refl
+        with_true false = refl
+    go false e = refl
 
 -- identifiers
 
@@ -116,17 +78,17 @@ five_first m [] p q = refl
 five_first m (b ∷ bs) p q = no _ (λ z. not_both z.0 (sym p ∙ q))
 
 pub five_rest :
-    (m : ℕ) (l : List ℕ) {q r : Bool} → 1 ≤ length l → length l ≤ m → q ≡ letter (get_or l 0 0) → q ≡ true →
-    r ≡ name_bytes (take (length l - 1) (drop 1 l)) → r ≡ five_rules m l
+    (m : ℕ) (l : List ℕ) (x : ℕ) (rest : List ℕ) {q r : Bool} → l ≡ x ∷ rest → length l ≤ m → q ≡ letter x → q ≡ true → r ≡ name_bytes rest →
+    r ≡ five_rules m l
 unfolding five_rules passes
-five_rest m [] h k p e f = absurd (omega arith)
-five_rest m (b ∷ bs) h k p e f =
-    let g : take (length (b ∷ bs) - 1) bs ≡ bs = take_all (length (b ∷ bs) - 1) bs (omega arith) in
-    rw (← p, e, ← rw g at f, le-leb (length (b ∷ bs)) m k) (go _)
+five_rest m l x rest g k p e f = rw (g, ← p, e, ← f, le-leb (length (x ∷ rest)) m (omega (arith, ap length g))) (go _)
   where
-    go : (x : Bool) → x ≡ both x true
+    go : (b : Bool) → b ≡ both b true
     go true = refl
     go false = refl
+
+pub five_not : (m : ℕ) (l : List ℕ) (x : ℕ) (rest : List ℕ) {r : Bool} → l ≡ x ∷ rest → r ≡ letter x → r ≡ false → false ≡ five_rules m l
+five_not m l x rest g p q = rw g (five_first m (x ∷ rest) p q)
 
 -- and no underscore at the end
 
@@ -157,6 +119,6 @@ unfolding identifier last_byte byte_at
 underscores =
     record {
       last = λ m l. sym (identifier_last m (l ++ 95 ∷ []) (last_is l));
-      first = λ m l. sym (no _ (λ z. not_both z.0 (sym (five_first m (95 ∷ l) (letter_between 95 (omega arith) (omega arith)) refl))));
+      first = λ m l. sym (no _ (λ z. not_both z.0 (sym (five_first m (95 ∷ l) (letter_is 95) refl))));
       else_as_before = λ m l n. sym (identifier_five m l n refl);
     }

@@ -127,13 +127,11 @@ pub fn entry_start(s: &[u8], e: usize) -> usize
 {
     let limit = fields::header_limit(s);
     let mut at = 284;
-    let mut left = e;
-    while 0 < left {
+    for _ in 0..e {
         if limit < at {
-            return at;
+            break;
         }
         at = entry_end(s, at);
-        left -= 1;
     }
     at
 }

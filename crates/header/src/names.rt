@@ -9,37 +9,13 @@ use wire::Compared;
 fn is_letter(b: u8) -> bool
     ensures { result ≡ letter b }
 {
-    if b < 65 {
-        return false;
-    }
-    if b <= 90 {
-        return true;
-    }
-    if b < 97 {
-        return false;
-    }
-    if b <= 122 {
-        return true;
-    }
-    false
+    b.is_ascii_alphabetic()
 }
 
 fn is_name_byte(b: u8) -> bool
     ensures { result ≡ name_byte b }
 {
-    if is_letter(b) {
-        return true;
-    }
-    if b == 95 {
-        return true;
-    }
-    if b < 48 {
-        return false;
-    }
-    if b <= 57 {
-        return true;
-    }
-    false
+    b.is_ascii_alphanumeric() || b == b'_'
 }
 
 // The most characters of an element's or a metadata record's name.
@@ -49,45 +25,27 @@ pub const LONGEST: usize = 32;
 fn are_name_bytes(name: &[u8]) -> bool
     ensures { result ≡ name_bytes name.now }
 {
-    let mut i = 0;
-    while i < name.len() {
-        if is_name_byte(name[i]) {
-            i += 1;
-        } else {
-            return false;
-        }
-    }
-    true
+    name.iter().all(|b| is_name_byte(*b))
 }
 
 // Whether a slice keeps the five numbered rules, of at most so many characters.
 fn five_rules(name: &[u8], most: usize) -> bool
     ensures { result ≡ five_rules most name.now }
 {
-    if name.len() < 1 {
-        return false;
+    match name.split_first() {
+        Some((first, rest)) => { name.len() <= most && is_letter(*first) && are_name_bytes(rest) }
+        None => false,
     }
-    if most < name.len() {
-        return false;
-    }
-    if is_letter(name[0]) {
-        return are_name_bytes(&name[1..]);
-    }
-    false
 }
 
 // Whether a slice holds an identifier of at most so many characters.
 pub fn is_identifier(name: &[u8], most: usize) -> bool
     ensures { result ≡ identifier most name.now }
 {
-    if name.len() < 1 {
-        return false;
+    match name.last() {
+        Some(last) => *last != b'_' && five_rules(name, most),
+        None => false,
     }
-    let last = name.len() - 1;
-    if name[last] == 95 {
-        return false;
-    }
-    five_rules(name, most)
 }
 
 // The same of the n bytes of a slice from a position on; bytes that are not all there are no identifier.
@@ -109,6 +67,5 @@ pub fn compare_names(s: &[u8], at: usize, n: usize, t: &[u8], place: usize, m: u
 pub fn same_name(s: &[u8], at: usize, n: usize, t: &[u8], place: usize, m: usize) -> bool
     ensures { result ≡ same_bytes (part s.now at n) (part t.now place m) }
 {
-    let c = compare_names(s, at, n, t, place, m);
-    c.equal
+    compare_names(s, at, n, t, place, m).equal
 }

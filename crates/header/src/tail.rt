@@ -27,13 +27,11 @@ pub fn product_label_at(s: &[u8]) -> usize
 {
     let limit = fields::header_limit(s);
     let mut at = methods_at(s) + 4;
-    let mut left = method_count(s);
-    while 0 < left {
+    for _ in 0..method_count(s) {
         if limit < at {
-            return at;
+            break;
         }
         at += entries::string_size(s, at);
-        left -= 1;
     }
     at
 }

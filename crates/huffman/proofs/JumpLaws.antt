@@ -5,7 +5,7 @@ use mathlib.Core.List.{List, [], ◌∷◌}
 use mathlib.Core.Logic.{by_cases}
 use native.Mathlib.Omega.{arith}
 use native.Mathlib.Decide.{dec_le}
-use lib.ListN.{length, get_or, set, length-set, length-append, get_or-append}
+use lib.ListN.{length, get_or, set, length-append, get_or-append}
 use lib.Seq.{get_or-set_same, get_or-set_other, get_or_at, ext_get_or}
 use lib.Dec.{leb}
 use borrow.Author.Tests.{le-leb, lt-leb}
@@ -43,8 +43,8 @@ module _ (ns : List ℕ) where
 -- the walk as a loop does it, from node `from` with the bits v: i, u and w are where it is
 
 module _ (ns : List ℕ) (k from bits : ℕ) where
-  pub walk_begins : from ≤ 512 → (0 ≤ k) × ((from ≤ 4294967040 + 0) × (walked ns (k - 0) 0 from bits ≡ walked ns k 0 from bits))
-  walk_begins h = let z : k - 0 ≡ k = omega arith in (omega arith, (omega arith, rw z))
+  pub walk_begins : from ≤ 512 → (from ≤ 4294967040 + 0) × (walked ns (k - 0) 0 from bits ≡ walked ns k 0 from bits)
+  walk_begins h = let z : k - 0 ≡ k = omega arith in (omega arith, rw z)
 
   module _ (u i v : ℕ) (h : u ≤ k) (e : walked ns (k - u) u i v ≡ walked ns k 0 from bits) where
     pub walk_leaf : (node : ℕ) → node ≡ get_or ns i 0 → node < 256 → 512 * (u + 1) + node ≡ walked ns k 0 from bits
@@ -58,12 +58,12 @@ module _ (ns : List ℕ) (k from bits : ℕ) where
 
     pub walk_goes :
         (node j : ℕ) → node ≡ get_or ns i 0 → 256 ≤ node → node < 4294967296 → u < k → i ≤ 4294967040 + u → j ≡ child_of i node (v % 2) →
-        (u + 1 ≤ k) × ((j ≤ 4294967040 + (u + 1)) × (walked ns (k - (u + 1)) (u + 1) j (v / 2) ≡ walked ns k 0 from bits))
+        (j ≤ 4294967040 + (u + 1)) × (walked ns (k - (u + 1)) (u + 1) j (v / 2) ≡ walked ns k 0 from bits)
     walk_goes node j q l b g m f =
         let a : 256 ≤ get_or ns i 0 = omega arith in
         let z : k - u ≡ suc (k - (u + 1)) = omega arith in
         let y : j ≡ child_of i (get_or ns i 0) (v % 2) = f ∙ ap (λ (x : ℕ). child_of i x (v % 2)) q in
-        (omega arith, (omega (arith, child_near i node (v % 2) (4294967040 + u) m b (omega arith), f), rw y (sym (walked_branch ns (k - (u + 1)) u i v a) ∙ (rw z at e))))
+        (omega (arith, child_near i node (v % 2) (4294967040 + u) m b (omega arith), f), rw y (sym (walked_branch ns (k - (u + 1)) u i v a) ∙ (rw z at e)))
 
 -- the jump with a number
 
@@ -112,15 +112,12 @@ module _ (ns js : List ℕ) where
   make_start j h = absurd (omega arith)
 
   pub make_more :
-      (n v k : ℕ) → Making ns js n → v ≡ jump_of ns n → length js ≡ k → n < length js → (length (set js n v) ≡ k) × Making ns (set js n v) (n + 1)
+      (n v : ℕ) → Making ns js n → v ≡ jump_of ns n → n < length js → Making ns (set js n v) (n + 1)
   unfolding Making
-  make_more n v k h e f l = (
-    length-set js n v ∙ f,
-    λ j b.
-        by_cases (dec_le n j)
-        (λ m. let z : j ≡ n = omega arith in rw z (get_or-set_same js n v 0 l ∙ e))
-        (λ m. get_or-set_other js n j v 0 (λ q. absurd (omega arith)) ∙ h j (omega arith)),
-  )
+  make_more n v h e l j b =
+      by_cases (dec_le n j)
+      (λ m. let z : j ≡ n = omega arith in rw z (get_or-set_same js n v 0 l ∙ e))
+      (λ m. get_or-set_other js n j v 0 (λ q. absurd (omega arith)) ∙ h j (omega arith))
 
   pub make_end : (n k : ℕ) → Making ns js n → length js ≡ k → length js ≤ n → js ≡ jumps_of ns k
   unfolding Making

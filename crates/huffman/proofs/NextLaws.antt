@@ -10,12 +10,13 @@ use lib.ListN.{length, get_or}
 use lib.Dec.{eqb}
 use borrow.Author.Tests.{le-leb, lt-leb, eq-eqb, ne_eqb, eqb-true, eqb-false}
 use Rattle.huffman.specs.Bits.{bytes_in, bit_at, octet_at}
+use Rattle.std.specs.Prelude.{Option, None}
+use Rattle.huffman.specs.Symbols.{given}
 use Rattle.huffman.specs.Tree.{Tree, leaf, branch}
 use Rattle.huffman.specs.Nodes.{size, Nodes, child_of, walk_bits, bit_by_bit}
 use Rattle.huffman.specs.Jumps.{symbol_in, Jumps, Coded, four_at, four_by_four, by_fours, next_symbol, NextIsTrees}
 use Rattle.huffman.specs.Symbols.{symbol_at}
-use Rattle.huffman.specs.declared.Next.{Next}
-use Rattle.huffman.specs.declared.Next.TheVariants.{Byte, End}
+use Rattle.huffman.specs.declared.Symbol.{Symbol}
 use Rattle.huffman.proofs.BitLaws.{bit_small, there, octet_there}
 use Rattle.huffman.proofs.SymbolLaws.{start, inside, child_left, child_right}
 use Rattle.huffman.proofs.JumpLaws.{jump_eight, jump_four}
@@ -23,17 +24,17 @@ use Rattle.huffman.proofs.JumpLaws.{jump_eight, jump_four}
 -- bit by bit
 
 module _ (c ns : List ℕ) (i p : ℕ) where
-  bits_out : length ns ≤ i → bit_by_bit c ns i p ≡ End
+  bits_out : length ns ≤ i → bit_by_bit c ns i p ≡ None
   unfolding bit_by_bit walk_bits
   bits_out h = rw (le-leb (length ns) i h)
 
   module _ (h : i < length ns) where
-    bits_leaf : get_or ns i 0 < 256 → bit_by_bit c ns i p ≡ Byte (get_or ns i 0) p
+    bits_leaf : get_or ns i 0 < 256 → bit_by_bit c ns i p ≡ given (get_or ns i 0) p
     unfolding bit_by_bit walk_bits
     bits_leaf k = rw (lt-leb (length ns) i h, lt-leb 256 (get_or ns i 0) k)
 
     module _ (k : 256 ≤ get_or ns i 0) where
-      bits_end : bit_at c p ≡ 2 → bit_by_bit c ns i p ≡ End
+      bits_end : bit_at c p ≡ 2 → bit_by_bit c ns i p ≡ None
       unfolding bit_by_bit walk_bits
       bits_end e = rw (lt-leb (length ns) i h, le-leb 256 (get_or ns i 0) k, eq-eqb (bit_at c p) 2 e)
 
@@ -48,13 +49,13 @@ module _ (c ns : List ℕ) (i p : ℕ) where
 -- as a loop does it, from node k and bit `from` on
 
 module _ (c ns : List ℕ) (k from i pos : ℕ) (w : bit_by_bit c ns i pos ≡ bit_by_bit c ns k from) where
-  pub loop_out : length ns ≤ i → End ≡ bit_by_bit c ns k from
+  pub loop_out : length ns ≤ i → None ≡ bit_by_bit c ns k from
   loop_out h = sym (bits_out c ns i pos h) ∙ w
 
-  pub loop_leaf : i < length ns → get_or ns i 0 < 256 → Byte (get_or ns i 0) pos ≡ bit_by_bit c ns k from
+  pub loop_leaf : i < length ns → get_or ns i 0 < 256 → given (get_or ns i 0) pos ≡ bit_by_bit c ns k from
   loop_leaf h l = sym (bits_leaf c ns i pos h l) ∙ w
 
-  pub loop_end : (b : ℕ) → i < length ns → 256 ≤ get_or ns i 0 → b ≡ bit_at c pos → b ≡ 2 → End ≡ bit_by_bit c ns k from
+  pub loop_end : (b : ℕ) → i < length ns → 256 ≤ get_or ns i 0 → b ≡ bit_at c pos → b ≡ 2 → None ≡ bit_by_bit c ns k from
   loop_end b h l e f = sym (bits_end c ns i pos h l (sym e ∙ f)) ∙ w
 
   pub loop_on :
@@ -91,15 +92,15 @@ module _ (c ns js : List ℕ) (i p : ℕ) where
 -- as a loop does it
 
 module _ (c ns js : List ℕ) (k from i pos : ℕ) (w : by_fours c ns js i pos ≡ by_fours c ns js k from) (o : ℕ) (e : o ≡ octet_at c pos) where
-  pub four_short : (r : Next) → r ≡ bit_by_bit c ns i pos → o ≡ 256 → r ≡ by_fours c ns js k from
+  pub four_short : (r : Option Symbol) → r ≡ bit_by_bit c ns i pos → o ≡ 256 → r ≡ by_fours c ns js k from
   four_short r f g = f ∙ sym (fours_short c ns js i pos (sym e ∙ g)) ∙ w
 
   module _ (n : o ≡ 256 → ⊥) where
-    pub four_none : (r : Next) → r ≡ bit_by_bit c ns i pos → length js ≤ 256 + 16 * i + o % 16 → r ≡ by_fours c ns js k from
+    pub four_none : (r : Option Symbol) → r ≡ bit_by_bit c ns i pos → length js ≤ 256 + 16 * i + o % 16 → r ≡ by_fours c ns js k from
     four_none r f h = f ∙ sym (fours_none c ns js i pos (λ q. n (e ∙ q)) (rw e at h)) ∙ w
 
     module _ (h : 256 + 16 * i + o % 16 < length js) where
-      pub four_symbol : (r : Next) → r ≡ symbol_in (get_or js (256 + 16 * i + o % 16) 0) pos → 512 ≤ get_or js (256 + 16 * i + o % 16) 0 → r ≡ by_fours c ns js k from
+      pub four_symbol : (r : Option Symbol) → r ≡ symbol_in (get_or js (256 + 16 * i + o % 16) 0) pos → 512 ≤ get_or js (256 + 16 * i + o % 16) 0 → r ≡ by_fours c ns js k from
       four_symbol r f l = (rw e at f) ∙ sym (fours_symbol c ns js i pos (λ q. n (e ∙ q)) (rw e at h) (rw e at l)) ∙ w
 
       pub four_on : get_or js (256 + 16 * i + o % 16) 0 < 512 → by_fours c ns js (get_or js (256 + 16 * i + o % 16) 0) (pos + 4) ≡ by_fours c ns js k from
@@ -107,7 +108,7 @@ module _ (c ns js : List ℕ) (k from i pos : ℕ) (w : by_fours c ns js i pos �
 
 -- and eight first
 
-module _ (c ns js : List ℕ) (p o : ℕ) (e : o ≡ octet_at c p) (r : Next) where
+module _ (c ns js : List ℕ) (p o : ℕ) (e : o ≡ octet_at c p) (r : Option Symbol) where
   pub next_short : r ≡ bit_by_bit c ns 0 p → o ≡ 256 → r ≡ next_symbol c ns js p
   unfolding next_symbol
   next_short f g = rw (← e, eq-eqb o 256 g) f
@@ -132,7 +133,7 @@ bits_tree : (t : Tree) (c ns : List ℕ) (i p : ℕ) → Nodes ns i t → bit_by
 unfolding Nodes symbol_at
 bits_tree (leaf y) c ns i p x =
     let h : get_or ns i 0 < 256 = omega (arith, x.1.0, x.1.1) in
-    bits_leaf c ns i p x.0 h ∙ ap (λ (z : ℕ). Byte z p) x.1.0
+    bits_leaf c ns i p x.0 h ∙ ap (λ (z : ℕ). given z p) x.1.0
 bits_tree (branch l r) c ns i p x =
     go (bits_tree l c ns (i + 1) (p + 1) x.1.1.0) (bits_tree r c ns (i + 1 + size l) (p + 1) x.1.1.1)
   where

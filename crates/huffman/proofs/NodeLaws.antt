@@ -1,24 +1,24 @@
 -- A tree laid down in nodes, as the reader does it. Assumes nothing.
 use Prim.Native.Nat.{ℕ, zero, suc, ◌+◌, ◌-◌, ◌*◌, ◌≤◌, ◌<◌}
 use mathlib.Core.Path.{◌≡◌, refl, sym, ap, ap₂, subst, ◌∙◌}
-use mathlib.Core.List.{List, [], ◌∷◌, ◌++◌, append-nil}
+use mathlib.Core.List.{List, [], ◌∷◌, ◌++◌}
 use mathlib.Core.Bool.{Bool, true}
 use mathlib.Core.Logic.{inr, by_cases}
 use native.Mathlib.Omega.{arith}
 use native.Mathlib.Decide.{dec_le}
-use lib.ListN.{length, get_or, set, replicate, length-set, length-append, length-replicate, get_or-append}
-use lib.Seq.{drop-length, get_or-append-add, get_or-set_same, get_or-set_other, ext_get_or}
+use lib.ListN.{length, get_or, set, length-set, length-append, get_or-append}
+use lib.Seq.{get_or-append-add, get_or-set_same, get_or-set_other, ext_get_or}
 use Rattle.wire.specs.Pick.{pick}
 use Rattle.wire.specs.Tests.{◌≤?◌, passes}
 use Rattle.wire.specs.Bytes.{byte_at, put, zeros}
 use Rattle.wire.proofs.TestLaws.{yes, no}
-use Rattle.wire.proofs.PutLaws.{put_fits, length_put, put_each_lem, put_outside, zeros_put_more, zeros_all}
+use Rattle.wire.proofs.PutLaws.{length_put, put_each_lem, put_outside}
 use Rattle.huffman.specs.Bits.{bit_at, octet_at}
+use Rattle.std.specs.Prelude.{Option, Some, None}
 use Rattle.huffman.specs.Tree.{Tree, leaf, branch, Parsed, got, bad, leaves, tree_at}
-use Rattle.huffman.specs.Nodes.{size, nodes_of, Nodes, outcome, Laid, Below, root_outcome, laid_in, root_nodes, RootIsLaid}
+use Rattle.huffman.specs.Nodes.{tree_read, size, nodes_of, Nodes, outcome, Laid, Below, root_outcome, laid_in, root_nodes, RootIsLaid}
 use Rattle.huffman.specs.Stored.{Symbols}
 use Rattle.huffman.specs.declared.Read.{Read}
-use Rattle.huffman.specs.declared.Read.TheVariants as read
 use Rattle.huffman.proofs.BitLaws.{octet_small}
 use Rattle.huffman.proofs.TreeLaws.{some, joined, none, past, at_leaf, at_bad, at_branch, leaf_out, leaf_in}
 use Rattle.huffman.proofs.StoredLaws.{read_stored}
@@ -30,21 +30,21 @@ sizes (branch l r) = omega (arith, sizes l, sizes r)
 
 -- what an answer tells
 
-abbrev pos_of : Read → ℕ
-pos_of (read.Tree p n l) = p
-pos_of read.Bad = 0
+abbrev pos_of : Option Read → ℕ
+pos_of (Some r) = r.pos
+pos_of None = 0
 
-abbrev next_of : Read → ℕ
-next_of (read.Tree p n l) = n
-next_of read.Bad = 0
+abbrev next_of : Option Read → ℕ
+next_of (Some r) = r.next
+next_of None = 0
 
-abbrev left_of : Read → ℕ
-left_of (read.Tree p n l) = l
-left_of read.Bad = 0
+abbrev left_of : Option Read → ℕ
+left_of (Some r) = r.left
+left_of None = 0
 
-abbrev is_tree : Read → ℕ
-is_tree (read.Tree p n l) = 1
-is_tree read.Bad = 0
+abbrev is_tree : Option Read → ℕ
+is_tree (Some r) = 1
+is_tree None = 0
 
 pub record Told (at left : ℕ) (x : Parsed) (p n l : ℕ) : Type 0 where
   pub tree : Tree
@@ -52,13 +52,13 @@ pub record Told (at left : ℕ) (x : Parsed) (p n l : ℕ) : Type 0 where
   pub next : n ≡ at + size tree
   pub rest : l ≡ left - leaves tree
 
-pub told : (at left : ℕ) (x : Parsed) (p n l : ℕ) → outcome at left x ≡ read.Tree p n l → Told at left x p n l
+pub told : (at left : ℕ) (x : Parsed) (p n l : ℕ) → outcome at left x ≡ tree_read p n l → Told at left x p n l
 unfolding outcome
 told at left bad p n l h = let z : ◌≡◌ {A = ℕ} 0 1 = ap is_tree h in absurd (omega arith)
 told at left (got t q) p n l h =
     record { tree = t; is = ap (λ (k : ℕ). got t k) (ap pos_of h); next = sym (ap next_of h); rest = sym (ap left_of h) }
 
-pub told_bad : (at left : ℕ) (x : Parsed) → outcome at left x ≡ read.Bad → x ≡ bad
+pub told_bad : (at left : ℕ) (x : Parsed) → outcome at left x ≡ None → x ≡ bad
 unfolding outcome
 told_bad at left bad h = refl
 told_bad at left (got t q) h = let z : ◌≡◌ {A = ℕ} 1 0 = ap is_tree h in absurd (omega arith)
@@ -111,27 +111,27 @@ branch_nodes t q b d at n e h x y k = (
 )
 
 -- what is promised of an answer r, of the nodes a before and b behind it
-abbrev pub Done : Read → ℕ → ℕ → List ℕ → List ℕ → Parsed → Type 0
+abbrev pub Done : Option Read → ℕ → ℕ → List ℕ → List ℕ → Parsed → Type 0
 Done r at left a b x = (r ≡ outcome at left x) × (Laid a b at x × Below a b at)
 
-done_bad : (at left : ℕ) (a b : List ℕ) (x : Parsed) → x ≡ bad → Below a b at → Done read.Bad at left a b x
+done_bad : (at left : ℕ) (a b : List ℕ) (x : Parsed) → x ≡ bad → Below a b at → Done None at left a b x
 unfolding outcome Laid
 done_bad at left a b x h k = rw h (refl, (tt, k))
 
 module _ (c : List ℕ) (at left p : ℕ) (a : List ℕ) where
-  pub done_none : left ≡ 0 → Done read.Bad at left a a (tree_at c left p)
+  pub done_none : left ≡ 0 → Done None at left a a (tree_at c left p)
   done_none h = done_bad at left a a (tree_at c left p) (rw h (none c p)) (below_same a at)
 
-  pub done_past : (b : ℕ) → b ≡ bit_at c p → b ≡ 2 → Done read.Bad at left a a (tree_at c left p)
+  pub done_past : (b : ℕ) → b ≡ bit_at c p → b ≡ 2 → Done None at left a a (tree_at c left p)
   done_past b e h = done_bad at left a a (tree_at c left p) (past c p left (sym e ∙ h)) (below_same a at)
 
-  pub done_short : (b y : ℕ) → 0 < left → b ≡ bit_at c p → b ≡ 1 → y ≡ octet_at c (p + 1) → y ≡ 256 → Done read.Bad at left a a (tree_at c left p)
+  pub done_short : (b y : ℕ) → 0 < left → b ≡ bit_at c p → b ≡ 1 → y ≡ octet_at c (p + 1) → y ≡ 256 → Done None at left a a (tree_at c left p)
   done_short b y h e f g k =
       done_bad at left a a (tree_at c left p) (at_leaf c p left h (sym e ∙ f) ∙ leaf_out c (p + 1) (sym g ∙ k)) (below_same a at)
 
   pub done_leaf :
       (b y : ℕ) → 0 < left → b ≡ bit_at c p → b ≡ 1 → y ≡ octet_at c (p + 1) → (y ≡ 256 → ⊥) → at < length a →
-      Done (read.Tree (p + 9) (at + 1) (left - 1)) at left a (set a at y) (tree_at c left p)
+      Done (tree_read (p + 9) (at + 1) (left - 1)) at left a (set a at y) (tree_at c left p)
   unfolding outcome Laid Below Nodes size leaves
   done_leaf b y h e f g n k =
       let x : tree_at c left p ≡ got (leaf y) (p + 9) =
@@ -153,8 +153,8 @@ pub record Near (at left n l : ℕ) : Type 0 where
   pub falls : l + 1 < left
   pub up : at < n
 
-module _ (c : List ℕ) (at left p : ℕ) (r : Read) (e : r ≡ outcome (at + 1) (left - 1) (tree_at c (left - 1) (p + 1))) where
-  pub near : (q n l : ℕ) → at + 2 * left ≤ 512 → 1 ≤ left → r ≡ read.Tree q n l → Near at left n l
+module _ (c : List ℕ) (at left p : ℕ) (r : Option Read) (e : r ≡ outcome (at + 1) (left - 1) (tree_at c (left - 1) (p + 1))) where
+  pub near : (q n l : ℕ) → at + 2 * left ≤ 512 → 1 ≤ left → r ≡ tree_read q n l → Near at left n l
   near q n l h u k = go (told (at + 1) (left - 1) (tree_at c (left - 1) (p + 1)) q n l (sym e ∙ k))
     where
       go : Told (at + 1) (left - 1) (tree_at c (left - 1) (p + 1)) q n l → Near at left n l
@@ -166,12 +166,12 @@ module _ (c : List ℕ) (at left p : ℕ) (r : Read) (e : r ≡ outcome (at + 1)
           let j : l ≡ left - 1 - leaves x.tree = x.rest in
           record { room = omega arith; falls = omega arith; up = omega arith }
 
-  pub done_left : (a b : List ℕ) → 0 < left → bit_at c p ≡ 0 → r ≡ read.Bad → Below a b (at + 1) → Done read.Bad at left a b (tree_at c left p)
+  pub done_left : (a b : List ℕ) → 0 < left → bit_at c p ≡ 0 → r ≡ None → Below a b (at + 1) → Done None at left a b (tree_at c left p)
   done_left a b h f z w =
       done_bad at left a b (tree_at c left p) (at_bad c p left h f (told_bad (at + 1) (left - 1) (tree_at c (left - 1) (p + 1)) (sym e ∙ z))) (below_less a b at w)
 
   pub done_branch :
-      (r2 : Read) (q n l : ℕ) (a b d : List ℕ) → 0 < left → bit_at c p ≡ 0 → at < length b → r ≡ read.Tree q n l →
+      (r2 : Option Read) (q n l : ℕ) (a b d : List ℕ) → 0 < left → bit_at c p ≡ 0 → at < length b → r ≡ tree_read q n l →
       Laid a b (at + 1) (tree_at c (left - 1) (p + 1)) → Below a b (at + 1) →
       Done r2 n (l + 1) (set b at (256 + n)) d (tree_at c (l + 1) q) → Done r2 at left a d (tree_at c left p)
   unfolding Laid outcome size leaves
@@ -182,7 +182,7 @@ module _ (c : List ℕ) (at left p : ℕ) (r : Read) (e : r ≡ outcome (at + 1)
           Done r2 n (l + 1) (set b at (256 + n)) d x → Done r2 at left a d (joined t x)
       last t e1 e2 e3 nb bad k = (k.0, (tt, below_set a b d at n (256 + n) (omega arith) w k.1.1))
       last t e1 e2 e3 nb (got u m) k = (
-        k.0 ∙ ap₂ (λ (x y : ℕ). read.Tree m x y) (omega arith) (omega arith),
+        k.0 ∙ ap₂ (λ (x y : ℕ). tree_read m x y) (omega arith) (omega arith),
         (
           (
             branch_nodes t u b d at n e1 i nb.0 k.1.0.0 k.1.1,
@@ -284,11 +284,11 @@ size_few c left p t q e h = omega (arith, (read_stored c left p t q e).few, size
 
 module _ (c a : List ℕ) (left p : ℕ) where
   pub root_out :
-      (511 ≤ length a → left ≤ 256 → ⊥) → (read.Bad ≡ root_outcome (length a) left (tree_at c left p)) × (a ≡ root_nodes a left (tree_at c left p))
+      (511 ≤ length a → left ≤ 256 → ⊥) → (None ≡ root_outcome (length a) left (tree_at c left p)) × (a ≡ root_nodes a left (tree_at c left p))
   unfolding root_outcome root_nodes
   root_out f =
       let t = no ((511 ≤? length a) ∷ (left ≤? 256) ∷ []) (λ h. f h.0 h.1.0) in (
-        ap (λ (b : Bool). pick b (outcome 0 left (tree_at c left p)) read.Bad) t,
+        ap (λ (b : Bool). pick b (outcome 0 left (tree_at c left p)) None) t,
         ap (λ (b : Bool). pick b (laid_in a (tree_at c left p)) a) t,
       )
 
@@ -296,18 +296,18 @@ module _ (c a : List ℕ) (left p : ℕ) where
     room : true ≡ passes ((511 ≤? length a) ∷ (left ≤? 256) ∷ [])
     room = yes ((511 ≤? length a) ∷ (left ≤? 256) ∷ []) (h, (k, tt))
 
-    root_outcome_lem : (r : Read) → r ≡ outcome 0 left (tree_at c left p) → r ≡ root_outcome (length a) left (tree_at c left p)
+    root_outcome_lem : (r : Option Read) → r ≡ outcome 0 left (tree_at c left p) → r ≡ root_outcome (length a) left (tree_at c left p)
     unfolding root_outcome
-    root_outcome_lem r e = e ∙ ap (λ (b : Bool). pick b (outcome 0 left (tree_at c left p)) read.Bad) room
+    root_outcome_lem r e = e ∙ ap (λ (b : Bool). pick b (outcome 0 left (tree_at c left p)) None) room
 
     root_left : (x : Parsed) → tree_at c left p ≡ x → laid_in a x ≡ root_nodes a left (tree_at c left p)
     unfolding root_nodes
     root_left x e = ap (laid_in a) (sym e) ∙ ap (λ (b : Bool). pick b (laid_in a (tree_at c left p)) a) room
 
-    module _ (r : Read) (e : r ≡ outcome 0 left (tree_at c left p)) where
+    module _ (r : Option Read) (e : r ≡ outcome 0 left (tree_at c left p)) where
       pub root_in :
-          (q n l : ℕ) (b : List ℕ) → r ≡ read.Tree q n l → length b ≡ length a → Laid a b 0 (tree_at c left p) →
-          (read.Tree q n l ≡ root_outcome (length a) left (tree_at c left p)) × (b ≡ root_nodes a left (tree_at c left p))
+          (q n l : ℕ) (b : List ℕ) → r ≡ tree_read q n l → length b ≡ length a → Laid a b 0 (tree_at c left p) →
+          (tree_read q n l ≡ root_outcome (length a) left (tree_at c left p)) × (b ≡ root_nodes a left (tree_at c left p))
       unfolding Laid laid_in
       root_in q n l b f g d =
           let x = told 0 left (tree_at c left p) q n l (sym e ∙ f) in
@@ -316,8 +316,8 @@ module _ (c a : List ℕ) (left p : ℕ) where
           (sym f ∙ root_outcome_lem r e, in_place a b x.tree (omega arith) g w.0 w.1 ∙ root_left (got x.tree q) x.is)
 
       pub root_bad :
-          (m : ℕ) (b : List ℕ) → r ≡ read.Bad → m ≡ length a → b ≡ zeros m →
-          (read.Bad ≡ root_outcome (length a) left (tree_at c left p)) × (b ≡ root_nodes a left (tree_at c left p))
+          (m : ℕ) (b : List ℕ) → r ≡ None → m ≡ length a → b ≡ zeros m →
+          (None ≡ root_outcome (length a) left (tree_at c left p)) × (b ≡ root_nodes a left (tree_at c left p))
       unfolding laid_in
       root_bad m b f g d = (sym f ∙ root_outcome_lem r e, d ∙ ap zeros g ∙ root_left bad (told_bad 0 left (tree_at c left p) (sym e ∙ f)))
 
@@ -330,14 +330,3 @@ root_is_laid ns c left p t q h k e =
     subst (λ (b : List ℕ). Nodes b 0 t) (root_left c ns left p h k (got t q) e)
     (stand_nodes t (put ns 0 (nodes_of 0 t)) 0 (read_stored c left p t q e).symbols (omega arith)
     (λ j m. put_each_lem ns 0 (nodes_of 0 t) j (omega arith) (omega arith)))
-
--- nodes that are cleared
-
-pub zeros_more : (d l : List ℕ) (i : ℕ) → l ≡ put d 0 (zeros i) → i < length d → set l i 0 ≡ put d 0 (zeros (i + 1))
-zeros_more d l i e h = let z : 0 + i ≡ i = omega arith in rw z at (zeros_put_more d l 0 i e (omega arith))
-
-pub all_zeros : (d l : List ℕ) (i : ℕ) → l ≡ put d 0 (zeros i) → i ≤ length d → length d ≤ i → l ≡ zeros (length d)
-unfolding zeros
-all_zeros d l i e h k =
-    let z : 0 + length {A = ℕ} (replicate (length d) 0) ≡ length d = omega (arith, length-replicate {A = ℕ} (length d) 0) in
-    zeros_all d l 0 i (length d) e h k ∙ put_fits d 0 (zeros (length d)) (omega arith) ∙ rw (z, drop-length d) (append-nil (replicate (length d) 0))

@@ -13,10 +13,10 @@ use lib.Dec.{leb, eqb}
 use borrow.Author.Tests.{le-leb, lt-leb, eq-eqb, ne_eqb, eqb-true, eqb-false}
 use Rattle.wire.specs.Pick.{pick}
 use Rattle.huffman.specs.Bits.{bit_at}
+use Rattle.huffman.specs.Symbols.{given}
 use Rattle.huffman.specs.Tree.{Tree, leaf, branch}
 use Rattle.huffman.specs.Nodes.{size, Nodes, child_of, symbols_in}
 use Rattle.huffman.specs.Symbols.{symbol_at, symbols_of, among, fresh, distinct}
-use Rattle.huffman.specs.declared.Next.TheVariants.{Byte}
 
 -- the walk stands at node i, which is the subtree `at`, and what that gives from pos on is what the tree gives from `from` on
 pub record Subtree (t : Tree) (ns c : List ℕ) (from i pos : ℕ) : Type 0 where
@@ -36,9 +36,9 @@ unfolding Nodes
 inside ns i (leaf y) h = h.0
 inside ns i (branch l r) h = h.0
 
-symbol_at_lem : (ns c : List ℕ) (i pos : ℕ) (u : Tree) → Nodes ns i u → get_or ns i 0 < 256 → Byte (get_or ns i 0) pos ≡ symbol_at u c pos
+symbol_at_lem : (ns c : List ℕ) (i pos : ℕ) (u : Tree) → Nodes ns i u → get_or ns i 0 < 256 → given (get_or ns i 0) pos ≡ symbol_at u c pos
 unfolding Nodes symbol_at
-symbol_at_lem ns c i pos (leaf y) h k = ap (λ (m : ℕ). Byte m pos) h.1.0
+symbol_at_lem ns c i pos (leaf y) h k = ap (λ (m : ℕ). given m pos) h.1.0
 symbol_at_lem ns c i pos (branch l r) h k = let e : get_or ns i 0 ≡ 256 + (i + 1 + size l) = h.1.0 in absurd (omega arith)
 
 step_at_lem :
@@ -61,7 +61,7 @@ step_at_lem t ns c from i pos (branch l r) h e k z = by_cases (dec_le (bit_at c 
         (record { at = r; here = h.1.1.1; same = sym (rw (ne_eqb (bit_at c pos) 2 z, ne_eqb (bit_at c pos) 0 b)) ∙ e })
 
 module _ (ns c : List ℕ) (k from i pos : ℕ) (w : Walks ns c k from i pos) where
-  pub walk_symbol : get_or ns i 0 < 256 → (t : Tree) → Nodes ns k t → Byte (get_or ns i 0) pos ≡ symbol_at t c from
+  pub walk_symbol : get_or ns i 0 < 256 → (t : Tree) → Nodes ns k t → given (get_or ns i 0) pos ≡ symbol_at t c from
   walk_symbol h t x = symbol_at_lem ns c i pos (w t x).at (w t x).here h ∙ (w t x).same
 
   pub walk_on : (b j : ℕ) → 256 ≤ get_or ns i 0 → b ≡ bit_at c pos → (b ≡ 2 → ⊥) → j ≡ child_of i (get_or ns i 0) b → Walks ns c k from j (pos + 1)

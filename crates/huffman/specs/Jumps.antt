@@ -1,13 +1,12 @@
 -- Where several bits at once lead from a node, as a list of jumps that is made once for a tree; and the symbol that nodes and jumps give,
 -- which is the tree's where they are those of a tree.
-use Rattle.std.specs.Prelude.{ℕ, zero, suc, ◌+◌, ◌-◌, ◌*◌, ◌/◌, ◌%◌, ◌≤◌, ◌<◌, ◌≡◌, List, [], ◌∷◌, ◌++◌, length, get_or, leb, eqb}
+use Rattle.std.specs.Prelude.{ℕ, zero, suc, ◌+◌, ◌-◌, ◌*◌, ◌/◌, ◌%◌, ◌≤◌, ◌<◌, ◌≡◌, List, [], ◌∷◌, ◌++◌, Option, None, length, get_or, leb, eqb}
 use Rattle.wire.specs.Pick.{pick}
 use Rattle.huffman.specs.Bits.{octet_at}
 use Rattle.huffman.specs.Tree.{Tree}
-use Rattle.huffman.specs.Symbols.{symbol_at}
+use Rattle.huffman.specs.Symbols.{given, symbol_at}
 use Rattle.huffman.specs.Nodes.{Nodes, child_of, bit_by_bit}
-use Rattle.huffman.specs.declared.Next.{Next}
-use Rattle.huffman.specs.declared.Next.TheVariants.{Byte, End}
+use Rattle.huffman.specs.declared.Symbol.{Symbol}
 
 -- more nodes than a tree of 256 leaves has, and so no node's number
 abbrev pub most_nodes : ℕ
@@ -23,8 +22,8 @@ walked ns zero u i v = stands ns u i
 walked ns (suc k) u i v = pick (leb 256 (get_or ns i 0)) (walked ns k (u + 1) (child_of i (get_or ns i 0) (v % 2)) (v / 2)) (stands ns u i)
 
 -- the symbol of a jump from bit p that ends at a leaf, and the bit behind its code
-unfoldable pub symbol_in : ℕ → ℕ → Next
-symbol_in jump p = Byte (jump % 256) (p + jump / most_nodes - 1)
+unfoldable pub symbol_in : ℕ → ℕ → Option Symbol
+symbol_in jump p = given (jump % 256) (p + jump / most_nodes - 1)
 
 -- the jump with the number j: the first 256 are those of eight bits from the root; then each node has the 16 of four bits
 abbrev pub most_jumps : ℕ
@@ -56,19 +55,19 @@ four_at c i p = 256 + 16 * i + octet_at c p % 16
 
 -- from node i on, four bits at a step: a jump below most_nodes is a node, any other gives a symbol; bit by bit where there is no jump, or
 -- fewer than eight bits are left. The first argument only bounds the recursion
-unfoldable pub four_by_four : ℕ → List ℕ → List ℕ → List ℕ → ℕ → ℕ → Next
-four_by_four zero c ns js i p = End
+unfoldable pub four_by_four : ℕ → List ℕ → List ℕ → List ℕ → ℕ → ℕ → Option Symbol
+four_by_four zero c ns js i p = None
 four_by_four (suc f) c ns js i p =
     pick (eqb (octet_at c p) 256) (bit_by_bit c ns i p)
     (pick (leb (length js) (four_at c i p)) (bit_by_bit c ns i p)
     (pick (leb most_nodes (get_or js (four_at c i p) 0)) (symbol_in (get_or js (four_at c i p) 0) p)
     (four_by_four f c ns js (get_or js (four_at c i p) 0) (p + 4))))
 
-unfoldable pub by_fours : List ℕ → List ℕ → List ℕ → ℕ → ℕ → Next
+unfoldable pub by_fours : List ℕ → List ℕ → List ℕ → ℕ → ℕ → Option Symbol
 by_fours c ns js i p = four_by_four (suc (2 * length c - p / 4)) c ns js i p
 
 -- from the root on, eight bits first
-unfoldable pub next_symbol : List ℕ → List ℕ → List ℕ → ℕ → Next
+unfoldable pub next_symbol : List ℕ → List ℕ → List ℕ → ℕ → Option Symbol
 next_symbol c ns js p =
     pick (eqb (octet_at c p) 256) (bit_by_bit c ns 0 p)
     (pick (leb (length js) (octet_at c p)) (bit_by_bit c ns 0 p)

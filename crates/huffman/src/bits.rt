@@ -30,9 +30,7 @@ fn octet_by_bits(c: &[u8], i: usize) -> u32
         return 256;
     }
     let mut v = 0;
-    let mut k = 8;
-    while 0 < k {
-        k -= 1;
+    for k in (0..8).rev() {
         v = bit_at(c, i + k) + 2 * v;
     }
     v

@@ -14,36 +14,26 @@ pub(crate) fn child(i: usize, node: u32, bit: u32) -> usize
     (node - 256) as usize
 }
 
-// A node, 0 past the last.
-fn node_at(nodes: &[u32], i: usize) -> u32
-    ensures { result ≡ get_or nodes.now i 0 }
-{
-    if nodes.len() <= i {
-        return 0;
-    }
-    nodes[i]
-}
-
 // Where k bits lead from a node.
 fn walk(nodes: &[u32], k: u32, from: usize, bits: u32) -> u32
     requires { (k ≤ 8) × (from ≤ most_nodes) }
     ensures { result ≡ walked nodes.now k 0 from bits }
 {
-    let mut u = 0;
     let mut i = from;
     let mut v = bits;
-    loop {
-        let node = node_at(nodes, i);
+    for u in 0..k {
+        let node = wire::number_in(nodes, i);
         if node < 256 {
             return 512 * (u + 1) + node;
         }
-        if k <= u {
-            return i as u32;
-        }
         i = child(i, node, v % 2);
         v /= 2;
-        u += 1;
     }
+    let node = wire::number_in(nodes, i);
+    if node < 256 {
+        return 512 * (k + 1) + node;
+    }
+    i as u32
 }
 
 // The jump with a number.
@@ -64,9 +54,7 @@ fn jump_of(nodes: &[u32], j: usize) -> u32
 pub fn make_jumps(nodes: &[u32], jumps: &mut [u32])
     ensures { jumps.new ≡ jumps_of nodes.now (length jumps.old) }
 {
-    let mut j = 0;
-    while j < jumps.len() {
-        jumps[j] = jump_of(nodes, j);
-        j += 1;
+    for (j, jump) in jumps.iter_mut().enumerate() {
+        *jump = jump_of(nodes, j);
     }
 }

@@ -18,95 +18,67 @@ use jumps::child;
 
 // A tree that was read: the bit behind it, the node behind it, and how many of the symbols that it may have are left.
 #[derive(Clone, Copy)]
-pub enum Read {
-    Tree { pos: usize, next: usize, left: u32 },
-    Bad,
+pub struct Read {
+    pub pos: usize,
+    pub next: usize,
+    pub left: u32,
 }
 
-// A symbol and the bit behind its code, or that the content ends before.
+// A symbol and the bit behind its code.
 #[derive(Clone, Copy)]
-pub enum Next {
-    Byte { y: u8, pos: usize },
-    End,
+pub struct Symbol {
+    pub y: u8,
+    pub pos: usize,
 }
 
 // Reads the tree at bit pos, of at most `left` leaves, into the nodes from `at` on.
-fn read_tree(c: &[u8], pos: usize, left: u32, nodes: &mut [u32], at: usize) -> Read
+fn read_tree(c: &[u8], pos: usize, left: u32, nodes: &mut [u32], at: usize) -> Option<Read>
     requires { (at + 2 * left ≤ 512) × (511 ≤ length nodes.old) }
     ensures is { result ≡ outcome at left (tree_at c.now left pos) }
     ensures holds { Laid nodes.old nodes.new at (tree_at c.now left pos) }
     ensures below { Below nodes.old nodes.new at }
 {
     if left == 0 {
-        return Read::Bad;
+        return None;
     }
     let bit = bit_at(c, pos);
     if bit == 2 {
-        return Read::Bad;
+        return None;
     }
     if bit == 1 {
         let y = octet_at(c, pos + 1);
         if y == 256 {
-            return Read::Bad;
+            return None;
         }
         nodes[at] = y;
-        return Read::Tree {
+        return Some(Read {
             pos: pos + 9,
             next: at + 1,
             left: left - 1,
-        };
+        });
     }
-    match read_tree(c, pos + 1, left - 1, nodes, at + 1) {
-        Read::Bad => Read::Bad,
-        Read::Tree {
-            pos: p,
-            next: n,
-            left: l,
-        } => {
-            nodes[at] = 256 + n as u32;
-            read_tree(c, p, l + 1, nodes, n)
-        }
-    }
-}
-
-// Makes all nodes 0.
-fn clear(nodes: &mut [u32])
-    ensures { nodes.new ≡ zeros (length nodes.old) }
-{
-    let mut i = 0;
-    while i < nodes.len() {
-        nodes[i] = 0;
-        i += 1;
-    }
+    let child = read_tree(c, pos + 1, left - 1, nodes, at + 1)?;
+    nodes[at] = 256 + child.next as u32;
+    read_tree(c, child.pos, child.left + 1, nodes, child.next)
 }
 
 // Reads the tree at bit pos, of at most `left` leaves. A tree of 256 leaves takes 511 nodes; where there are fewer, or more
 // leaves are allowed, none is read and the nodes stay. Where no tree stands, they are made 0.
-pub fn tree_of(c: &[u8], pos: usize, left: u32, nodes: &mut [u32]) -> Read
+pub fn tree_of(c: &[u8], pos: usize, left: u32, nodes: &mut [u32]) -> Option<Read>
     ensures is { result ≡ root_outcome (length nodes.old) left (tree_at c.now left pos) }
     ensures holds { nodes.new ≡ root_nodes nodes.old left (tree_at c.now left pos) }
 {
     if nodes.len() < 511 {
-        return Read::Bad;
+        return None;
     }
     if 256 < left {
-        return Read::Bad;
+        return None;
     }
-    match read_tree(c, pos, left, nodes, 0) {
-        Read::Tree {
-            pos: p,
-            next: n,
-            left: l,
-        } => Read::Tree {
-            pos: p,
-            next: n,
-            left: l,
-        },
-        Read::Bad => {
-            clear(nodes);
-            Read::Bad
-        }
-    }
+    let Some(tree) = read_tree(c, pos, left, nodes, 0) else {
+        nodes.fill(0);
+        return None;
+    };
+    Some(tree)
 }
 
 // Whether no symbol stands twice among the first n nodes.
@@ -114,13 +86,8 @@ pub fn symbols_distinct(nodes: &[u32], n: usize) -> bool
     ensures { result ≡ distinct (symbols_in (take n nodes.now)) }
 {
     let mut seen = [false; 256];
-    let mut i = 0;
-    while i < n {
-        if nodes.len() <= i {
-            return true;
-        }
+    for i in 0..n.min(nodes.len()) {
         let node = nodes[i] as usize;
-        i += 1;
         if 256 <= node {
             continue;
         }
@@ -133,22 +100,22 @@ pub fn symbols_distinct(nodes: &[u32], n: usize) -> bool
 }
 
 // The symbol whose code stands at bit `from`, bit by bit from a node on.
-fn by_bits(c: &[u8], nodes: &[u32], start: usize, from: usize) -> Next
+fn by_bits(c: &[u8], nodes: &[u32], start: usize, from: usize) -> Option<Symbol>
     ensures { result ≡ bit_by_bit c.now nodes.now start from }
 {
     let mut pos = from;
     let mut i = start;
     loop {
         if nodes.len() <= i {
-            return Next::End;
+            return None;
         }
         let node = nodes[i];
         if node < 256 {
-            return Next::Byte { y: node as u8, pos };
+            return Some(Symbol { y: node as u8, pos });
         }
         let bit = bit_at(c, pos);
         if bit == 2 {
-            return Next::End;
+            return None;
         }
         i = child(i, node, bit);
         pos += 1;
@@ -156,18 +123,18 @@ fn by_bits(c: &[u8], nodes: &[u32], start: usize, from: usize) -> Next
 }
 
 // The symbol that a jump from bit pos leads to, and the bit behind its code.
-fn symbol_of(jump: u32, pos: usize) -> Next
+fn symbol_of(jump: u32, pos: usize) -> Option<Symbol>
     requires { (512 ≤ jump) × (pos < bits_in) }
     ensures { result ≡ symbol_in jump pos }
 {
-    Next::Byte {
+    Some(Symbol {
         y: (jump % 256) as u8,
         pos: pos + (jump / 512) as usize - 1,
-    }
+    })
 }
 
 // The same as by bits, four at a step while there is a jump.
-fn by_fours(c: &[u8], nodes: &[u32], jumps: &[u32], start: usize, from: usize) -> Next
+fn by_fours(c: &[u8], nodes: &[u32], jumps: &[u32], start: usize, from: usize) -> Option<Symbol>
     requires { start < most_nodes }
     ensures { result ≡ by_fours c.now nodes.now jumps.now start from }
 {
@@ -192,7 +159,8 @@ fn by_fours(c: &[u8], nodes: &[u32], jumps: &[u32], start: usize, from: usize) -
 }
 
 // The symbol whose code stands at bit `from`, by the nodes of a tree and as many of its jumps as there are.
-pub fn next_symbol(c: &[u8], nodes: &[u32], jumps: &[u32], from: usize) -> Next
+// The three slices stay apart: as one struct they make unpacking a fifth slower.
+pub fn next_symbol(c: &[u8], nodes: &[u32], jumps: &[u32], from: usize) -> Option<Symbol>
     ensures { result ≡ next_symbol c.now nodes.now jumps.now from }
 {
     let first = octet_at(c, from);

@@ -1,4 +1,5 @@
 -- A page that is open for writing with other pieces behind its front: what makes it open again. Assumes nothing.
+use Rattle.std.specs.Prelude.{None}
 use Prim.Native.Nat.{ℕ, ◌+◌, ◌-◌, ◌%◌, ◌≤◌, ◌<◌}
 use mathlib.Core.Path.{◌≡◌, refl, sym, ap, ◌∙◌}
 use mathlib.Core.List.{List, [], ◌∷◌, ◌++◌, map, Memᴰ}
@@ -12,7 +13,6 @@ use Rattle.wire.proofs.TestLaws.{means}
 use Rattle.wire.proofs.ByteLaws.{same_part}
 use Rattle.wire.proofs.ListLaws.{some_member}
 use Rattle.wire.proofs.PlaceLaws.{Placed, placed_inside, placed_number}
-use Rattle.record.specs.declared.Found.TheVariants.{Nothing}
 use Rattle.record.specs.Record.{length_at, type_at, content_at}
 use Rattle.record.specs.Chain.{header_end, records, records_of, joined, WellFormed}
 use Rattle.record.proofs.ChainLaws.{ok_means}
@@ -75,8 +75,8 @@ front_of s = take (header_end s) s
 pub record Again (s : List ℕ) (qs : List (List ℕ)) : Type 0 where
   pub formed : WellFormed qs
   pub room : length (front_of s ++ joined qs) ≤ 16777216
-  pub checksums : checksum_fault (front_of s ++ joined qs) ≡ Nothing
-  pub bodies : body_fault (front_of s ++ joined qs) ≡ Nothing
+  pub checksums : checksum_fault (front_of s ++ joined qs) ≡ None
+  pub bodies : body_fault (front_of s ++ joined qs) ≡ None
   pub metadata : metadata_directory_right (front_of s ++ joined qs) ≡ true
   pub tiles : tile_directory_right (front_of s ++ joined qs) ≡ true
   pub full : directory_full (front_of s ++ joined qs) ≡ true
@@ -147,7 +147,7 @@ module _ (s : List ℕ) (o : Open s) (qs : List (List ℕ)) where
         records = k;
       }
 
-  pub tiles_again : WellFormed qs → body_fault t ≡ Nothing → (j : ℕ) → tiles_of t j ≡ held_in (element_count (front_of s)) j (standing 2 (length (front_of s)) qs)
+  pub tiles_again : WellFormed qs → body_fault t ≡ None → (j : ℕ) → tiles_of t j ≡ held_in (element_count (front_of s)) j (standing 2 (length (front_of s)) qs)
   unfolding body_fault
   tiles_again v b j = tiles_stand (front_of s) (parted s o).front qs v (wrong_none (front_of s) (parted s o).front qs v Body b) j
 

@@ -1,4 +1,5 @@
 -- A tile stored over its plain record: the page stays open for writing, and its tiles are those of the map. Assumes nothing.
+use Rattle.std.specs.Prelude.{None, Option, Some}
 use Prim.Native.Nat.{ℕ, ◌+◌, ◌-◌, ◌≤◌, ◌<◌}
 use mathlib.Core.Path.{◌≡◌, refl, sym, ap, subst, ◌∙◌}
 use mathlib.Core.List.{List, [], ◌∷◌, ◌++◌, map, Memᴰ}
@@ -13,8 +14,6 @@ use Rattle.wire.specs.Tests.{all_below}
 use Rattle.wire.specs.Bytes.{Bytes, byte_at}
 use Rattle.wire.proofs.TestLaws.{means, yes, no, not_both, below_each, below_same}
 use Rattle.wire.proofs.PlaceLaws.{placed_self, placed_last}
-use Rattle.record.specs.declared.Found.{Found}
-use Rattle.record.specs.declared.Found.TheVariants.{At, Nothing}
 use Rattle.record.specs.Record.{length_at, type_at, record_limit}
 use Rattle.record.specs.Chain.{records, records_of, joined, WellFormed}
 use Rattle.header.specs.Fields.{checksum_enabled, element_count}
@@ -89,7 +88,7 @@ record PlainAt (s : List ℕ) (i : ℕ) : Type 0 where
   meant : IsMeant s i start
   plain : (e : ℕ) → e < element_count s → section_length s start e ≡ element_bytes s e
 
-plain_here : (s : List ℕ) (i x : ℕ) → tile_at s i ≡ At x → is_plain s x ≡ true → PlainAt s i
+plain_here : (s : List ℕ) (i x : ℕ) → tile_at s i ≡ Some x → is_plain s x ≡ true → PlainAt s i
 unfolding is_plain tile_at
 plain_here s i x e z =
     record { start = x; meant = meant_is s i x (sym (walk_finds s i) ∙ e); plain = λ d h. eqb-true _ _ (below_each (element_count s) _ z d h) }
@@ -98,15 +97,15 @@ over_is : (s : List ℕ) (i : ℕ) → tile_referred s i ≡ tile_at s i → sto
 unfolding stored_over
 over_is s i r over = sym (ap (plain_in s) r) ∙ over
 
-over_plain : (s : List ℕ) (i x : ℕ) → plain_in s (tile_at s i) ≡ true → tile_at s i ≡ At x → is_plain s x ≡ true
+over_plain : (s : List ℕ) (i x : ℕ) → plain_in s (tile_at s i) ≡ true → tile_at s i ≡ Some x → is_plain s x ≡ true
 over_plain s i x over e = sym (ap (plain_in s) e) ∙ over
 
 plain_at : (s : List ℕ) (i : ℕ) → plain_in s (tile_at s i) ≡ true → PlainAt s i
 plain_at s i over = go (tile_at s i) refl over
   where
-    go : (f : Found) → tile_at s i ≡ f → plain_in s f ≡ true → PlainAt s i
-    go Nothing e z = not_both z refl
-    go (At x) e z = plain_here s i x e z
+    go : (f : Option ℕ) → tile_at s i ≡ f → plain_in s f ≡ true → PlainAt s i
+    go None e z = not_both z refl
+    go (Some x) e z = plain_here s i x e z
 
 -- a piece; where it carries the tile's index, each L is U
 record Fit (s : List ℕ) (i : ℕ) (r : List ℕ) : Type 0 where
@@ -367,7 +366,7 @@ module _ (s : List ℕ) (i : ℕ) (c : List ℕ) (o : Open s) (b : Bytes c) (lon
         length-append f (joined qs) ∙ ap (λ (n : ℕ). length f + n) (mapped_length f (Fit s i) 2 (overwritten s i c) over_touches (pieces s) all_fit)
         ∙ sym (length-append f (joined (pieces s))) ∙ ap length (sym (parted s o).whole)
 
-    bodies : body_fault (f ++ joined qs) ≡ Nothing
+    bodies : body_fault (f ++ joined qs) ≡ None
     bodies =
         body_to f front (pieces s) qs (parted s o).formed well (mapped_alone f (Fit s i) 2 (overwritten s i c) over_touches Body (pieces s) all_fit) (parted s o).bodies
 

@@ -1,4 +1,5 @@
 -- A tile removed: the page stays open for writing, and its tiles are those of the map. Assumes nothing.
+use Rattle.std.specs.Prelude.{None, Option, Some}
 use Prim.Native.Nat.{ℕ, ◌+◌, ◌≤◌, ◌<◌}
 use mathlib.Core.Path.{◌≡◌, refl, sym, ap, ◌∙◌}
 use mathlib.Core.List.{List, [], ◌++◌}
@@ -10,8 +11,6 @@ use borrow.Author.Tests.{eqb-true}
 use Rattle.wire.specs.Pick.{pick}
 use Rattle.wire.specs.Bytes.{Bytes}
 use Rattle.wire.proofs.TestLaws.{not_both}
-use Rattle.record.specs.declared.Found.{Found}
-use Rattle.record.specs.declared.Found.TheVariants.{At, Nothing}
 use Rattle.record.specs.Chain.{records, joined}
 use Rattle.header.specs.Fields.{checksum_enabled, element_count}
 use Rattle.geometry.specs.Tiles.{tile_count}
@@ -52,9 +51,9 @@ module _ (s : List ℕ) (i : ℕ) (b : Bytes s) (o : Open s) (below : i < tile_c
   unfolding tiles_of
   nothing_there h = go (tile_at s i) refl h
     where
-      go : (f : Found) → tile_at s i ≡ f → contents_of s f ≡ [] → removed_page s i ≡ s
-      go Nothing e z = same_is (found_is ∙ ap is_found e) ∙ sym (parted s o).whole
-      go (At x) e z = absurd (contents_some s x (sound_range s (records s) o.sound).elements.0 z)
+      go : (f : Option ℕ) → tile_at s i ≡ f → contents_of s f ≡ [] → removed_page s i ≡ s
+      go None e z = same_is (found_is ∙ ap is_found e) ∙ sym (parted s o).whole
+      go (Some x) e z = absurd (contents_some s x (sound_range s (records s) o.sound).elements.0 z)
 
   -- it has a record
 
@@ -106,9 +105,9 @@ module _ (s : List ℕ) (i : ℕ) (b : Bytes s) (o : Open s) (below : i < tile_c
   unfolding tiles_of
   nothing_held e = go (tile_at s i) (sym found_is ∙ e)
     where
-      go : (f : Found) → is_found f ≡ false → contents_of s f ≡ []
-      go Nothing z = refl
-      go (At x) z = not_both refl z
+      go : (f : Option ℕ) → is_found f ≡ false → contents_of s f ≡ []
+      go None z = refl
+      go (Some x) z = not_both refl z
 
   held_same : is_there s i ≡ false → (j : ℕ) → tiles_of s j ≡ pick (eqb j i) [] (tiles_of s j)
   held_same e j = go (eqb j i) refl

@@ -1,8 +1,7 @@
 -- Req 03: a page that is open for writing is so after a tile was stored or removed, and its tiles are those of the map.
-use Rattle.std.specs.Prelude.{ℕ, ◌+◌, ◌-◌, ◌≤◌, ◌<◌, ◌≡◌, List, [], ◌⊎◌, true, length, eqb}
+use Rattle.std.specs.Prelude.{ℕ, ◌+◌, ◌-◌, ◌≤◌, ◌<◌, ◌≡◌, List, [], ◌⊎◌, true, length, eqb, Some}
 use Rattle.wire.specs.Pick.{pick}
 use Rattle.wire.specs.Bytes.{Bytes, byte_at, Same}
-use Rattle.record.specs.declared.Found.TheVariants.{At}
 use Rattle.record.specs.Record.{length_at}
 use Rattle.record.specs.Chain.{header_end}
 use Rattle.header.specs.Fields.{element_count}
@@ -38,7 +37,7 @@ pub record StoredKeeps (s : List ℕ) (i : ℕ) (c : List ℕ) : Type 0 where
   -- Req 03, reading 10: stored over, the page is as long as it was, and each byte beside the record's cell bytes and checksum is as it
   -- was
   pub over_long : stored_over s i ≡ true → length (stored_page s i c) ≡ length s
-  pub over_beside : stored_over s i ≡ true → (x : ℕ) → tile_at s i ≡ At x → (k : ℕ) → Beside s x k → byte_at (stored_page s i c) k ≡ byte_at s k
+  pub over_beside : stored_over s i ≡ true → (x : ℕ) → tile_at s i ≡ Some x → (k : ℕ) → Beside s x k → byte_at (stored_page s i c) k ≡ byte_at s k
 
 abbrev pub StoredOpen : Type 0
 StoredOpen = (s : List ℕ) (i : ℕ) (c : List ℕ) → Stores s i c → StoredKeeps s i c

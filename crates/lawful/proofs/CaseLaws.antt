@@ -1,4 +1,5 @@
 -- What holds of every call, a case for each. Assumes nothing.
+use Rattle.std.specs.Prelude.{Err, Ok, Result, ⊤}
 use Prim.Native.Nat.{ℕ, ◌+◌, ◌≤◌, ◌<◌, max}
 use native.Mathlib.Omega.{arith}
 use mathlib.Core.Path.{◌≡◌, refl, sym, ap, ap₂, ◌∙◌}
@@ -13,8 +14,6 @@ use Rattle.wire.proofs.TestLaws.{sum_same}
 use Rattle.wire.proofs.ByteLaws.{bytes_part, bytes_number, bytes_length, number_bytes, number_same, part_length}
 use Rattle.answer.specs.declared.Refusal.{Refusal}
 use Rattle.answer.specs.declared.Refusal.TheVariants.{Ceiling, Room, Input, OutsideGrid}
-use Rattle.answer.specs.declared.Verdict.{Verdict}
-use Rattle.answer.specs.declared.Verdict.TheVariants as verdict
 use Rattle.answer.specs.Refusals.{refusal_place, gate}
 use Rattle.answer.proofs.VerdictLaws.{gate_passed, refused_not, refused_is}
 use Rattle.record.specs.Chain.{header_end, records}
@@ -61,23 +60,23 @@ use Rattle.lawful.proofs.MarkLaws.{opening_begins, closing_ends, squeezing_harml
 
 -- of every refusal that a verdict gives
 
-abbrev pub Refusing : (Refusal → Type 0) → Verdict → Type 0
-Refusing p v = (r : Refusal) → v ≡ verdict.Refused r → p r
+abbrev pub Refusing : (Refusal → Type 0) → Result ⊤ Refusal → Type 0
+Refusing p v = (r : Refusal) → v ≡ Err r → p r
 
-pub refusing_gate : (p : Refusal → Type 0) (b : Bool) (q : Refusal) (v : Verdict) → p q → Refusing p v → Refusing p (gate b q v)
+pub refusing_gate : (p : Refusal → Type 0) (b : Bool) (q : Refusal) (v : Result ⊤ Refusal) → p q → Refusing p v → Refusing p (gate b q v)
 unfolding gate
 refusing_gate p true q v z w = w
 refusing_gate p false q v z w = λ r e. rw (refused_is e) at z
 
 -- one of a tile, of cell bytes, of a time or for want of room has place 0
 
-abbrev Placeless : Verdict → Type 0
+abbrev Placeless : Result ⊤ Refusal → Type 0
 Placeless = Refusing (λ r. refusal_place r ≡ 0)
 
-placeless_gate : (b : Bool) (q : Refusal) (v : Verdict) → refusal_place q ≡ 0 → Placeless v → Placeless (gate b q v)
+placeless_gate : (b : Bool) (q : Refusal) (v : Result ⊤ Refusal) → refusal_place q ≡ 0 → Placeless v → Placeless (gate b q v)
 placeless_gate b q v z w = refusing_gate (λ r. refusal_place r ≡ 0) b q v z w
 
-placeless_none : Placeless verdict.Accepted
+placeless_none : Placeless (Ok tt)
 placeless_none r e = refused_not (sym e)
 
 placeless_room : (b : List ℕ) (m : ℕ) → Placeless (room_left b m)
@@ -160,7 +159,7 @@ module _ (b : List ℕ) (n : ℕ) (w : Bytes b) (inside : n ≤ length b) where
   unfolding page_in
   page_bytes = bytes_part 0 n w
 
-  opens : (t : ℕ) → t < 18446744073709551616 → check p ≡ verdict.Accepted → (line_of (Call.Opening t) b p).verdict ≡ verdict.Accepted → Done (Call.Opening t) b p
+  opens : (t : ℕ) → t < 18446744073709551616 → check p ≡ Ok tt → (line_of (Call.Opening t) b p).verdict ≡ Ok tt → Done (Call.Opening t) b p
   unfolding line_of time_bytes
   opens t g a e =
       let q = time_passed t _ e in
@@ -180,7 +179,7 @@ module _ (b : List ℕ) (n : ℕ) (w : Bytes b) (inside : n ≤ length b) where
         marks = record { lowest = rw o.time l; begins = rw o.time (opening_begins b p (accepted_sound p a) t l) };
       }
 
-  stores : (i : ℕ) (c : List ℕ) → Bytes c → open_for_writing p ≡ true → (line_of (Call.Storing i c) b p).verdict ≡ verdict.Accepted → Done (Call.Storing i c) b p
+  stores : (i : ℕ) (c : List ℕ) → Bytes c → open_for_writing p ≡ true → (line_of (Call.Storing i c) b p).verdict ≡ Ok tt → Done (Call.Storing i c) b p
   unfolding line_of
   stores i c g a e =
       let x = tile_passed p i _ e in
@@ -200,7 +199,7 @@ module _ (b : List ℕ) (n : ℕ) (w : Bytes b) (inside : n ≤ length b) where
         marks = stays_marked (open_sound p a) (stored_made b n i inside a x.0 c y.0 y.1).apart o.front;
       }
 
-  removes : (i : ℕ) → open_for_writing p ≡ true → (line_of (Call.Removing i) b p).verdict ≡ verdict.Accepted → Done (Call.Removing i) b p
+  removes : (i : ℕ) → open_for_writing p ≡ true → (line_of (Call.Removing i) b p).verdict ≡ Ok tt → Done (Call.Removing i) b p
   unfolding line_of
   removes i a e =
       let x = tile_passed p i _ e in
@@ -217,7 +216,7 @@ module _ (b : List ℕ) (n : ℕ) (w : Bytes b) (inside : n ≤ length b) where
         marks = stays_marked (open_sound p a) (removed_made b n i inside a x.0).apart o.front;
       }
 
-  closes : (t : ℕ) → t < 18446744073709551616 → open_for_writing p ≡ true → (line_of (Call.Closing t) b p).verdict ≡ verdict.Accepted → Done (Call.Closing t) b p
+  closes : (t : ℕ) → t < 18446744073709551616 → open_for_writing p ≡ true → (line_of (Call.Closing t) b p).verdict ≡ Ok tt → Done (Call.Closing t) b p
   unfolding line_of
   closes t g a e =
       let r = room_passed b _ (time_passed t _ e).1 in
@@ -239,7 +238,7 @@ module _ (b : List ℕ) (n : ℕ) (w : Bytes b) (inside : n ≤ length b) where
         marks = closing_ends b p open_page_lem.sound t (time_bytes p) l (time_long p) y;
       }
 
-  squeezes : (ps : List ℕ) → open_for_writing p ≡ true → (line_of (Call.Squeezing ps) b p).verdict ≡ verdict.Accepted → Done (Call.Squeezing ps) b p
+  squeezes : (ps : List ℕ) → open_for_writing p ≡ true → (line_of (Call.Squeezing ps) b p).verdict ≡ Ok tt → Done (Call.Squeezing ps) b p
   unfolding line_of plan_then
   squeezes ps a e =
       let r = (gate_passed _ _ _ e).0 in

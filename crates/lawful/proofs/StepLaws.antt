@@ -1,4 +1,5 @@
 -- What follows of every call, and of calls one behind the other: no case for any. Assumes nothing.
+use Rattle.std.specs.Prelude.{Err, Ok, Result, ⊤}
 use Prim.Native.Nat.{ℕ}
 use native.Mathlib.Omega.{arith}
 use mathlib.Core.Path.{◌≡◌, refl, sym, ap, ◌∙◌}
@@ -11,10 +12,6 @@ use Rattle.wire.specs.Bytes.{Bytes}
 use Rattle.wire.proofs.ByteLaws.{part_in, bytes_append, bytes_drop}
 use Rattle.answer.specs.declared.Refusal.{Refusal}
 use Rattle.answer.specs.declared.Refusal.TheVariants.{Input, NotOpen}
-use Rattle.answer.specs.declared.Verdict.{Verdict}
-use Rattle.answer.specs.declared.Verdict.TheVariants as verdict
-use Rattle.answer.specs.declared.Laid.{Laid}
-use Rattle.answer.specs.declared.Laid.TheVariants.{Length, Refused}
 use Rattle.answer.specs.Refusals.{refusal_place, gate, unless_refused}
 use Rattle.page_check.specs.Stages.{check}
 use Rattle.stores.specs.Stores.{run, Fits}
@@ -43,18 +40,18 @@ refused_leaves call st r e = rw e
 
 -- a refusal has place 0, or is the check's
 
-abbrev Placed : Verdict → Verdict → Type 0
-Placed v w = Refusing (λ r. (refusal_place r ≡ 0) ⊎ (w ≡ verdict.Refused r)) v
+abbrev Placed : Result ⊤ Refusal → Result ⊤ Refusal → Type 0
+Placed v w = Refusing (λ r. (refusal_place r ≡ 0) ⊎ (w ≡ Err r)) v
 
-placed_gate : (b : Bool) (q : Refusal) (v w : Verdict) → refusal_place q ≡ 0 → Placed v w → Placed (gate b q v) w
-placed_gate b q v w z p = refusing_gate (λ r. (refusal_place r ≡ 0) ⊎ (w ≡ verdict.Refused r)) b q v (inl z) p
+placed_gate : (b : Bool) (q : Refusal) (v w : Result ⊤ Refusal) → refusal_place q ≡ 0 → Placed v w → Placed (gate b q v) w
+placed_gate b q v w z p = refusing_gate (λ r. (refusal_place r ≡ 0) ⊎ (w ≡ Err r)) b q v (inl z) p
 
-placed_check : (v w : Verdict) → Placed v w → Placed (unless_refused verdict.Refused w v) w
+placed_check : (v w : Result ⊤ Refusal) → Placed v w → Placed (unless_refused Err w v) w
 unfolding unless_refused
-placed_check v verdict.Accepted p = p
-placed_check v (verdict.Refused q) p = λ r e. inr e
+placed_check v (Ok accepted) p = p
+placed_check v (Err q) p = λ r e. inr e
 
-placed_admitted : (r : Role) (b : List ℕ) (n : ℕ) (v : Verdict) → Placed v (check (page_in b n)) → Placed (admitted r b n v) (check (page_in b n))
+placed_admitted : (r : Role) (b : List ℕ) (n : ℕ) (v : Result ⊤ Refusal) → Placed v (check (page_in b n)) → Placed (admitted r b n v) (check (page_in b n))
 unfolding admitted on_accepted_page on_open_page on_page
 placed_admitted Role.Opens b n v p = placed_gate _ Input _ _ refl (placed_check v _ p)
 placed_admitted Role.Works b n v p = placed_gate _ Input _ _ refl (placed_gate _ NotOpen _ _ refl p)
@@ -66,7 +63,7 @@ refused_place call st r e =
     placed_admitted (kind_of call).role st.buffer st.long _ (λ q f. inl ((lawful call).refused st.buffer (page_in st.buffer st.long) q f)) r
     (sym (judged_once call st.buffer st.long) ∙ answer_refused (change_in call st).verdict (change_in call st).long r e)
 
-pub refused_stores : (call : Call) (st : State) (r : Refusal) → answer_of call st ≡ Refused r → stores_of call st ≡ []
+pub refused_stores : (call : Call) (st : State) (r : Refusal) → answer_of call st ≡ Err r → stores_of call st ≡ []
 unfolding stores_by
 refused_stores call st r e = rw e
 
@@ -84,7 +81,7 @@ pub record Stepped (call : Call) (st : State) (m : ℕ) : Type 0 where
   pub page : page_of (after call st) ≡ (line_in call st).page
   pub stores : stores_of call st ≡ (line_in call st).writes
 
-pub stepped : (call : Call) (st : State) (m : ℕ) → Bytes st.buffer → Given call → answer_of call st ≡ Length m → Stepped call st m
+pub stepped : (call : Call) (st : State) (m : ℕ) → Bytes st.buffer → Given call → answer_of call st ≡ Ok m → Stepped call st m
 unfolding after answer_by out_by stores_by page_of change_of change_on
 stepped call st m w g q =
     let v = answer_passed (change_in call st).verdict (change_in call st).long m q in
@@ -104,8 +101,8 @@ pub does : (call : Call) (st : State) → Bytes st.buffer → Given call → Doe
 unfolding out_by stores_by run change_of change_on page_of
 does call st w g = go (answer_of call st) refl
   where
-    go : (a : Laid) → answer_of call st ≡ a → Does call st
-    go (Length m) q =
+    go : (a : Result ℕ Refusal) → answer_of call st ≡ a → Does call st
+    go (Ok m) q =
         let s = stepped call st m w g q in
         let d = s.done in
         let l = s.long in
@@ -114,7 +111,7 @@ does call st w g = go (answer_of call st) refl
           fits = rw q (fits_more (line_in call st).long (length st.buffer) (line_in call st).writes d.room d.makes.fits);
           bytes = rw q (bytes_append d.bytes (bytes_drop m w));
         }
-    go (Refused r) q = record { whole = rw q; fits = rw q _; bytes = rw q w }
+    go (Err r) q = record { whole = rw q; fits = rw q _; bytes = rw q w }
 
 pub after_buffer : (call : Call) (st : State) → (after call st).buffer ≡ out_of call st
 unfolding after

@@ -1,9 +1,7 @@
 -- Req 03 and Req 05: what holds of a call, on the page of n bytes in a buffer b.
-use Rattle.std.specs.Prelude.{ℕ, ◌≤◌, ◌≡◌, ◌⊎◌, true, false, List, length}
+use Rattle.std.specs.Prelude.{ℕ, ◌≤◌, ◌≡◌, ◌⊎◌, true, false, List, length, Err, Ok}
 use Rattle.wire.specs.Bytes.{Bytes}
 use Rattle.answer.specs.declared.Refusal.{Refusal}
-use Rattle.answer.specs.declared.Verdict.TheVariants.{Accepted, Refused}
-use Rattle.answer.specs.declared.Laid.TheVariants as laid
 use Rattle.answer.specs.Refusals.{refusal_place}
 use Rattle.page_check.specs.Stages.{check}
 use Rattle.alone.specs.Alone.{SameHeader}
@@ -19,7 +17,7 @@ use Rattle.lawful.specs.Marks.{Marks}
 abbrev pub Leaves : Role → List ℕ → Type 0
 Leaves Role.Opens s = open_for_writing s ≡ true
 Leaves Role.Works s = open_for_writing s ≡ true
-Leaves Role.Closes s = check s ≡ Accepted
+Leaves Role.Closes s = check s ≡ Ok tt
 
 -- a call, on a page that it is made on, that is not refused
 pub record Done (call : Call) (b : List ℕ) (s : List ℕ) : Type 0 where
@@ -42,11 +40,11 @@ pub record Done (call : Call) (b : List ℕ) (s : List ℕ) : Type 0 where
 
 pub record Lawful (call : Call) : Type 0 where
   -- a refusal behind the check has place 0
-  pub refused : (b s : List ℕ) (r : Refusal) → (line_of call b s).verdict ≡ Refused r → refusal_place r ≡ 0
+  pub refused : (b s : List ℕ) (r : Refusal) → (line_of call b s).verdict ≡ Err r → refusal_place r ≡ 0
   -- what a tile then holds is the same in pages with the same sizes
   pub sizes : {s t : List ℕ} → SameHeader s t → (kind_of call).holds t ≡ (kind_of call).holds s
   pub done :
-      Given call → (b : List ℕ) (n : ℕ) → Bytes b → n ≤ length b → Wants (kind_of call).role (page_in b n) → (line_of call b (page_in b n)).verdict ≡ Accepted →
+      Given call → (b : List ℕ) (n : ℕ) → Bytes b → n ≤ length b → Wants (kind_of call).role (page_in b n) → (line_of call b (page_in b n)).verdict ≡ Ok tt →
       Done call b (page_in b n)
 
 abbrev pub EachLawful : Type 0
@@ -54,8 +52,8 @@ EachLawful = (call : Call) → Lawful call
 
 -- "Every refusal changes nothing": neither the buffer nor the page's length
 abbrev pub RefusedLeaves : Type 0
-RefusedLeaves = (call : Call) (st : State) (r : Refusal) → answer_of call st ≡ laid.Refused r → after call st ≡ st
+RefusedLeaves = (call : Call) (st : State) (r : Refusal) → answer_of call st ≡ Err r → after call st ≡ st
 
 -- a refusal has place 0, but for the check's, which an opening hands on
 abbrev pub RefusedPlace : Type 0
-RefusedPlace = (call : Call) (st : State) (r : Refusal) → answer_of call st ≡ laid.Refused r → (refusal_place r ≡ 0) ⊎ (check (page_of st) ≡ Refused r)
+RefusedPlace = (call : Call) (st : State) (r : Refusal) → answer_of call st ≡ Err r → (refusal_place r ≡ 0) ⊎ (check (page_of st) ≡ Err r)

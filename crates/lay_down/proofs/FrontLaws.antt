@@ -1,4 +1,5 @@
 -- What a front that passes stages 1 to 4 gives: its rules, and its numbers as they are counted. Assumes nothing.
+use Rattle.std.specs.Prelude.{Ok}
 use Prim.Native.Nat.{ℕ, min, ◌+◌, ◌*◌, ◌≤◌}
 use mathlib.Core.Path.{◌≡◌, refl, sym, ap, ◌∙◌}
 use mathlib.Core.List.{List}
@@ -7,7 +8,6 @@ use native.Mathlib.Omega.{arith}
 use native.Mathlib.Nat.{mul-le-mul}
 use lib.ListN.{length}
 use Rattle.wire.proofs.TestLaws.{means, yes}
-use Rattle.answer.specs.declared.Verdict.TheVariants.{Accepted}
 use Rattle.record.specs.Chain.{header_end}
 use Rattle.geometry.specs.Tiles.{tile_count}
 use Rattle.geometry.specs.Sizes.{least_length, cap, tile_bytes, plain_tile_length}
@@ -21,7 +21,7 @@ use Rattle.written_records.specs.Pieces.{record_length}
 use Rattle.lay_down.specs.Ready.{SizesOf}
 
 -- a front passes stages 1 to 4 by itself, and is its header and no byte more
-pub front_passed : (f : List ℕ) → check_front f ≡ Accepted → Headed f (length f) × (header_end f ≡ length f)
+pub front_passed : (f : List ℕ) → check_front f ≡ Ok tt → Headed f (length f) × (header_end f ≡ length f)
 unfolding check_front front_right
 front_passed f e =
     let a = stages_passed f (length f) _ _ e (λ h. (means _ h).0) in
@@ -31,7 +31,7 @@ front_passed f e =
 abbrev pub Front : List ℕ → Type 0
 Front f = InRange f (length f)
 
-pub front_of_lem : (f : List ℕ) → check_front f ≡ Accepted → Front f
+pub front_of_lem : (f : List ℕ) → check_front f ≡ Ok tt → Front f
 front_of_lem f e = range_of f (length f) (front_passed f e).0
 
 module _ (f : List ℕ) (w : Front f) where

@@ -1,4 +1,5 @@
 -- How a lay-down is judged. Assumes nothing.
+use Rattle.std.specs.Prelude.{Err, Ok, Result, ⊤}
 use Prim.Native.Nat.{ℕ, min, ◌+◌, ◌*◌, ◌≤◌, ◌<◌}
 use mathlib.Core.Path.{◌≡◌, refl, sym, ap, ◌∙◌}
 use mathlib.Core.List.{List}
@@ -11,8 +12,6 @@ use Rattle.wire.specs.Tests.{passes}
 use Rattle.wire.proofs.TestLaws.{not_both, means, yes, no_true}
 use Rattle.answer.specs.declared.Refusal.{Refusal}
 use Rattle.answer.specs.declared.Refusal.TheVariants.{Ceiling, Input, Room}
-use Rattle.answer.specs.declared.Verdict.{Verdict}
-use Rattle.answer.specs.declared.Verdict.TheVariants.{Accepted, Refused}
 use Rattle.answer.specs.Refusals.{gate, unless_refused}
 use Rattle.answer.proofs.VerdictLaws.{gate_passed, behind_passed}
 use Rattle.geometry.specs.Tiles.{tile_count}
@@ -60,41 +59,41 @@ length_is f ix n e = e
 
 -- and what is judged of it
 module _ (f ix : List ℕ) (room n : ℕ) (e : n ≡ file_length f ix) where
-  pub judged_ceiling : 16777216 < n → Refused Ceiling ≡ length_verdict f ix room
+  pub judged_ceiling : 16777216 < n → Err Ceiling ≡ length_verdict f ix room
   unfolding length_verdict gate length_allowed passes
   judged_ceiling h = rw (lt-leb (file_length f ix) 16777216 (omega arith))
 
-  pub judged_room : n ≤ 16777216 → room < n → Refused Room ≡ length_verdict f ix room
+  pub judged_room : n ≤ 16777216 → room < n → Err Room ≡ length_verdict f ix room
   unfolding length_verdict gate length_allowed fits_in passes
   judged_room h k = rw (le-leb (file_length f ix) 16777216 (omega arith), lt-leb (file_length f ix) room (omega arith))
 
-  pub judged_done : n ≤ 16777216 → n ≤ room → Accepted ≡ length_verdict f ix room
+  pub judged_done : n ≤ 16777216 → n ≤ room → Ok tt ≡ length_verdict f ix room
   unfolding length_verdict gate length_allowed fits_in passes
   judged_done h k = rw (le-leb (file_length f ix) 16777216 (omega arith), le-leb (file_length f ix) room (omega arith))
 
 -- behind the front
 module _ (f : List ℕ) (t : ℕ) (ix c : List ℕ) (room : ℕ) (b : Bool) (p : b ≡ input_right f t ix c) where
-  pub judged_input : b ≡ false → Refused Input ≡ input_verdict f t ix c room
+  pub judged_input : b ≡ false → Err Input ≡ input_verdict f t ix c room
   unfolding input_verdict gate
   judged_input q = rw (← p, q)
 
-  pub judged_length : (v : Verdict) → b ≡ true → v ≡ length_verdict f ix room → v ≡ input_verdict f t ix c room
+  pub judged_length : (v : Result ⊤ Refusal) → b ≡ true → v ≡ length_verdict f ix room → v ≡ input_verdict f t ix c room
   unfolding input_verdict gate
   judged_length v q e = rw (← p, q) e
 
-pub judged_front : (f : List ℕ) (t : ℕ) (ix c : List ℕ) (room : ℕ) (v : Verdict) (r : Refusal) → v ≡ check_front f → v ≡ Refused r → Refused r ≡ lay_down_verdict f t ix c room
+pub judged_front : (f : List ℕ) (t : ℕ) (ix c : List ℕ) (room : ℕ) (v : Result ⊤ Refusal) (r : Refusal) → v ≡ check_front f → v ≡ Err r → Err r ≡ lay_down_verdict f t ix c room
 unfolding lay_down_verdict unless_refused
 judged_front f t ix c room v r p e = rw (← p, e)
 
 pub judged_behind :
-    (f : List ℕ) (t : ℕ) (ix c : List ℕ) (room : ℕ) (v w : Verdict) → v ≡ check_front f → v ≡ Accepted → w ≡ input_verdict f t ix c room →
+    (f : List ℕ) (t : ℕ) (ix c : List ℕ) (room : ℕ) (v w : Result ⊤ Refusal) → v ≡ check_front f → v ≡ Ok tt → w ≡ input_verdict f t ix c room →
     w ≡ lay_down_verdict f t ix c room
 unfolding lay_down_verdict unless_refused
 judged_behind f t ix c room v w p e q = rw (← p, e) q
 
 -- what a lay-down that is not refused was given
 pub record Passed (f : List ℕ) (t : ℕ) (ix c : List ℕ) (room : ℕ) : Type 0 where
-  pub front : check_front f ≡ Accepted
+  pub front : check_front f ≡ Ok tt
   pub indexes : ascending (tile_count f) 0 ix ≡ true
   pub few : length ix ≤ 65536
   pub cells : length c ≡ length ix * tile_bytes f
@@ -104,7 +103,7 @@ pub record Passed (f : List ℕ) (t : ℕ) (ix c : List ℕ) (room : ℕ) : Type
   pub start : directory_start f ix ≡ length f + length ix * plain_tile_length f
   pub long : file_length f ix ≡ directory_start f ix + record_length (24 + 4 * tile_count f)
 
-pub passed_of : (f : List ℕ) (t : ℕ) (ix c : List ℕ) (room : ℕ) → lay_down_verdict f t ix c room ≡ Accepted → Passed f t ix c room
+pub passed_of : (f : List ℕ) (t : ℕ) (ix c : List ℕ) (room : ℕ) → lay_down_verdict f t ix c room ≡ Ok tt → Passed f t ix c room
 unfolding lay_down_verdict input_verdict length_verdict length_allowed fits_in file_length directory_start
 passed_of f t ix c room e =
     let a = behind_passed _ _ e in

@@ -1,4 +1,5 @@
 -- The whole file as it is written, and what is then answered. Assumes nothing.
+use Rattle.std.specs.Prelude.{Err, Ok, Result, ⊤}
 use Prim.Native.Nat.{ℕ, ◌+◌, ◌*◌, ◌≤◌}
 use mathlib.Core.Path.{◌≡◌, sym, ap, ◌∙◌}
 use mathlib.Core.List.{List, ◌++◌}
@@ -6,10 +7,7 @@ use native.Mathlib.Omega.{arith}
 use lib.ListN.{length}
 use Rattle.wire.specs.Bytes.{put}
 use Rattle.wire.proofs.PutLaws.{put_fits, first, then}
-use Rattle.answer.specs.declared.Laid.TheVariants.{Length, Refused}
 use Rattle.answer.specs.declared.Refusal.{Refusal}
-use Rattle.answer.specs.declared.Verdict.{Verdict}
-use Rattle.answer.specs.declared.Verdict.TheVariants as verdict
 use Rattle.answer.specs.Refusals.{unless_refused}
 use Rattle.record.specs.Chain.{joined}
 use Rattle.geometry.specs.Tiles.{tile_count}
@@ -37,14 +35,14 @@ page_put d a b l t at f ix c p q r e front h k =
     w3.is ∙ ap (λ (z : ℕ). put d 0 (laid_front f t (z + 8) ++ x ++ directory_record f ix)) e
 
 -- what a lay-down answers, and what the buffer holds
-module _ (f : List ℕ) (t : ℕ) (ix c d : List ℕ) (v : Verdict) (p : v ≡ lay_down_verdict f t ix c (length d)) where
-  pub laid_refused : (r : Refusal) → v ≡ verdict.Refused r → (Refused r ≡ laid f t ix c (length d)) × (d ≡ laid_out f t ix c d)
+module _ (f : List ℕ) (t : ℕ) (ix c d : List ℕ) (v : Result ⊤ Refusal) (p : v ≡ lay_down_verdict f t ix c (length d)) where
+  pub laid_refused : (r : Refusal) → v ≡ Err r → (Err r ≡ laid f t ix c (length d)) × (d ≡ laid_out f t ix c d)
   unfolding laid laid_out unless_refused
   laid_refused r e = (rw (← p, e), rw (← p, e))
 
   pub laid_done :
-      (n : ℕ) (l : List ℕ) → v ≡ verdict.Accepted → n ≡ file_length f ix → l ≡ put d 0 (laid_file f t ix c) →
-      (Length n ≡ laid f t ix c (length d)) × (l ≡ laid_out f t ix c d)
+      (n : ℕ) (l : List ℕ) → v ≡ Ok tt → n ≡ file_length f ix → l ≡ put d 0 (laid_file f t ix c) →
+      (Ok n ≡ laid f t ix c (length d)) × (l ≡ laid_out f t ix c d)
   unfolding laid laid_out unless_refused
   laid_done n l e g q =
       let w = passed_of f t ix c (length d) (sym p ∙ e) in

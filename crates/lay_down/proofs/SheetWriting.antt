@@ -1,4 +1,5 @@
 -- A tile's scores as they are put into its record, and what a move of a sheet answers. Assumes nothing.
+use Rattle.std.specs.Prelude.{Err, Ok, Result, ⊤}
 use Prim.Native.Nat.{ℕ, ◌+◌, ◌*◌, ◌-◌, ◌≤◌, ◌<◌}
 use mathlib.Core.Path.{◌≡◌, refl, sym, ap, ◌∙◌}
 use mathlib.Core.List.{List, flat_map}
@@ -14,10 +15,6 @@ use Rattle.score_sheets.specs.Sheet.{sheet_right}
 use Rattle.score_sheets.specs.Parts.{part_scores}
 use Rattle.answer.specs.declared.Refusal.{Refusal}
 use Rattle.answer.specs.declared.Refusal.TheVariants.{Input}
-use Rattle.answer.specs.declared.Verdict.{Verdict}
-use Rattle.answer.specs.declared.Verdict.TheVariants as verdict
-use Rattle.answer.specs.declared.Laid.{Laid}
-use Rattle.answer.specs.declared.Laid.TheVariants.{Length, Refused}
 use Rattle.answer.specs.Refusals.{gate, unless_refused}
 use Rattle.answer.specs.Answers.{written}
 use Rattle.header.specs.Fields.{tile_rows, tile_columns, element_count}
@@ -116,16 +113,16 @@ module _
 -- what is answered, and what the buffer holds
 
 module _ (f : List ℕ) (t : ℕ) (d : List ℕ) (room : ℕ) where
-  pub sheet_front : (v : Verdict) (r : Refusal) → v ≡ check_front f → v ≡ verdict.Refused r → Refused r ≡ sheet_laid f t d room
+  pub sheet_front : (v : Result ⊤ Refusal) (r : Refusal) → v ≡ check_front f → v ≡ Err r → Err r ≡ sheet_laid f t d room
   unfolding sheet_laid sheet_verdict unless_refused
   sheet_front v r p e = rw (← p, e)
 
-  module _ (a : check_front f ≡ verdict.Accepted) where
-    pub sheet_bad : (b : Bool) → b ≡ sheet_right d → b ≡ false → Refused Input ≡ sheet_laid f t d room
+  module _ (a : check_front f ≡ Ok tt) where
+    pub sheet_bad : (b : Bool) → b ≡ sheet_right d → b ≡ false → Err Input ≡ sheet_laid f t d room
     unfolding sheet_laid sheet_verdict unless_refused gate
     sheet_bad b p e = rw (a, ← p, e)
 
-    pub sheet_unfit : (b c : Bool) → b ≡ sheet_right d → b ≡ true → c ≡ front_fits f d → c ≡ false → Refused Input ≡ sheet_laid f t d room
+    pub sheet_unfit : (b c : Bool) → b ≡ sheet_right d → b ≡ true → c ≡ front_fits f d → c ≡ false → Err Input ≡ sheet_laid f t d room
     unfolding sheet_laid sheet_verdict unless_refused gate
     sheet_unfit b c p e q g = rw (a, ← p, e, ← q, g)
 
@@ -134,41 +131,41 @@ module _ (f : List ℕ) (t : ℕ) (d : List ℕ) (room : ℕ) where
       unfolding sheet_laid sheet_verdict laid lay_down_verdict unless_refused gate
       sheet_laid_lem = rw (a, right, fits)
 
-      pub sheet_timeless : t ≡ 0 → Refused Input ≡ sheet_laid f t d room
+      pub sheet_timeless : t ≡ 0 → Err Input ≡ sheet_laid f t d room
       unfolding laid unless_refused
       sheet_timeless z =
           let i = judged_input f t (kept_tiles f d) (sheet_cells f d) room false (input_timeless f t (kept_tiles f d) (sheet_cells f d) z) refl in
-          let j = judged_behind f t (kept_tiles f d) (sheet_cells f d) room verdict.Accepted (verdict.Refused Input) (sym a) refl i in
+          let j = judged_behind f t (kept_tiles f d) (sheet_cells f d) room (Ok tt) (Err Input) (sym a) refl i in
           rw (← j) refl ∙ sheet_laid_lem
 
       -- the length decides
-      pub sheet_judged : (v : Verdict) → (t ≡ 0 → ⊥) → v ≡ length_verdict f (kept_tiles f d) room → v ≡ lay_down_verdict f t (kept_tiles f d) (sheet_cells f d) room
+      pub sheet_judged : (v : Result ⊤ Refusal) → (t ≡ 0 → ⊥) → v ≡ length_verdict f (kept_tiles f d) room → v ≡ lay_down_verdict f t (kept_tiles f d) (sheet_cells f d) room
       unfolding input_right
       sheet_judged v z e =
           let o = score_of_lem f (fits_of f d fits).element in
-          judged_behind f t (kept_tiles f d) (sheet_cells f d) room verdict.Accepted v (sym a) refl
+          judged_behind f t (kept_tiles f d) (sheet_cells f d) room (Ok tt) v (sym a) refl
           (judged_length f t (kept_tiles f d) (sheet_cells f d) room true (yes _ (z, (kept_ascends f d, (sheet_long f o d, tt)))) v refl e)
 
 -- with the tiles that are kept as they were listed
 
 module _
-    (f : List ℕ) (t : ℕ) (d e ix : List ℕ) (a : check_front f ≡ verdict.Accepted) (right : sheet_right d ≡ true) (fits : front_fits f d ≡ true)
-    (z : 1 ≤ t) (k : ix ≡ kept_tiles f d) (v : Verdict) (p : v ≡ length_verdict f ix (length e))
+    (f : List ℕ) (t : ℕ) (d e ix : List ℕ) (a : check_front f ≡ Ok tt) (right : sheet_right d ≡ true) (fits : front_fits f d ≡ true)
+    (z : 1 ≤ t) (k : ix ≡ kept_tiles f d) (v : Result ⊤ Refusal) (p : v ≡ length_verdict f ix (length e))
   where
     judged : v ≡ lay_down_verdict f t ix (sheet_cells f d) (length e)
     judged = rw k (sheet_judged f t d (length e) a right fits v (λ y. omega arith) (rw k at p))
 
-    pub sheet_passed : v ≡ verdict.Accepted → lay_down_verdict f t ix (sheet_cells f d) (length e) ≡ verdict.Accepted
+    pub sheet_passed : v ≡ Ok tt → lay_down_verdict f t ix (sheet_cells f d) (length e) ≡ Ok tt
     sheet_passed q = sym judged ∙ q
 
-    pub sheet_refused : (r : Refusal) → v ≡ verdict.Refused r → Refused r ≡ sheet_laid f t d (length e)
+    pub sheet_refused : (r : Refusal) → v ≡ Err r → Err r ≡ sheet_laid f t d (length e)
     sheet_refused r q = rw k at (laid_refused f t ix (sheet_cells f d) e v judged r q).0 ∙ sheet_laid_lem f t d (length e) a right fits
 
     pub sheet_done :
-        (n : ℕ) (l : List ℕ) → v ≡ verdict.Accepted → n ≡ file_length f ix → l ≡ put e 0 (laid_file f t ix (sheet_cells f d)) →
-        (Length n ≡ sheet_laid f t d (length e)) × (l ≡ written (Length n) (sheet_file f t d) e)
+        (n : ℕ) (l : List ℕ) → v ≡ Ok tt → n ≡ file_length f ix → l ≡ put e 0 (laid_file f t ix (sheet_cells f d)) →
+        (Ok n ≡ sheet_laid f t d (length e)) × (l ≡ written (Ok n) (sheet_file f t d) e)
     unfolding sheet_file laid_out
     sheet_done n l q g x =
         let w = laid_done f t ix (sheet_cells f d) e v judged n l q g x in
-        let y : l ≡ written (Length n) (laid_file f t ix (sheet_cells f d)) e = w.1 ∙ ap (λ (r : Laid). written r (laid_file f t ix (sheet_cells f d)) e) (sym w.0) in
+        let y : l ≡ written (Ok n) (laid_file f t ix (sheet_cells f d)) e = w.1 ∙ ap (λ (r : Result ℕ Refusal). written r (laid_file f t ix (sheet_cells f d)) e) (sym w.0) in
         (rw k at w.0 ∙ sheet_laid_lem f t d (length e) a right fits, rw k at y)

@@ -1,11 +1,8 @@
 -- Document 01, 'Laying down a page': what a lay-down answers, and what the buffer holds afterwards.
-use Rattle.std.specs.Prelude.{ℕ, ◌+◌, ◌*◌, List, [], ◌∷◌, Bool, true, length}
+use Rattle.std.specs.Prelude.{ℕ, ◌+◌, ◌*◌, List, [], ◌∷◌, Bool, true, length, Err, Ok, Result, ⊤}
+use Rattle.answer.specs.declared.Refusal.{Refusal}
 use Rattle.wire.specs.Tests.{◌≤?◌, ◌≡?◌, ◌≢?◌, is, passes}
 use Rattle.answer.specs.declared.Refusal.TheVariants.{Ceiling, Input, Room}
-use Rattle.answer.specs.declared.Verdict.{Verdict}
-use Rattle.answer.specs.declared.Verdict.TheVariants as verdict
-use Rattle.answer.specs.declared.Laid.{Laid}
-use Rattle.answer.specs.declared.Laid.TheVariants.{Length, Refused}
 use Rattle.answer.specs.Refusals.{gate, unless_refused}
 use Rattle.answer.specs.Answers.{written}
 use Rattle.geometry.specs.Tiles.{tile_count}
@@ -32,20 +29,20 @@ unfoldable pub fits_in : List ℕ → List ℕ → ℕ → Bool
 fits_in f ix room = passes ((file_length f ix ≤? room) ∷ [])
 
 -- 4 if the file would pass its ceiling; then 13 exactly if the buffer is shorter than the file
-unfoldable pub length_verdict : List ℕ → List ℕ → ℕ → Verdict
-length_verdict f ix room = gate (length_allowed f ix) Ceiling (gate (fits_in f ix room) Room verdict.Accepted)
+unfoldable pub length_verdict : List ℕ → List ℕ → ℕ → Result ⊤ Refusal
+length_verdict f ix room = gate (length_allowed f ix) Ceiling (gate (fits_in f ix room) Room (Ok tt))
 
 -- 12 before them
-unfoldable pub input_verdict : List ℕ → ℕ → List ℕ → List ℕ → ℕ → Verdict
+unfoldable pub input_verdict : List ℕ → ℕ → List ℕ → List ℕ → ℕ → Result ⊤ Refusal
 input_verdict f t ix c room = gate (input_right f t ix c) Input (length_verdict f ix room)
 
 -- before that, the front passes stages 1 to 4 taken by itself
-unfoldable pub lay_down_verdict : List ℕ → ℕ → List ℕ → List ℕ → ℕ → Verdict
-lay_down_verdict f t ix c room = unless_refused verdict.Refused (check_front f) (input_verdict f t ix c room)
+unfoldable pub lay_down_verdict : List ℕ → ℕ → List ℕ → List ℕ → ℕ → Result ⊤ Refusal
+lay_down_verdict f t ix c room = unless_refused Err (check_front f) (input_verdict f t ix c room)
 
 -- the answer is the file's length, or the refusal
-unfoldable pub laid : List ℕ → ℕ → List ℕ → List ℕ → ℕ → Laid
-laid f t ix c room = unless_refused Refused (lay_down_verdict f t ix c room) (Length (file_length f ix))
+unfoldable pub laid : List ℕ → ℕ → List ℕ → List ℕ → ℕ → Result ℕ Refusal
+laid f t ix c room = unless_refused Err (lay_down_verdict f t ix c room) (Ok (file_length f ix))
 
 -- done, the buffer is the file, and bytes behind it stay; refused, it is as it was
 unfoldable pub laid_out : List ℕ → ℕ → List ℕ → List ℕ → List ℕ → List ℕ

@@ -1,6 +1,5 @@
 -- What the inner writers rely on: that the input was judged, and that what they write fits.
-use Rattle.std.specs.Prelude.{ℕ, ◌*◌, ◌≤◌, ◌<◌, ◌≡◌, List, true, length, get_or}
-use Rattle.answer.specs.declared.Verdict.TheVariants.{Accepted}
+use Rattle.std.specs.Prelude.{ℕ, ◌*◌, ◌≤◌, ◌<◌, ◌≡◌, List, true, length, get_or, Ok}
 use Rattle.header.specs.Element.{entries_read, most_elements}
 use Rattle.geometry.specs.Tiles.{tile_count}
 use Rattle.geometry.specs.Sizes.{element_bytes, tile_bytes}
@@ -15,12 +14,12 @@ SizesOf f us = (length us ≡ most_elements) × ((e : ℕ) → e < entries_read 
 
 -- the front passes, c are the cell bytes of one tile, and what is written ends at `end`
 abbrev pub TileReady : List ℕ → List ℕ → List ℕ → ℕ → ℕ → Type 0
-TileReady f us c end room = (check_front f ≡ Accepted) × (SizesOf f us × ((length c ≡ tile_bytes f) × (end ≤ room)))
+TileReady f us c end room = (check_front f ≡ Ok tt) × (SizesOf f us × ((length c ≡ tile_bytes f) × (end ≤ room)))
 
 -- c are the cell bytes of the tiles ix, and their records fit
 abbrev pub TilesReady : List ℕ → List ℕ → List ℕ → ℕ → Type 0
-TilesReady f ix c room = (check_front f ≡ Accepted) × ((length c ≡ length ix * tile_bytes f) × (directory_start f ix ≤ room))
+TilesReady f ix c room = (check_front f ≡ Ok tt) × ((length c ≡ length ix * tile_bytes f) × (directory_start f ix ≤ room))
 
 -- the indexes ascend, and the file keeps its ceiling
 abbrev pub IndexesReady : List ℕ → List ℕ → Type 0
-IndexesReady f ix = (check_front f ≡ Accepted) × ((ascending (tile_count f) 0 ix ≡ true) × (file_length f ix ≤ most_file_bytes))
+IndexesReady f ix = (check_front f ≡ Ok tt) × ((ascending (tile_count f) 0 ix ≡ true) × (file_length f ix ≤ most_file_bytes))

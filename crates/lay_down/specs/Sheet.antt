@@ -1,5 +1,6 @@
 -- Req 13, the way in: a score sheet d, and the page that it becomes with a front f, at a time t.
-use Rattle.std.specs.Prelude.{ℕ, ◌*◌, ◌/◌, ◌%◌, ◌≤◌, ◌<◌, ◌≡◌, Bool, true, not}
+use Rattle.std.specs.Prelude.{ℕ, ◌*◌, ◌/◌, ◌%◌, ◌≤◌, ◌<◌, ◌≡◌, Bool, true, not, Err, Ok, Result, ⊤}
+use Rattle.answer.specs.declared.Refusal.{Refusal}
 use mathlib.Core.List.{List, [], ◌∷◌, flat_map}
 use Rattle.wire.specs.Tests.{◌≡?◌, is, passes}
 use Rattle.wire.specs.Bytes.{bytes_of}
@@ -7,10 +8,6 @@ use Rattle.wire.specs.Lists.{select, below}
 use Rattle.score_sheets.specs.Sheet.{sheet_rows, sheet_columns, unread, sheet_right}
 use Rattle.score_sheets.specs.Parts.{part_scores, part_unread}
 use Rattle.answer.specs.declared.Refusal.TheVariants.{Input}
-use Rattle.answer.specs.declared.Verdict.{Verdict}
-use Rattle.answer.specs.declared.Verdict.TheVariants as verdict
-use Rattle.answer.specs.declared.Laid.{Laid}
-use Rattle.answer.specs.declared.Laid.TheVariants.{Length, Refused}
 use Rattle.answer.specs.Refusals.{gate, unless_refused}
 use Rattle.header.specs.Fields.{grid_rows, grid_columns, tile_rows, tile_columns, element_count}
 use Rattle.header.specs.Element.{element, short_kind}
@@ -54,14 +51,14 @@ unfoldable pub sheet_cells : List ℕ → List ℕ → List ℕ
 sheet_cells f d = flat_map (tile_cells f d) (kept_tiles f d)
 
 -- "A bad sheet or front is 12 once the front has passed its own stages. Then the lay-down's refusals in its order."
-unfoldable pub sheet_verdict : List ℕ → ℕ → List ℕ → ℕ → Verdict
+unfoldable pub sheet_verdict : List ℕ → ℕ → List ℕ → ℕ → Result ⊤ Refusal
 sheet_verdict f t d room =
-    unless_refused verdict.Refused (check_front f)
+    unless_refused Err (check_front f)
     (gate (sheet_right d) Input (gate (front_fits f d) Input (input_verdict f t (kept_tiles f d) (sheet_cells f d) room)))
 
 -- the answer is the file's length, or the refusal
-unfoldable pub sheet_laid : List ℕ → ℕ → List ℕ → ℕ → Laid
-sheet_laid f t d room = unless_refused Refused (sheet_verdict f t d room) (Length (file_length f (kept_tiles f d)))
+unfoldable pub sheet_laid : List ℕ → ℕ → List ℕ → ℕ → Result ℕ Refusal
+sheet_laid f t d room = unless_refused Err (sheet_verdict f t d room) (Ok (file_length f (kept_tiles f d)))
 
 -- the page is a page laid down
 unfoldable pub sheet_file : List ℕ → ℕ → List ℕ → List ℕ
@@ -70,4 +67,4 @@ sheet_file f t d = laid_file f t (kept_tiles f d) (sheet_cells f d)
 -- what the inner writers rely on: the front passes and has an element of scores, the tile is one of the page's, and what is written
 -- ends at `end`
 abbrev pub ScoresReady : List ℕ → ℕ → ℕ → ℕ → Type 0
-ScoresReady f tile end room = (check_front f ≡ verdict.Accepted) × ((score_element f ≡ true) × ((tile < most_tiles) × (end ≤ room)))
+ScoresReady f tile end room = (check_front f ≡ Ok tt) × ((score_element f ≡ true) × ((tile < most_tiles) × (end ≤ room)))

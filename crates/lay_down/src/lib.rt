@@ -12,7 +12,7 @@ pub mod front;
 mod page;
 pub mod sheet;
 
-ghost use Rattle.std.specs.Prelude.{◌≡◌, true, ◌+◌, ◌*◌, ◌≤◌, length};
+ghost use Rattle.std.specs.Prelude.{◌≡◌, true, ◌+◌, ◌*◌, ◌≤◌, length, Ok};
 ghost use Rattle.wire.specs.Tests.{sum_below};
 ghost use Rattle.wire.specs.Bytes.{put};
 ghost use Rattle.header.specs.Fields.{element_count};
@@ -22,14 +22,13 @@ ghost use Rattle.geometry.specs.Tiles.{tile_count};
 ghost use Rattle.geometry.specs.Sizes.{stored_size, element_bytes, plain_tile_length};
 ghost use Rattle.check_header.specs.Stages.{check_front};
 ghost use Rattle.check_header.specs.Ceilings.{most_tiles};
-ghost use Rattle.answer.specs.declared.Verdict.TheVariants.{Accepted};
 ghost use Rattle.written_records.specs.Pieces.{record_length};
 ghost use Rattle.written_records.specs.Tile.{sections, tile_record};
 ghost use Rattle.lay_down.specs.Page.{tile_records, references, directory_record, laid_front, laid_file};
 ghost use Rattle.lay_down.specs.Answer.{ascending, input_right, input_verdict, lay_down_verdict, laid, laid_out};
 ghost use Rattle.lay_down.specs.Ready.{SizesOf, TileReady, TilesReady, IndexesReady};
 
-use answer::{Laid, Refusal, Verdict};
+use answer::Refusal;
 use check_header::stages;
 use geometry::{sizes, tiles};
 use header::{entries, fields};
@@ -45,9 +44,8 @@ fn is_ascending(indexes: &[u32], n: u64) -> bool
     ensures { result ≡ ascending n 0 indexes.now }
 {
     let mut least: u64 = 0;
-    let mut i = 0;
-    while i < indexes.len() {
-        let x = indexes[i] as u64;
+    for index in indexes {
+        let x = *index as u64;
         if x < least {
             return false;
         }
@@ -55,14 +53,13 @@ fn is_ascending(indexes: &[u32], n: u64) -> bool
             return false;
         }
         least = x + 1;
-        i += 1;
     }
     true
 }
 
 // Refusal 12's rules.
 fn input_right(front: &[u8], time: u64, indexes: &[u32], cells: &[u8]) -> bool
-    requires { check_front front.now ≡ Accepted }
+    requires { check_front front.now ≡ Ok tt }
     ensures { result ≡ input_right front.now time indexes.now cells.now }
 {
     if time == 0 {
@@ -81,30 +78,42 @@ fn input_right(front: &[u8], time: u64, indexes: &[u32], cells: &[u8]) -> bool
 
 // The uncompressed bytes of each element of a tile.
 fn element_sizes(front: &[u8], sizes: &mut [u32])
-    requires { (check_front front.now ≡ Accepted) × (length sizes.old ≡ most_elements) }
+    requires { (check_front front.now ≡ Ok tt) × (length sizes.old ≡ most_elements) }
     ensures { SizesOf front.now sizes.new }
 {
     tile_sizes::element_sizes(front, sizes);
 }
 
 // What is judged behind the front: 12, then 4, then 13.
-fn input_verdict(front: &[u8], time: u64, indexes: &[u32], cells: &[u8], room: usize) -> Verdict
-    requires { check_front front.now ≡ Accepted }
+fn input_verdict(
+    front: &[u8],
+    time: u64,
+    indexes: &[u32],
+    cells: &[u8],
+    room: usize,
+) -> Result<(), Refusal>
+    requires { check_front front.now ≡ Ok tt }
     ensures { result ≡ input_verdict front.now time indexes.now cells.now room }
 {
     if input_right(front, time, indexes, cells) {
         return page::length_verdict(front, indexes, room);
     }
-    Verdict::Refused(Refusal::Input)
+    Err(Refusal::Input)
 }
 
 // Whether a lay-down is refused, into a buffer of so many bytes.
-fn lay_down_verdict(front: &[u8], time: u64, indexes: &[u32], cells: &[u8], room: usize) -> Verdict
+fn lay_down_verdict(
+    front: &[u8],
+    time: u64,
+    indexes: &[u32],
+    cells: &[u8],
+    room: usize,
+) -> Result<(), Refusal>
     ensures { result ≡ lay_down_verdict front.now time indexes.now cells.now room }
 {
     match stages::check_front(front) {
-        Verdict::Refused(r) => Verdict::Refused(r),
-        Verdict::Accepted => input_verdict(front, time, indexes, cells, room),
+        Err(r) => Err(r),
+        Ok(()) => input_verdict(front, time, indexes, cells, room),
     }
 }
 
@@ -117,13 +126,11 @@ fn put_sections(out: &mut [u8], at: usize, front: &[u8], sizes: &[u32], cells: &
     let n = entries::entries_read(front);
     let mut p = at;
     let mut from = 0;
-    let mut e = 0;
-    while e < n {
+    for e in 0..n {
         let u = sizes[e];
         pieces::put_section(out, p, wire::part_of(cells, from, u as usize));
         p += sizes::stored_size(u) as usize;
         from += u as usize;
-        e += 1;
     }
     p
 }
@@ -156,26 +163,24 @@ fn put_tiles(out: &mut [u8], n: usize, front: &[u8], sizes: &[u32], indexes: &[u
     let tile = sizes::tile_bytes(front) as usize;
     let mut at = front.len();
     let mut from = 0;
-    let mut k = 0;
-    while k < indexes.len() {
+    for index in indexes {
         put_tile(
             out,
             at,
             n,
             front,
             sizes,
-            indexes[k],
+            *index,
             wire::part_of(cells, from, tile),
         );
         at += n;
         from += tile;
-        k += 1;
     }
 }
 
 // The whole file.
 fn put_page(front: &[u8], time: u64, indexes: &[u32], cells: &[u8], file: &mut [u8])
-    requires { lay_down_verdict front.now time indexes.now cells.now (length file.old) ≡ Accepted }
+    requires { lay_down_verdict front.now time indexes.now cells.now (length file.old) ≡ Ok tt }
     ensures { file.new ≡ put file.old 0 (laid_file front.now time indexes.now cells.now) }
 {
     let mut sizes = [0u32; entries::MOST_ELEMENTS as usize];
@@ -189,16 +194,22 @@ fn put_page(front: &[u8], time: u64, indexes: &[u32], cells: &[u8], file: &mut [
 
 // Lays a page down: a front, the time modified, tile indexes, and the cell bytes of those tiles one after another, all elements in
 // order, no lengths, no padding.
-pub fn lay_down(front: &[u8], time: u64, indexes: &[u32], cells: &[u8], file: &mut [u8]) -> Laid
+pub fn lay_down(
+    front: &[u8],
+    time: u64,
+    indexes: &[u32],
+    cells: &[u8],
+    file: &mut [u8],
+) -> Result<usize, Refusal>
     ensures answer { result ≡ laid front.now time indexes.now cells.now (length file.old) }
     ensures buffer { file.new ≡ laid_out front.now time indexes.now cells.now file.old }
 {
     let room = file.len();
     match lay_down_verdict(front, time, indexes, cells, room) {
-        Verdict::Refused(r) => Laid::Refused(r),
-        Verdict::Accepted => {
+        Err(r) => Err(r),
+        Ok(()) => {
             put_page(front, time, indexes, cells, file);
-            Laid::Length(page::file_length(front, indexes.len()))
+            Ok(page::file_length(front, indexes.len()))
         }
     }
 }

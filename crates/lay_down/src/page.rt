@@ -3,20 +3,19 @@
 //
 // The references of all tiles are set to zero, then that of each tile given is written at its index. The time grows with the number
 // of tiles plus the number of indexes; looking each tile up among the indexes would take their product.
-ghost use Rattle.std.specs.Prelude.{◌≡◌, ◌+◌, ◌*◌, ◌≤◌, length};
+ghost use Rattle.std.specs.Prelude.{◌≡◌, ◌+◌, ◌*◌, ◌≤◌, length, Ok};
 ghost use Rattle.wire.specs.Bytes.{put};
 ghost use Rattle.geometry.specs.Tiles.{tile_count};
 ghost use Rattle.geometry.specs.Sizes.{plain_tile_length};
 ghost use Rattle.check_header.specs.Stages.{check_front};
 ghost use Rattle.check_header.specs.Ceilings.{most_tiles};
-ghost use Rattle.answer.specs.declared.Verdict.TheVariants.{Accepted};
 ghost use Rattle.written_records.specs.Pieces.{record_length};
 ghost use Rattle.lay_down.specs.Page.{references, directory_record, laid_front};
 ghost use Rattle.lay_down.specs.Answer.{length_verdict};
 ghost use Rattle.lay_down.specs.Ready.{IndexesReady};
 
 use crate::front;
-use answer::{Refusal, Verdict};
+use answer::Refusal;
 use check_header::ceilings;
 use geometry::{sizes, tiles};
 use header::fields;
@@ -28,7 +27,7 @@ const TILE_DIRECTORY: u8 = record::TILE_DIRECTORY as u8;
 
 // The length of a tile record whose elements are all uncompressed.
 pub(crate) fn tile_length(front: &[u8]) -> usize
-    requires { check_front front.now ≡ Accepted }
+    requires { check_front front.now ≡ Ok tt }
     ensures { result ≡ plain_tile_length front.now }
 {
     tile_sizes::plain_tile_length(front)
@@ -36,7 +35,7 @@ pub(crate) fn tile_length(front: &[u8]) -> usize
 
 // The length of the tile directory.
 fn directory_length(front: &[u8]) -> usize
-    requires { check_front front.now ≡ Accepted }
+    requires { check_front front.now ≡ Ok tt }
     ensures { result ≡ record_length (24 + 4 * tile_count front.now) }
 {
     let count = tiles::tile_count(front);
@@ -45,7 +44,7 @@ fn directory_length(front: &[u8]) -> usize
 
 // Where the tile directory starts, behind the records of k tiles.
 pub(crate) fn directory_start(front: &[u8], k: usize) -> usize
-    requires { (check_front front.now ≡ Accepted) × (k ≤ most_tiles) }
+    requires { (check_front front.now ≡ Ok tt) × (k ≤ most_tiles) }
     ensures { result ≡ length front.now + k * plain_tile_length front.now }
 {
     let n = tile_length(front);
@@ -54,30 +53,30 @@ pub(crate) fn directory_start(front: &[u8], k: usize) -> usize
 
 // The file's length.
 pub(crate) fn file_length(front: &[u8], k: usize) -> usize
-    requires { (check_front front.now ≡ Accepted) × (k ≤ most_tiles) }
+    requires { (check_front front.now ≡ Ok tt) × (k ≤ most_tiles) }
     ensures { result ≡ length front.now + k * plain_tile_length front.now + record_length (24 + 4 * tile_count front.now) }
 {
     directory_start(front, k) + directory_length(front)
 }
 
 // What is judged of the file's length: 4 if it passes its ceiling, then 13 exactly if the buffer is shorter.
-pub(crate) fn length_verdict(front: &[u8], indexes: &[u32], room: usize) -> Verdict
-    requires { (check_front front.now ≡ Accepted) × (length indexes.now ≤ most_tiles) }
+pub(crate) fn length_verdict(front: &[u8], indexes: &[u32], room: usize) -> Result<(), Refusal>
+    requires { (check_front front.now ≡ Ok tt) × (length indexes.now ≤ most_tiles) }
     ensures { result ≡ length_verdict front.now indexes.now room }
 {
     let n = file_length(front, indexes.len());
     if ceilings::MOST_FILE_BYTES < n {
-        return Verdict::Refused(Refusal::Ceiling);
+        return Err(Refusal::Ceiling);
     }
     if room < n {
-        return Verdict::Refused(Refusal::Room);
+        return Err(Refusal::Room);
     }
-    Verdict::Accepted
+    Ok(())
 }
 
 // The front, with its fields set and its checksum made anew.
 pub(crate) fn put_front(out: &mut [u8], front: &[u8], time: u64, directory: u64)
-    requires { (check_front front.now ≡ Accepted) × (length front.now ≤ length out.old) }
+    requires { (check_front front.now ≡ Ok tt) × (length front.now ≤ length out.old) }
     ensures { out.new ≡ put out.old 0 (laid_front front.now time directory) }
 {
     let flag = fields::checksum_enabled(front);
@@ -95,11 +94,9 @@ fn put_references(out: &mut [u8], at: usize, n: usize, front: &[u8], indexes: &[
     let count = tiles::tile_count(front) as usize;
     writing::put_zeros(out, at, 4 * count);
     let mut start = front.len();
-    let mut k = 0;
-    while k < indexes.len() {
-        directory::put_reference(out, at, indexes[k], start);
+    for index in indexes {
+        directory::put_reference(out, at, *index, start);
         start += n;
-        k += 1;
     }
 }
 

@@ -1,11 +1,10 @@
 // Moves a score sheet into a page (Req 13): a lay-down of the tiles that have a score. The tiles' bytes stand nowhere else: each score
 // goes from the sheet straight to its place in the file. Three passes over the sheet: whether it is right, which tiles are kept, and the
 // scores of those.
-ghost use Rattle.std.specs.Prelude.{◌≡◌, true, ◌+◌, ◌≤◌, ◌<◌, length, take, set};
+ghost use Rattle.std.specs.Prelude.{◌≡◌, true, ◌+◌, ◌≤◌, ◌<◌, length, take, set, Ok};
 ghost use Rattle.wire.specs.Pick.{pick};
 ghost use Rattle.wire.specs.Bytes.{put};
 ghost use Rattle.score_sheets.specs.Sheet.{sheet_right};
-ghost use Rattle.answer.specs.declared.Verdict.TheVariants.{Accepted};
 ghost use Rattle.answer.specs.Answers.{written};
 ghost use Rattle.record.specs.Chain.{joined};
 ghost use Rattle.geometry.specs.Tiles.{tile_count};
@@ -20,7 +19,7 @@ ghost use Rattle.lay_down.specs.Ready.{TilesReady};
 ghost use Rattle.lay_down.specs.Sheet.{score_element, front_fits, tile_top, tile_left, tile_unread, kept_tiles, tile_cells, sheet_cells, sheet_laid, sheet_file, ScoresReady};
 
 use crate::{TILE, page};
-use answer::{Laid, Refusal, Verdict};
+use answer::Refusal;
 use check_header::stages;
 use geometry::tiles;
 use header::{entries, fields};
@@ -67,7 +66,7 @@ struct Corner {
 }
 
 fn corner_of(front: &[u8], tile: u32) -> Corner
-    requires { (check_front front.now ≡ Accepted) × (tile < most_tiles) }
+    requires { (check_front front.now ≡ Ok tt) × (tile < most_tiles) }
     ensures row { result.row ≡ tile_top front.now tile }
     ensures column { result.column ≡ tile_left front.now tile }
 {
@@ -82,7 +81,7 @@ fn corner_of(front: &[u8], tile: u32) -> Corner
 
 // Whether each score of a tile is -1.
 fn tile_unread(front: &[u8], sheet: &[u8], tile: u32) -> bool
-    requires { (check_front front.now ≡ Accepted) × (tile < most_tiles) }
+    requires { (check_front front.now ≡ Ok tt) × (tile < most_tiles) }
     ensures { result ≡ tile_unread front.now sheet.now tile }
 {
     let a = corner_of(front, tile);
@@ -93,7 +92,7 @@ fn tile_unread(front: &[u8], sheet: &[u8], tile: u32) -> bool
 
 // A tile that has a score is kept, behind n others; how many those are then.
 fn keep_tile(front: &[u8], sheet: &[u8], tile: u32, n: usize, list: &mut [u32]) -> usize
-    requires { (check_front front.now ≡ Accepted) × ((tile < most_tiles) × (n < length list.old)) }
+    requires { (check_front front.now ≡ Ok tt) × ((tile < most_tiles) × (n < length list.old)) }
     ensures count { result ≡ pick (tile_unread front.now sheet.now tile) n (n + 1) }
     ensures list { list.new ≡ pick (tile_unread front.now sheet.now tile) list.old (set list.old n tile) }
 {
@@ -106,16 +105,14 @@ fn keep_tile(front: &[u8], sheet: &[u8], tile: u32, n: usize, list: &mut [u32]) 
 
 // The tiles that are kept, in the first places of a list of numbers; how many there are.
 fn kept_tiles(front: &[u8], sheet: &[u8], list: &mut [u32]) -> usize
-    requires { (check_front front.now ≡ Accepted) × (length list.old ≡ most_tiles) }
+    requires { (check_front front.now ≡ Ok tt) × (length list.old ≡ most_tiles) }
     ensures few { (result ≤ tile_count front.now) × (result ≤ length list.new) }
     ensures list { take result list.new ≡ kept_tiles front.now sheet.now }
 {
     let count = tiles::tile_count(front) as u32;
     let mut n = 0;
-    let mut tile = 0;
-    while tile < count {
+    for tile in 0..count {
         n = keep_tile(front, sheet, tile, n, list);
-        tile += 1;
     }
     n
 }
@@ -157,17 +154,15 @@ fn put_score_tiles(out: &mut [u8], n: usize, front: &[u8], sheet: &[u8], kept: &
     ensures { out.new ≡ put out.old (length front.now) (joined (tile_records front.now kept.now (sheet_cells front.now sheet.now))) }
 {
     let mut at = front.len();
-    let mut k = 0;
-    while k < kept.len() {
-        put_score_tile(out, at, n, front, sheet, kept[k]);
+    for tile in kept {
+        put_score_tile(out, at, n, front, sheet, *tile);
         at += n;
-        k += 1;
     }
 }
 
 // The whole file.
 fn put_sheet(front: &[u8], time: u64, sheet: &[u8], kept: &[u32], file: &mut [u8])
-    requires passes { lay_down_verdict front.now time kept.now (sheet_cells front.now sheet.now) (length file.old) ≡ Accepted }
+    requires passes { lay_down_verdict front.now time kept.now (sheet_cells front.now sheet.now) (length file.old) ≡ Ok tt }
     requires kept { (kept.now ≡ kept_tiles front.now sheet.now) × (score_element front.now ≡ true) }
     ensures { file.new ≡ put file.old 0 (laid_file front.now time kept.now (sheet_cells front.now sheet.now)) }
 {
@@ -179,8 +174,14 @@ fn put_sheet(front: &[u8], time: u64, sheet: &[u8], kept: &[u32], file: &mut [u8
 }
 
 // A sheet that is right, with a front that fits it. `list` has a place for each tile that a page may have.
-fn lay_kept(front: &[u8], time: u64, sheet: &[u8], list: &mut [u32], file: &mut [u8]) -> Laid
-    requires fits { (check_front front.now ≡ Accepted) × ((sheet_right sheet.now ≡ true) × (front_fits front.now sheet.now ≡ true)) }
+fn lay_kept(
+    front: &[u8],
+    time: u64,
+    sheet: &[u8],
+    list: &mut [u32],
+    file: &mut [u8],
+) -> Result<usize, Refusal>
+    requires fits { (check_front front.now ≡ Ok tt) × ((sheet_right sheet.now ≡ true) × (front_fits front.now sheet.now ≡ true)) }
     requires list { (1 ≤ time) × (length list.old ≡ most_tiles) }
     ensures answer { result ≡ sheet_laid front.now time sheet.now (length file.old) }
     ensures buffer { file.new ≡ written result (sheet_file front.now time sheet.now) file.old }
@@ -189,30 +190,30 @@ fn lay_kept(front: &[u8], time: u64, sheet: &[u8], list: &mut [u32], file: &mut 
     let kept = &list[..n];
     let room = file.len();
     match page::length_verdict(front, kept, room) {
-        Verdict::Refused(r) => Laid::Refused(r),
-        Verdict::Accepted => {
+        Err(r) => Err(r),
+        Ok(()) => {
             put_sheet(front, time, sheet, kept, file);
-            Laid::Length(page::file_length(front, kept.len()))
+            Ok(page::file_length(front, kept.len()))
         }
     }
 }
 
 // The same, with the list in this call's own memory; 12 if the time is zero.
-fn lay_right_sheet(front: &[u8], time: u64, sheet: &[u8], file: &mut [u8]) -> Laid
-    requires { (check_front front.now ≡ Accepted) × ((sheet_right sheet.now ≡ true) × (front_fits front.now sheet.now ≡ true)) }
+fn lay_right_sheet(front: &[u8], time: u64, sheet: &[u8], file: &mut [u8]) -> Result<usize, Refusal>
+    requires { (check_front front.now ≡ Ok tt) × ((sheet_right sheet.now ≡ true) × (front_fits front.now sheet.now ≡ true)) }
     ensures answer { result ≡ sheet_laid front.now time sheet.now (length file.old) }
     ensures buffer { file.new ≡ written result (sheet_file front.now time sheet.now) file.old }
 {
     if time == 0 {
-        return Laid::Refused(Refusal::Input);
+        return Err(Refusal::Input);
     }
     let mut list = [0u32; MOST_TILES];
     lay_kept(front, time, sheet, &mut list, file)
 }
 
 // A sheet, with a front that passes its own stages.
-fn lay_sheet(front: &[u8], time: u64, sheet: &[u8], file: &mut [u8]) -> Laid
-    requires { check_front front.now ≡ Accepted }
+fn lay_sheet(front: &[u8], time: u64, sheet: &[u8], file: &mut [u8]) -> Result<usize, Refusal>
+    requires { check_front front.now ≡ Ok tt }
     ensures answer { result ≡ sheet_laid front.now time sheet.now (length file.old) }
     ensures buffer { file.new ≡ written result (sheet_file front.now time sheet.now) file.old }
 {
@@ -220,18 +221,23 @@ fn lay_sheet(front: &[u8], time: u64, sheet: &[u8], file: &mut [u8]) -> Laid
         if front_fits(front, sheet) {
             return lay_right_sheet(front, time, sheet, file);
         }
-        return Laid::Refused(Refusal::Input);
+        return Err(Refusal::Input);
     }
-    Laid::Refused(Refusal::Input)
+    Err(Refusal::Input)
 }
 
 // Moves a sheet into a page with a front, at the time modified.
-pub fn lay_down_sheet(front: &[u8], time: u64, sheet: &[u8], file: &mut [u8]) -> Laid
+pub fn lay_down_sheet(
+    front: &[u8],
+    time: u64,
+    sheet: &[u8],
+    file: &mut [u8],
+) -> Result<usize, Refusal>
     ensures answer { result ≡ sheet_laid front.now time sheet.now (length file.old) }
     ensures buffer { file.new ≡ written result (sheet_file front.now time sheet.now) file.old }
 {
     match stages::check_front(front) {
-        Verdict::Refused(r) => Laid::Refused(r),
-        Verdict::Accepted => lay_sheet(front, time, sheet, file),
+        Err(r) => Err(r),
+        Ok(()) => lay_sheet(front, time, sheet, file),
     }
 }

@@ -1,4 +1,5 @@
 -- The indexes that tile records carry, by the directory. Assumes nothing.
+use Rattle.std.specs.Prelude.{Ok}
 use Prim.Native.Nat.{ℕ, ◌<◌}
 use mathlib.Core.Path.{◌≡◌, refl, sym, ap, ◌∙◌}
 use mathlib.Core.List.{List, [], ◌∷◌, Memᴰ}
@@ -7,7 +8,6 @@ use native.Mathlib.Omega.{arith}
 use borrow.Author.Tests.{eq-eqb}
 use Rattle.wire.specs.Tests.{◌≡?◌, passes}
 use Rattle.wire.proofs.TestLaws.{means, yes, no_true, iff}
-use Rattle.answer.specs.declared.Verdict.TheVariants.{Accepted}
 use Rattle.geometry.specs.Tiles.{tile_count}
 use Rattle.record.specs.Record.{content_at}
 use Rattle.record.specs.Chain.{records, records_of}
@@ -24,7 +24,7 @@ use Rattle.page_check.proofs.GivenLaws.{obeys_one}
 use Rattle.tile_routes.specs.Ways.{carries}
 use Rattle.listing.specs.Listing.{written, LineEach}
 
-module _ (s : List ℕ) (e : check s ≡ Accepted) (i : ℕ) where
+module _ (s : List ℕ) (e : check s ≡ Ok tt) (i : ℕ) where
   pub not_carried : tile_reference s i ≡ 0 → some (carries s i) (records s) ≡ false
   unfolding carries
   not_carried z =

@@ -1,4 +1,5 @@
 -- The lines of a listing, as they are put. Assumes nothing.
+use Rattle.std.specs.Prelude.{Ok}
 use Prim.Native.Nat.{ℕ, ◌+◌, ◌≤◌, ◌<◌}
 use mathlib.Core.Path.{◌≡◌, sym, ap, ◌∙◌}
 use mathlib.Core.List.{List, [], ◌∷◌, ◌++◌}
@@ -8,7 +9,6 @@ use lib.ListN.{length}
 use Rattle.wire.specs.Pick.{pick}
 use Rattle.wire.specs.Bytes.{put}
 use Rattle.wire.proofs.PutLaws.{length_put}
-use Rattle.answer.specs.declared.Verdict.TheVariants.{Accepted}
 use Rattle.geometry.specs.Tiles.{tile_count}
 use Rattle.wire.specs.Lists.{some}
 use Rattle.record.specs.Chain.{records}
@@ -59,7 +59,7 @@ elements_put d a l at n x r p u e =
 
 -- the line of an index
 
-module _ (s : List ℕ) (e : check s ≡ Accepted) (i x : ℕ) (q : x ≡ tile_reference s i) where
+module _ (s : List ℕ) (e : check s ≡ Ok tt) (i x : ℕ) (q : x ≡ tile_reference s i) where
   pub index_none : (d : List ℕ) (at : ℕ) → x ≡ 0 → Puts d at (pick (some (carries s i) (records s)) (decimal i ++ newline) []) at d
   index_none d at z = rw (not_carried s e i (sym q ∙ z)) puts_none
 

@@ -1,4 +1,5 @@
 -- The whole listing, as it is put. Assumes nothing.
+use Rattle.std.specs.Prelude.{Err, Ok, Result, ⊤}
 use Prim.Native.Nat.{ℕ, ◌≤◌, ◌<◌}
 use mathlib.Core.Path.{◌≡◌, sym, ap, ◌∙◌}
 use mathlib.Core.List.{List}
@@ -8,8 +9,6 @@ use borrow.Author.Tests.{le-leb, lt-leb}
 use Rattle.wire.specs.Bytes.{put}
 use Rattle.wire.proofs.PutLaws.{put_not}
 use Rattle.answer.specs.declared.Refusal.{Refusal}
-use Rattle.answer.specs.declared.Verdict.{Verdict}
-use Rattle.answer.specs.declared.Verdict.TheVariants.{Accepted, Refused}
 use Rattle.answer.specs.Refusals.{refusal_number, refusal_place}
 use Rattle.page_check.specs.Stages.{check}
 use Rattle.listing.specs.Text.{refused_word, at_word, too_long, line}
@@ -19,14 +18,14 @@ use Rattle.listing.proofs.LineLaws.{line_of}
 
 -- by the check's answer
 
-module _ (s : List ℕ) (v : Verdict) (e : v ≡ check s) {d l : List ℕ} {n : ℕ} where
+module _ (s : List ℕ) (v : Result ⊤ Refusal) (e : v ≡ check s) {d l : List ℕ} {n : ℕ} where
   pub refused_put :
-      (r : Refusal) → v ≡ Refused r → {x y : ℕ} → Puts d 0 (line refused_word x at_word y) n l → x ≡ refusal_number r → y ≡ refusal_place r →
+      (r : Refusal) → v ≡ Err r → {x y : ℕ} → Puts d 0 (line refused_word x at_word y) n l → x ≡ refusal_number r → y ≡ refusal_place r →
       Puts d 0 (listed_by (check s) s) n l
   unfolding listed_by
   refused_put r f p g h = rw (← e, f) (line_of refused_word at_word p g h)
 
-  pub accepted_put : v ≡ Accepted → Puts d 0 (listed s) n l → Puts d 0 (listed_by (check s) s) n l
+  pub accepted_put : v ≡ Ok tt → Puts d 0 (listed s) n l → Puts d 0 (listed_by (check s) s) n l
   unfolding listed_by
   accepted_put f p = rw (← e, f) p
 

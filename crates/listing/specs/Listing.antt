@@ -1,8 +1,7 @@
 -- Document 01, 'The listing': the text, as bytes.
-use Rattle.std.specs.Prelude.{ℕ, zero, suc, ◌≡◌, List, [], ◌++◌, length, leb}
+use Rattle.std.specs.Prelude.{ℕ, zero, suc, ◌≡◌, List, [], ◌++◌, length, leb, Err, Ok, Result, ⊤}
+use Rattle.answer.specs.declared.Refusal.{Refusal}
 use Rattle.wire.specs.Pick.{pick}
-use Rattle.answer.specs.declared.Verdict.{Verdict}
-use Rattle.answer.specs.declared.Verdict.TheVariants.{Accepted, Refused}
 use Rattle.answer.specs.Refusals.{refusal_number, refusal_place}
 use Rattle.header.specs.Fields.{grid_rows, grid_columns, tile_rows, tile_columns, element_count}
 use Rattle.geometry.specs.Tiles.{tile_count}
@@ -25,7 +24,7 @@ index_lines s (suc n) = index_lines s n ++ pick (some (carries s n) (records s))
 
 -- so an accepted file has a line for each tile record: as many indexes below the tile count have one as `written` says
 abbrev pub LineEach : Type 0
-LineEach = (s : List ℕ) → check s ≡ Accepted → count_below (tile_count s) (λ i. some (carries s i) (records s)) ≡ written s
+LineEach = (s : List ℕ) → check s ≡ Ok tt → count_below (tile_count s) (λ i. some (carries s i) (records s)) ≡ written s
 
 -- sides as rows then columns
 unfoldable pub listed : List ℕ → List ℕ
@@ -35,9 +34,9 @@ listed s =
     ++ index_lines s (tile_count s)
 
 -- a refusal is the single line `refused N at P`
-unfoldable pub listed_by : Verdict → List ℕ → List ℕ
-listed_by Accepted s = listed s
-listed_by (Refused r) s = line refused_word (refusal_number r) at_word (refusal_place r)
+unfoldable pub listed_by : Result ⊤ Refusal → List ℕ → List ℕ
+listed_by (Ok accepted) s = listed s
+listed_by (Err r) s = line refused_word (refusal_number r) at_word (refusal_place r)
 
 -- the most bytes of a file that is listed
 abbrev pub most_listed : ℕ

@@ -1,7 +1,6 @@
 -- Document 01's examples, byte by byte.
-use Rattle.std.specs.Prelude.{ℕ, ◌≤◌, ◌<◌, ◌≡◌, List, [], ◌∷◌, ◌++◌, length}
+use Rattle.std.specs.Prelude.{ℕ, ◌≤◌, ◌<◌, ◌≡◌, List, [], ◌∷◌, ◌++◌, length, Err}
 use Rattle.answer.specs.declared.Refusal.TheVariants.{Version}
-use Rattle.answer.specs.declared.Verdict.TheVariants.{Refused}
 use Rattle.page_check.specs.Stages.{check}
 use Rattle.sample_page.specs.Page.{file}
 use Rattle.listing.specs.Listing.{listing, most_listed}
@@ -27,5 +26,5 @@ pub record SampleListed : Type 0 where
   -- the sample page, a 3 by 3 grid with 2 by 2 tiles, one element, tile 2 alone stored
   pub page : listing file ≡ page_text
   -- any file with a wrong version, and any that is too long
-  pub version : (s : List ℕ) → length s ≤ most_listed → check s ≡ Refused Version → listing s ≡ version_text
+  pub version : (s : List ℕ) → length s ≤ most_listed → check s ≡ Err Version → listing s ≡ version_text
   pub long : (s : List ℕ) → most_listed < length s → listing s ≡ long_text

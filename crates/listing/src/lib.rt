@@ -12,10 +12,9 @@
 
 pub mod numbers;
 
-ghost use Rattle.std.specs.Prelude.{◌≡◌, [], ◌++◌, ◌+◌, ◌≤◌, ◌<◌, ◌*◌, length};
+ghost use Rattle.std.specs.Prelude.{◌≡◌, [], ◌++◌, ◌+◌, ◌≤◌, ◌<◌, ◌*◌, length, Ok};
 ghost use Rattle.wire.specs.Pick.{pick};
 ghost use Rattle.wire.specs.Bytes.{put};
-ghost use Rattle.answer.specs.declared.Verdict.TheVariants.{Accepted};
 ghost use Rattle.header.specs.Fields.{grid_rows, grid_columns, tile_rows, tile_columns, element_count};
 ghost use Rattle.geometry.specs.Tiles.{tile_count};
 ghost use Rattle.wire.specs.Lists.{some};
@@ -26,7 +25,7 @@ ghost use Rattle.listing.specs.Text.{decimal, space, newline, grid_word, tile_wo
 ghost use Rattle.listing.specs.Listing.{written, index_lines, listed, listed_by, listing};
 ghost use Rattle.listing.specs.Puts.{Puts, most_line, most_text};
 
-use answer::Verdict;
+use answer::Refusal;
 use bodies::tile_directory;
 use geometry::tiles;
 use header::fields;
@@ -97,7 +96,7 @@ fn put_written(out: &mut [u8], at: usize, s: &[u8]) -> usize
 
 // The line of an index, where a tile record carries it.
 fn put_index(out: &mut [u8], at: usize, s: &[u8], i: u32) -> usize
-    requires { (check s.now ≡ Accepted) × ((i < tile_count s.now) × (at ≤ most_text)) }
+    requires { (check s.now ≡ Ok tt) × ((i < tile_count s.now) × (at ≤ most_text)) }
     ensures text { Puts out.old at (pick (some (carries s.now i) (records s.now)) (decimal i ++ newline) []) result out.new }
     ensures few { result ≤ at + 21 }
 {
@@ -109,7 +108,7 @@ fn put_index(out: &mut [u8], at: usize, s: &[u8], i: u32) -> usize
 
 // The lines of all indexes, in their order.
 fn put_indexes(out: &mut [u8], at: usize, s: &[u8]) -> usize
-    requires { (check s.now ≡ Accepted) × (at ≤ 4 * most_line) }
+    requires { (check s.now ≡ Ok tt) × (at ≤ 4 * most_line) }
     ensures { Puts out.old at (index_lines s.now (tile_count s.now)) result out.new }
 {
     let n = tiles::tile_count(s) as u32;
@@ -124,7 +123,7 @@ fn put_indexes(out: &mut [u8], at: usize, s: &[u8]) -> usize
 
 // The lines of an accepted file.
 fn put_listed(out: &mut [u8], s: &[u8]) -> usize
-    requires { check s.now ≡ Accepted }
+    requires { check s.now ≡ Ok tt }
     ensures { Puts out.old 0 (listed s.now) result out.new }
 {
     let sides = put_sides(out, s);
@@ -134,17 +133,17 @@ fn put_listed(out: &mut [u8], s: &[u8]) -> usize
 }
 
 // What a check's answer gives.
-fn put_verdict(out: &mut [u8], s: &[u8], v: Verdict) -> usize
+fn put_verdict(out: &mut [u8], s: &[u8], v: Result<(), Refusal>) -> usize
     requires { v ≡ check s.now }
     ensures { Puts out.old 0 (listed_by (check s.now) s.now) result out.new }
 {
     match v {
-        Verdict::Refused(r) => {
+        Err(r) => {
             let number = answer::refusal_number(r) as u64;
             let place = answer::refusal_place(r) as u64;
             put_line(out, 0, b"refused ", number, b" at ", place)
         }
-        Verdict::Accepted => put_listed(out, s),
+        Ok(()) => put_listed(out, s),
     }
 }
 

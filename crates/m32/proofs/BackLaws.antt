@@ -13,14 +13,13 @@ use lib.Seq.{get_or-append-add, drop-append_seam}
 use lib.Dec.{leb}
 use borrow.Author.Tests.{leb-true, leb-false, le-leb, lt-leb, ne_eqb}
 use Rattle.wire.specs.Pick.{pick}
-use Rattle.m32.specs.M32.{bases, signed, begun, first_step, Next, byte, bytes_next, in_front, read_code, read_codes, absolute, reached, continued, sevens, payload, wide, code_of, codes}
+use Rattle.m32.specs.M32.{bases, signed, begun, first_step, Next, found, byte, bytes_next, in_front, read_code, read_codes, absolute, reached, continued, sevens, payload, wide, code_of, codes}
 use Rattle.m32.specs.Back.{Words, Gives, NumberBack, ComesBack, ReadBack, NoShare}
 use Rattle.m32.specs.declared.Partial.{Partial}
 use Rattle.m32.specs.declared.Step.{Step}
 use Rattle.m32.specs.declared.Step.TheVariants.{Number, More}
+use Rattle.std.specs.Prelude.{Option, Some, None}
 use Rattle.m32.specs.declared.Found.{Found}
-use Rattle.m32.specs.declared.Found.TheVariants.{Nothing}
-use Rattle.m32.specs.declared.Found.TheVariants as found
 use Rattle.m32.proofs.StepLaws.{go_on_lem, end_at, more_step, last_step, outcome, is_number, asks, begins, begins_not, next_byte, next_end}
 use Rattle.m32.proofs.CodeLaws.{plus, minus, code_small, code_lowest, code_plus, code_minus, sevens_length, wide_length}
 
@@ -60,7 +59,7 @@ module _ (next : ℕ → Next) (n : Bool) where
 
   last_byte_lem :
       (k v d a b : ℕ) → k ≤ 4 → d < 128 → v * 128 + d + get_or bases k 0 ≤ 2147483647 → next a ≡ byte d b →
-      outcome next (More (part n k v)) a ≡ found.Number (signed n (v * 128 + d + get_or bases k 0)) b
+      outcome next (More (part n k v)) a ≡ found (signed n (v * 128 + d + get_or bases k 0)) b
   last_byte_lem k v d a b h i j g =
       asks next (part n k v) a d b g
       ∙ ap (λ (t : Step). outcome next t b) (last_step (part n k v) d i ∙ end_at (part n k v) (v * 128 + d) h j)
@@ -84,7 +83,7 @@ module _ (next : ℕ → Next) (n : Bool) where
 
   read_payload :
       (k v : ℕ) (at : ℕ → ℕ) → k ≤ 4 → v < 128 ^ suc k → v + get_or bases k 0 ≤ 2147483647 → Gives next at (payload k v) →
-      outcome next (More (begun n)) (at 0) ≡ found.Number (signed n (v + get_or bases k 0)) (at (k + 1))
+      outcome next (More (begun n)) (at 0) ≡ found (signed n (v + get_or bases k 0)) (at (k + 1))
   unfolding payload
   read_payload k v at h i j g =
       let p : 128 ^ suc k ≡ 128 ^ k * 128 = pow-suc 128 k in
@@ -134,7 +133,7 @@ base_reached m k b e f h l = rw (f, e) (range m h l).reaches
 
 wide_back :
     (next : ℕ → Next) (n : Bool) (m : ℕ) (at : ℕ → ℕ) → 127 ≤ m → m ≤ 2147483647 → Gives next at (wide m) →
-    outcome next (More (begun n)) (at 0) ≡ found.Number (signed n m) (at (length (wide m)))
+    outcome next (More (begun n)) (at 0) ≡ found (signed n m) (at (length (wide m)))
 unfolding wide
 wide_back next n m at h k g =
     let r : Range bases m 0 (continued m) = range m h (omega arith) in
@@ -157,14 +156,14 @@ small_step x h k =
 
 module _ (next : ℕ → Next) (at : ℕ → ℕ) (x : ℕ) where
   -- a code of one byte, and one of a magnitude
-  single : (y : ℕ) → code_of x ≡ y ∷ [] → first_step y ≡ Number x → Gives next at (code_of x) → read_code next (at 0) ≡ found.Number x (at (length (code_of x)))
+  single : (y : ℕ) → code_of x ≡ y ∷ [] → first_step y ≡ Number x → Gives next at (code_of x) → read_code next (at 0) ≡ found x (at (length (code_of x)))
   single y e f g =
       rw e
       (begins next (at 0) y (at 1) (gives_head (rw e at g)) ∙ ap (λ (t : Step). outcome next t (at 1)) f ∙ is_number next x (at 1))
 
   several :
       (y : ℕ) (n : Bool) (m : ℕ) → code_of x ≡ y ∷ wide m → first_step y ≡ More (begun n) → 127 ≤ m → m ≤ 2147483647 → signed n m ≡ x →
-      Gives next at (code_of x) → read_code next (at 0) ≡ found.Number x (at (length (code_of x)))
+      Gives next at (code_of x) → read_code next (at 0) ≡ found x (at (length (code_of x)))
   several y n m e f h k s g =
       let l : 1 + length (wide m) ≡ suc (length (wide m)) = omega arith in
       rw e
@@ -198,7 +197,7 @@ pub words_tail : {x : ℕ} {xs : List ℕ} → Words (x ∷ xs) → Words xs
 words_tail w = record { small = λ i. w.small (suc i) }
 
 pub read_more :
-    (next : ℕ → Next) (n x at q : ℕ) → read_code next at ≡ found.Number x q → read_codes next (suc n) at ≡ in_front x (read_codes next n q)
+    (next : ℕ → Next) (n x at q : ℕ) → read_code next at ≡ found x q → read_codes next (suc n) at ≡ in_front x (read_codes next n q)
 unfolding read_codes
 read_more next n x at q e = rw e
 
@@ -219,22 +218,22 @@ gives_list xs ys = gives_first xs ys (record { each = λ i h. next_byte (xs ++ y
 pub read_back : ReadBack
 read_back xs rest w = comes_back (bytes_next (codes xs ++ rest)) (λ i. i) xs w (gives_list (codes xs) rest)
 
-front_back : (x : ℕ) (ys : List ℕ) → x < 4294967296 → read_code (bytes_next (code_of x ++ ys)) 0 ≡ found.Number x (length (code_of x))
+front_back : (x : ℕ) (ys : List ℕ) → x < 4294967296 → read_code (bytes_next (code_of x ++ ys)) 0 ≡ found x (length (code_of x))
 front_back x ys h = number_back (bytes_next (code_of x ++ ys)) (λ i. i) x h (gives_list (code_of x) ys)
 
-abbrev is_found : Found → ℕ
-is_found (found.Number x q) = 1
-is_found Nothing = 0
+abbrev is_found : Option Found → ℕ
+is_found (Some f) = 1
+is_found None = 0
 
-abbrev value_of : Found → ℕ
-value_of (found.Number x q) = x
-value_of Nothing = 0
+abbrev value_of : Option Found → ℕ
+value_of (Some f) = f.x
+value_of None = 0
 
 -- no bytes are not the codes of something
 nothing : (y : ℕ) (ys : List ℕ) → y < 4294967296 → [] ≡ codes (y ∷ ys) → ⊥
 unfolding codes
 nothing y ys h e =
-    let q : Nothing ≡ found.Number y (length (code_of y)) =
+    let q : None ≡ found y (length (code_of y)) =
     sym (begins_not (bytes_next []) 0 (next_end [] 0 (omega arith))) ∙ ap (λ (s : List ℕ). read_code (bytes_next s) 0) e ∙ front_back y (codes ys) h in
     let z : ◌≡◌ {A = ℕ} 0 1 = ap is_found q in omega arith
 

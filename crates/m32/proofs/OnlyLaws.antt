@@ -12,14 +12,13 @@ use lib.ListN.{length, get_or, take, drop}
 use lib.Seq.{drop-cons}
 use borrow.Author.Tests.{le-leb, lt-leb, ne_eqb}
 use Rattle.wire.specs.Bytes.{Bytes}
-use Rattle.m32.specs.M32.{bases, signed, begun, first_step, go_on, ended, Next, byte, end, bytes_next, Numbers, read_code, read_codes, reached, continued, sevens, payload, wide, code_of, codes}
+use Rattle.m32.specs.M32.{bases, signed, begun, first_step, go_on, ended, Next, found, byte, end, bytes_next, Numbers, read_code, read_codes, reached, continued, sevens, payload, wide, code_of, codes}
 use Rattle.m32.specs.Back.{Words, OnlyBytes, Stands, OneCode, CodesAlone, TakenBytes}
 use Rattle.m32.specs.declared.Partial.{Partial}
 use Rattle.m32.specs.declared.Step.{Step}
 use Rattle.m32.specs.declared.Step.TheVariants.{Number, More}
+use Rattle.std.specs.Prelude.{Option, Some, None}
 use Rattle.m32.specs.declared.Found.{Found}
-use Rattle.m32.specs.declared.Found.TheVariants.{Nothing}
-use Rattle.m32.specs.declared.Found.TheVariants as found
 use Rattle.m32.proofs.StepLaws.{base_least, go_on_lem, go_not, end_at, end_not, more_step, last_step, outcome, is_number, is_bad, asks, lacks, begins, begins_not, next_byte, next_end}
 use Rattle.m32.proofs.CodeLaws.{plus, minus, code_small, code_lowest, code_plus, code_minus}
 use Rattle.m32.proofs.BackLaws.{number_back}
@@ -64,19 +63,19 @@ module _ (next : ℕ → Next) where
 
 -- what a code comes to
 
-abbrev is_found : Found → ℕ
-is_found (found.Number x q) = 1
-is_found Nothing = 0
+abbrev is_found : Option Found → ℕ
+is_found (Some f) = 1
+is_found None = 0
 
-abbrev value_of : Found → ℕ
-value_of (found.Number x q) = x
-value_of Nothing = 0
+abbrev value_of : Option Found → ℕ
+value_of (Some f) = f.x
+value_of None = 0
 
-abbrev place_of : Found → ℕ
-place_of (found.Number x q) = q
-place_of Nothing = 0
+abbrev place_of : Option Found → ℕ
+place_of (Some f) = f.at
+place_of None = 0
 
-none : {x q : ℕ} → Nothing ≡ found.Number x q → ⊥
+none : {x q : ℕ} → None ≡ found x q → ⊥
 none e = let z : ◌≡◌ {A = ℕ} 0 1 = ap is_found e in omega arith
 
 -- how many bytes of a magnitude are followed by another, by what they hold above their base
@@ -123,12 +122,12 @@ module _ (next : ℕ → Next) (n : Bool) (p x q : ℕ) where
   -- k bytes of it are read, which hold v, and the next is its last
   last_read :
       (k v a y b : ℕ) → k ≤ 4 → v < 128 ^ k → Walk next p (sevens k v) a → next a ≡ byte y b → y < 128 →
-      outcome next (More (part n k v)) a ≡ found.Number x q → Magnitude next n p x q
+      outcome next (More (part n k v)) a ≡ found x q → Magnitude next n p x q
   unfolding payload
   last_read k v a y b h i w f l e =
       by_cases (dec_le (v * 128 + y + get_or bases k 0) 2147483647)
       (λ u.
-      let z : found.Number (signed n (v * 128 + y + get_or bases k 0)) b ≡ found.Number x q =
+      let z : found (signed n (v * 128 + y + get_or bases k 0)) b ≡ found x q =
       sym (is_number next _ b) ∙ ap (λ (t : Step). outcome next t b) (sym (end_at (part n k v) (v * 128 + y) h u)) ∙ s in
       let o : b ≡ q = ap place_of z in
       record {
@@ -140,7 +139,7 @@ module _ (next : ℕ → Next) (n : Bool) (p x q : ℕ) where
       })
       (λ u. absurd (none (sym (is_bad next b) ∙ ap (λ (t : Step). outcome next t b) (sym (end_not (part n k v) (v * 128 + y) (λ c g. u g))) ∙ s)))
     where
-      s : outcome next (ended (part n k v) (v * 128 + y)) b ≡ found.Number x q
+      s : outcome next (ended (part n k v) (v * 128 + y)) b ≡ found x q
       s = ap (λ (t : Step). outcome next t b) (sym (last_step (part n k v) y l)) ∙ sym (asks next (part n k v) a y b f) ∙ e
 
       pw : 128 ^ suc k ≡ 128 ^ k * 128
@@ -155,9 +154,9 @@ module _ (next : ℕ → Next) (n : Bool) (p x q : ℕ) where
   -- or another follows it
   more_read :
       (k v a y b : ℕ) → next a ≡ byte y b → 128 ≤ y → y < 256 → v < 128 ^ k → Walk next p (sevens k v) a →
-      outcome next (More (part n k v)) a ≡ found.Number x q →
+      outcome next (More (part n k v)) a ≡ found x q →
       (k ≤ 3) × ((v * 128 + (y - 128) < 128 ^ suc k)
-      × (Walk next p (sevens (suc k) (v * 128 + (y - 128))) b × (outcome next (More (part n (suc k) (v * 128 + (y - 128)))) b ≡ found.Number x q)))
+      × (Walk next p (sevens (suc k) (v * 128 + (y - 128))) b × (outcome next (More (part n (suc k) (v * 128 + (y - 128)))) b ≡ found x q)))
   unfolding sevens
   more_read k v a y b f l h i w e =
       by_cases (dec_le k 3)
@@ -176,7 +175,7 @@ module _ (next : ℕ → Next) (n : Bool) (p x q : ℕ) where
       (λ u. absurd (bad (λ i j. u j))))
       (λ c. absurd (bad (λ i j. c i)))
     where
-      s : outcome next (go_on (part n k v) (v * 128 + (y - 128))) b ≡ found.Number x q
+      s : outcome next (go_on (part n k v) (v * 128 + (y - 128))) b ≡ found x q
       s = ap (λ (t : Step). outcome next t b) (sym (more_step (part n k v) y l)) ∙ sym (asks next (part n k v) a y b f) ∙ e
 
       bad : (k ≤ 3 → v * 128 + (y - 128) ≤ 2147483647 → ⊥) → ⊥
@@ -193,7 +192,7 @@ module _ (next : ℕ → Next) (n : Bool) (p x q : ℕ) where
 
   module _ (oct : OnlyBytes next) where
     reads :
-        (j k v a : ℕ) → j + k ≡ 4 → v < 128 ^ k → Walk next p (sevens k v) a → outcome next (More (part n k v)) a ≡ found.Number x q →
+        (j k v a : ℕ) → j + k ≡ 4 → v < 128 ^ k → Walk next p (sevens k v) a → outcome next (More (part n k v)) a ≡ found x q →
         Magnitude next n p x q
     reads zero k v a h i w e = go (next a) refl
       where
@@ -206,7 +205,7 @@ module _ (next : ℕ → Next) (n : Bool) (p x q : ℕ) where
       where
         go :
             (z : Next) → next a ≡ z →
-            ((u b : ℕ) → j + suc k ≡ 4 → u < 128 ^ suc k → Walk next p (sevens (suc k) u) b → outcome next (More (part n (suc k) u)) b ≡ found.Number x q →
+            ((u b : ℕ) → j + suc k ≡ 4 → u < 128 ^ suc k → Walk next p (sevens (suc k) u) b → outcome next (More (part n (suc k) u)) b ≡ found x q →
             Magnitude next n p x q) →
             Magnitude next n p x q
         go end f g = absurd (none (sym (lacks next (part n k v) a f) ∙ e))
@@ -217,14 +216,14 @@ module _ (next : ℕ → Next) (n : Bool) (p x q : ℕ) where
 
 -- a code
 
-module _ (next : ℕ → Next) (oct : OnlyBytes next) (p x q : ℕ) (e : read_code next p ≡ found.Number x q) where
+module _ (next : ℕ → Next) (oct : OnlyBytes next) (p x q : ℕ) (e : read_code next p ≡ found x q) where
   abbrev Only : Type 0
   Only = (x < 4294967296) × Walk next p (code_of x) q
 
   -- of one byte
   only_one : (y b z : ℕ) → next p ≡ byte y b → first_step y ≡ Number z → z < 4294967296 → code_of z ≡ y ∷ [] → Only
   only_one y b z f g h c =
-      let r : found.Number z b ≡ found.Number x q =
+      let r : found z b ≡ found x q =
       sym (is_number next z b) ∙ ap (λ (t : Step). outcome next t b) (sym g) ∙ sym (begins next p y b f) ∙ e in
       let i : z ≡ x = ap value_of r in
       (omega arith, rw (← i, c) (b, (f, ap place_of r)))
@@ -292,7 +291,7 @@ record Run (next : ℕ → Next) (n p : ℕ) (r : Numbers) : Type 0 where
   words : Words r.numbers
   walk : Walk next p (codes r.numbers) r.behind
   few : length r.numbers ≤ n
-  no_more_lem : length r.numbers < n → read_code next r.behind ≡ Nothing
+  no_more_lem : length r.numbers < n → read_code next r.behind ≡ None
 
 module _ (next : ℕ → Next) (oct : OnlyBytes next) where
   runs : (n p : ℕ) → Run next n p (read_codes next n p)
@@ -300,21 +299,21 @@ module _ (next : ℕ → Next) (oct : OnlyBytes next) where
   runs zero p = record { words = record { small = λ i. omega arith }; walk = refl; few = omega arith; no_more_lem = λ h. absurd (omega arith) }
   runs (suc n) p = go (read_code next p) refl (runs n)
     where
-      go : (z : Found) → read_code next p ≡ z → ((q : ℕ) → Run next n q (read_codes next n q)) → Run next (suc n) p (read_codes next (suc n) p)
-      go Nothing e f =
+      go : (z : Option Found) → read_code next p ≡ z → ((q : ℕ) → Run next n q (read_codes next n q)) → Run next (suc n) p (read_codes next (suc n) p)
+      go None e f =
           rw e (record { words = record { small = λ i. omega arith }; walk = refl; few = omega arith; no_more_lem = λ h. e })
-      go (found.Number x q) e f =
-          let r = f q in
-          let o = only next oct p x q e in
+      go (Some a) e f =
+          let r = f a.at in
+          let o = only next oct p a.x a.at e in
           rw e
           (record {
             words = record { small = each o.0 r.words };
-            walk = joined next (code_of x) (codes (read_codes next n q).numbers) p q (read_codes next n q).behind o.1 r.walk;
+            walk = joined next (code_of a.x) (codes (read_codes next n a.at).numbers) p a.at (read_codes next n a.at).behind o.1 r.walk;
             few = omega (arith, r.few);
             no_more_lem = λ h. r.no_more_lem (omega arith);
           })
         where
-          each : x < 4294967296 → Words (read_codes next n q).numbers → (i : ℕ) → get_or (x ∷ (read_codes next n q).numbers) i 0 < 4294967296
+          each : a.x < 4294967296 → Words (read_codes next n a.at).numbers → (i : ℕ) → get_or (a.x ∷ (read_codes next n a.at).numbers) i 0 < 4294967296
           each h w zero = h
           each h w (suc i) = w.small i
 

@@ -13,13 +13,12 @@ use Rattle.wire.specs.Pick.{pick}
 use Rattle.wire.specs.Tests.{◌≤?◌, passes}
 use Rattle.wire.specs.Bytes.{largest_integer}
 use Rattle.wire.proofs.TestLaws.{yes, no}
-use Rattle.m32.specs.M32.{bases, signed, lowest, begun, first_step, go_on, ended, further_step, Next, byte, end, bytes_next, after, settle, magnitude, read_code}
+use Rattle.m32.specs.M32.{bases, signed, lowest, begun, first_step, go_on, ended, further_step, Next, found, byte, end, bytes_next, after, settle, magnitude, read_code}
 use Rattle.m32.specs.declared.Partial.{Partial}
 use Rattle.m32.specs.declared.Step.{Step}
 use Rattle.m32.specs.declared.Step.TheVariants.{Number, More, Bad}
+use Rattle.std.specs.Prelude.{Option, None}
 use Rattle.m32.specs.declared.Found.{Found}
-use Rattle.m32.specs.declared.Found.TheVariants.{Nothing}
-use Rattle.m32.specs.declared.Found.TheVariants as found
 
 -- how many bytes more a step may ask for
 abbrev room : Step → ℕ
@@ -131,16 +130,16 @@ module _ (p : Partial) where
       go false = end_not (p.sum * 128 + y) (λ i j. omega arith)
 
 module _ (next : ℕ → Next) where
-  over : (k : ℕ) (p : Partial) (at : ℕ) → 5 ≤ p.digits → magnitude next k p at ≡ Nothing
+  over : (k : ℕ) (p : Partial) (at : ℕ) → 5 ≤ p.digits → magnitude next k p at ≡ None
   unfolding magnitude
   over zero p at h = refl
   over (suc k) p at h = go (next at)
     where
-      go : (x : Next) → after x (λ y q. settle (further_step p y) q (λ r. magnitude next k r q)) ≡ Nothing
+      go : (x : Next) → after x (λ y q. settle (further_step p y) q (λ r. magnitude next k r q)) ≡ None
       go (byte y q) = rw (full p y h)
       go end = refl
 
-  same : (t : Step) (at : ℕ) (f g : Partial → Found) → ((p : Partial) → t ≡ More p → f p ≡ g p) → settle t at f ≡ settle t at g
+  same : (t : Step) (at : ℕ) (f g : Partial → Option Found) → ((p : Partial) → t ≡ More p → f p ≡ g p) → settle t at f ≡ settle t at g
   same (Number x) at f g h = refl
   same (More p) at f g h = h p refl
   same Bad at f g h = refl
@@ -161,14 +160,14 @@ module _ (next : ℕ → Next) where
       go end f = refl
 
   -- what a step comes to at a position
-  unfoldable pub outcome : Step → ℕ → Found
+  unfoldable pub outcome : Step → ℕ → Option Found
   outcome t at = settle t at (λ p. magnitude next (5 - p.digits) p at)
 
-  pub is_number : (x at : ℕ) → outcome (Number x) at ≡ found.Number x at
+  pub is_number : (x at : ℕ) → outcome (Number x) at ≡ found x at
   unfolding outcome
   is_number x at = refl
 
-  pub is_bad : (at : ℕ) → outcome Bad at ≡ Nothing
+  pub is_bad : (at : ℕ) → outcome Bad at ≡ None
   unfolding outcome
   is_bad at = refl
 
@@ -176,7 +175,7 @@ module _ (next : ℕ → Next) where
   unfolding magnitude
   asked p at y q e = rw e
 
-  lacked : (p : Partial) (at : ℕ) → next at ≡ end → magnitude next 5 p at ≡ Nothing
+  lacked : (p : Partial) (at : ℕ) → next at ≡ end → magnitude next 5 p at ≡ None
   unfolding magnitude
   lacked p at e = rw e
 
@@ -188,7 +187,7 @@ module _ (next : ℕ → Next) where
       ∙ same (further_step p y) q (λ r. magnitude next 4 r q) (λ r. magnitude next (5 - r.digits) r q)
       (λ r f. let l : room (further_step p y) ≡ 5 - r.digits = ap room f in agree 4 (5 - r.digits) r q (omega (arith, less p y)) (omega arith))
 
-  pub lacks : (p : Partial) (at : ℕ) → next at ≡ end → outcome (More p) at ≡ Nothing
+  pub lacks : (p : Partial) (at : ℕ) → next at ≡ end → outcome (More p) at ≡ None
   unfolding outcome
   lacks p at e = agree (5 - p.digits) 5 p at (omega arith) (omega arith) ∙ lacked p at e
 
@@ -199,7 +198,7 @@ module _ (next : ℕ → Next) where
       (same (first_step y) q (λ r. magnitude next 5 r q) (λ r. magnitude next (5 - r.digits) r q)
       (λ r f. agree 5 (5 - r.digits) r q (omega arith) (omega arith)))
 
-  pub begins_not : (at : ℕ) → next at ≡ end → read_code next at ≡ Nothing
+  pub begins_not : (at : ℕ) → next at ≡ end → read_code next at ≡ None
   unfolding read_code
   begins_not at e = rw e
 

@@ -1,9 +1,8 @@
 -- Document 02, Req 01: 'every 32-bit number comes back, and no two sequences of numbers share their bytes'; and what is read is the one
 -- code of its number.
-use Rattle.std.specs.Prelude.{ℕ, ◌+◌, ◌≤◌, ◌<◌, ◌≡◌, List, ◌++◌, length, get_or, take}
+use Rattle.std.specs.Prelude.{ℕ, ◌+◌, ◌≤◌, ◌<◌, ◌≡◌, List, ◌++◌, length, get_or, take, None}
 use Rattle.wire.specs.Bytes.{Bytes}
-use Rattle.m32.specs.M32.{Next, byte, bytes_next, read_code, Numbers, read_codes, code_of, codes}
-use Rattle.m32.specs.declared.Found.TheVariants.{Number, Nothing}
+use Rattle.m32.specs.M32.{Next, byte, bytes_next, found, read_code, Numbers, read_codes, code_of, codes}
 
 -- each is a 32-bit number
 pub record Words (xs : List ℕ) : Type 0 where
@@ -17,7 +16,7 @@ pub record Gives (next : ℕ → Next) (at : ℕ → ℕ) (ys : List ℕ) : Type
 abbrev pub NumberBack : Type 0
 NumberBack =
     (next : ℕ → Next) (at : ℕ → ℕ) (x : ℕ) → x < 4294967296 → Gives next at (code_of x) →
-    read_code next (at 0) ≡ Number x (at (length (code_of x)))
+    read_code next (at 0) ≡ found x (at (length (code_of x)))
 
 -- and so do the codes of a sequence
 abbrev pub ComesBack : Type 0
@@ -49,8 +48,8 @@ pub record Stands (next : ℕ → Next) (p : ℕ) (ys : List ℕ) (q : ℕ) : Ty
 
 -- a number is read exactly where its code stands
 pub record CodeRead (next : ℕ → Next) (p x q : ℕ) : Type 0 where
-  pub is_read : x < 4294967296 → Stands next p (code_of x) q → read_code next p ≡ Number x q
-  pub is_code : read_code next p ≡ Number x q → (x < 4294967296) × Stands next p (code_of x) q
+  pub is_read : x < 4294967296 → Stands next p (code_of x) q → read_code next p ≡ found x q
+  pub is_code : read_code next p ≡ found x q → (x < 4294967296) × Stands next p (code_of x) q
 
 abbrev pub OneCode : Type 0
 OneCode = (next : ℕ → Next) → OnlyBytes next → (p x q : ℕ) → CodeRead next p x q
@@ -60,14 +59,14 @@ pub record CodesRead (next : ℕ → Next) (n p : ℕ) (r : Numbers) : Type 0 wh
   pub words : Words r.numbers
   pub stand : Stands next p (codes r.numbers) r.behind
   pub few : length r.numbers ≤ n
-  pub no_more_lem : length r.numbers < n → read_code next r.behind ≡ Nothing
+  pub no_more_lem : length r.numbers < n → read_code next r.behind ≡ None
 
 abbrev pub CodesAlone : Type 0
 CodesAlone = (next : ℕ → Next) → OnlyBytes next → (n p : ℕ) → CodesRead next n p (read_codes next n p)
 
 -- so in a list of bytes
 pub record BytesTaken (s : List ℕ) : Type 0 where
-  pub code : (x n : ℕ) → read_code (bytes_next s) 0 ≡ Number x n → take n s ≡ code_of x
+  pub code : (x n : ℕ) → read_code (bytes_next s) 0 ≡ found x n → take n s ≡ code_of x
   pub all : (n : ℕ) → take (read_codes (bytes_next s) n 0).behind s ≡ codes (read_codes (bytes_next s) n 0).numbers
 
 abbrev pub TakenBytes : Type 0

@@ -1,6 +1,6 @@
 -- M32 codes (document 02, Req 01; G 5.1.5 and 7): a 32-bit number in one to six bytes. A number is that of its 32 bits, so a
 -- negative one counts 4294967296 more. What is quoted is document 02.
-use Rattle.std.specs.Prelude.{ℕ, zero, suc, ◌+◌, ◌-◌, ◌*◌, ◌/◌, ◌%◌, List, [], ◌∷◌, ◌++◌, Bool, true, false, length, get_or, drop, leb, eqb}
+use Rattle.std.specs.Prelude.{ℕ, zero, suc, ◌+◌, ◌-◌, ◌*◌, ◌/◌, ◌%◌, List, [], ◌∷◌, ◌++◌, Bool, true, false, Option, Some, None, length, get_or, drop, leb, eqb}
 use Rattle.wire.specs.Pick.{pick}
 use Rattle.wire.specs.Tests.{◌≤?◌, passes}
 use Rattle.wire.specs.Bytes.{largest_integer}
@@ -8,8 +8,6 @@ use Rattle.m32.specs.declared.Partial.{Partial}
 use Rattle.m32.specs.declared.Step.{Step}
 use Rattle.m32.specs.declared.Step.TheVariants.{Number, More, Bad}
 use Rattle.m32.specs.declared.Found.{Found}
-use Rattle.m32.specs.declared.Found.TheVariants.{Nothing}
-use Rattle.m32.specs.declared.Found.TheVariants as found
 
 -- 'one to five bytes .. holding the magnitude less 127, 255, 16639, 2113791 or 270549247': where G 7.1's ranges begin, of which it does
 -- not print the fourth. G 7.1's rows of bytes, which hold the number's own bits, are not followed (docs/DECISIONS.md, A53): each range is
@@ -67,24 +65,28 @@ pub data Next : Type 0 where
 unfoldable pub bytes_next : List ℕ → ℕ → Next
 bytes_next s at = pick (leb (length s) at) end (byte (get_or s at 0) (at + 1))
 
+-- a number and the position behind its code
+abbrev pub found : ℕ → ℕ → Option Found
+found x q = Some (record { x = x; at = q })
+
 -- with the next byte and the position behind it; where the source has no more, there is no code
-abbrev pub after : Next → (ℕ → ℕ → Found) → Found
+abbrev pub after : Next → (ℕ → ℕ → Option Found) → Option Found
 after (byte y q) f = f y q
-after end f = Nothing
+after end f = None
 
 -- what a step comes to at a position, `more` being what further bytes come to
-abbrev pub settle : Step → ℕ → (Partial → Found) → Found
-settle (Number x) at more = found.Number x at
+abbrev pub settle : Step → ℕ → (Partial → Option Found) → Option Found
+settle (Number x) at more = found x at
 settle (More p) at more = more p
-settle Bad at more = Nothing
+settle Bad at more = None
 
 -- what at most k bytes more of a magnitude come to
-unfoldable pub magnitude : (ℕ → Next) → ℕ → Partial → ℕ → Found
-magnitude next zero p at = Nothing
+unfoldable pub magnitude : (ℕ → Next) → ℕ → Partial → ℕ → Option Found
+magnitude next zero p at = None
 magnitude next (suc k) p at = after (next at) (λ y q. settle (further_step p y) q (λ r. magnitude next k r q))
 
 -- the code at a position: its first byte, and 'one to five bytes' more where that begins a magnitude
-unfoldable pub read_code : (ℕ → Next) → ℕ → Found
+unfoldable pub read_code : (ℕ → Next) → ℕ → Option Found
 read_code next at = after (next at) (λ y q. settle (first_step y) q (λ r. magnitude next 5 r q))
 
 -- numbers, and the position behind their codes
@@ -101,9 +103,9 @@ abbrev pub in_front : ℕ → Numbers → Numbers
 in_front x ns = record { numbers = x ∷ ns.numbers; behind = ns.behind }
 
 -- a code and what stands behind it, or none
-abbrev pub one_more : Found → ℕ → (ℕ → Numbers) → Numbers
-one_more (found.Number x q) at others = in_front x (others q)
-one_more Nothing at others = no_numbers at
+abbrev pub one_more : Option Found → ℕ → (ℕ → Numbers) → Numbers
+one_more (Some f) at others = in_front f.x (others f.at)
+one_more None at others = no_numbers at
 
 -- the numbers of as many codes as stand one behind the other from a position on, n at most
 unfoldable pub read_codes : (ℕ → Next) → ℕ → ℕ → Numbers

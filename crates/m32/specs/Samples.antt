@@ -1,8 +1,7 @@
 -- Numbers at the ends of every range and their codes, in one table, and bytes that are no code.
-use Rattle.std.specs.Prelude.{ℕ, ◌≡◌, List, [], ◌∷◌, map, length}
-use Rattle.m32.specs.M32.{bytes_next, read_code, code_of}
+use Rattle.std.specs.Prelude.{ℕ, ◌≡◌, List, [], ◌∷◌, map, length, Option, None}
+use Rattle.m32.specs.M32.{bytes_next, found, read_code, code_of}
 use Rattle.m32.specs.declared.Found.{Found}
-use Rattle.m32.specs.declared.Found.TheVariants.{Number, Nothing}
 
 pub record Row : Type 0 where
   pub number : ℕ
@@ -41,10 +40,10 @@ faults =
     ∷ []
 
 -- what stands at the start of some bytes
-abbrev pub read : List ℕ → Found
+abbrev pub read : List ℕ → Option Found
 read s = read_code (bytes_next s) 0
 
 pub record SamplesHold : Type 0 where
   pub written : map (λ (r : Row). code_of r.number) samples ≡ map (λ (r : Row). r.code) samples
-  pub back : map (λ (r : Row). read r.code) samples ≡ map (λ (r : Row). Number r.number (length r.code)) samples
-  pub refused : map read faults ≡ map (λ (s : List ℕ). Nothing) faults
+  pub back : map (λ (r : Row). read r.code) samples ≡ map (λ (r : Row). found r.number (length r.code)) samples
+  pub refused : map read faults ≡ map (λ (s : List ℕ). None) faults

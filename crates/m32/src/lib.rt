@@ -23,11 +23,11 @@ pub enum Step {
     Bad,
 }
 
-// The number of a code and the position behind it, or that there is none.
+// The number of a code and the position behind it.
 #[derive(Clone, Copy)]
-pub enum Found {
-    Number { x: u32, at: usize },
-    Nothing,
+pub struct Found {
+    pub x: u32,
+    pub at: usize,
 }
 
 // How many numbers were read, and how many bytes their codes take.
@@ -123,28 +123,23 @@ pub fn further(p: Partial, b: u8) -> Step
     ended(p, sum + b as u64)
 }
 
-// The code that stands at a position.
-pub fn code_at(bytes: &[u8], from: usize) -> Found
+// The code that stands at a position, if one does.
+pub fn code_at(bytes: &[u8], from: usize) -> Option<Found>
     ensures { result ≡ read_code (bytes_next bytes.now) from }
 {
-    if bytes.len() <= from {
-        return Found::Nothing;
-    }
-    let mut step = first(bytes[from]);
-    let mut at = from + 1;
-    loop {
-        match step {
-            Step::Number(x) => return Found::Number { x, at },
-            Step::Bad => return Found::Nothing,
-            Step::More(p) => {
-                if bytes.len() <= at {
-                    return Found::Nothing;
-                }
-                step = further(p, bytes[at]);
-                at += 1;
-            }
+    let mut part = match first(*bytes.get(from)?) {
+        Step::Number(x) => return Some(Found { x, at: from + 1 }),
+        Step::Bad => return None,
+        Step::More(p) => p,
+    };
+    for at in from + 1..bytes.len() {
+        match further(part, bytes[at]) {
+            Step::Number(x) => return Some(Found { x, at: at + 1 }),
+            Step::Bad => return None,
+            Step::More(p) => part = p,
         }
     }
+    None
 }
 
 // Reads as many whole codes as stand at the start of the bytes and as `out` has room for.
@@ -153,23 +148,19 @@ pub fn read(bytes: &[u8], out: &mut [u32]) -> Taken
     ensures taken { result.bytes ≡ (read_codes (bytes_next bytes.now) (length out.old) 0).behind }
     ensures holds { out.new ≡ put out.old 0 (read_codes (bytes_next bytes.now) (length out.old) 0).numbers }
 {
-    let mut i = 0;
     let mut at = 0;
-    while i < out.len() {
-        match code_at(bytes, at) {
-            Found::Nothing => return Taken {
+    for (i, number) in out.iter_mut().enumerate() {
+        let Some(found) = code_at(bytes, at) else {
+            return Taken {
                 numbers: i,
                 bytes: at,
-            },
-            Found::Number { x, at: next } => {
-                out[i] = x;
-                at = next;
-            }
-        }
-        i += 1;
+            };
+        };
+        *number = found.x;
+        at = found.at;
     }
     Taken {
-        numbers: i,
+        numbers: out.len(),
         bytes: at,
     }
 }

@@ -63,12 +63,10 @@ fn put_sevens(out: &mut [u8], at: usize, k: usize, v: u32)
     if out.len() - k < at {
         return;
     }
-    let mut i = k;
     let mut w = v;
-    while 0 < i {
-        i -= 1;
+    for i in (0..k).rev() {
         out[at + i] = (128 + w % 128) as u8;
-        w = w / 128;
+        w /= 128;
     }
 }
 
@@ -116,10 +114,8 @@ pub fn codes_length(xs: &[u32]) -> usize
     ensures { result ≡ length (codes xs.now) }
 {
     let mut n = 0;
-    let mut i = 0;
-    while i < xs.len() {
-        n += length_of(xs[i]);
-        i += 1;
+    for x in xs {
+        n += length_of(*x);
     }
     n
 }
@@ -129,13 +125,10 @@ fn put_codes(xs: &[u32], out: &mut [u8])
     requires { length (codes xs.now) ≤ length out.old }
     ensures { out.new ≡ put out.old 0 (codes xs.now) }
 {
-    let mut i = 0;
     let mut at = 0;
-    while i < xs.len() {
-        let x = xs[i];
-        put_code(out, at, x);
-        at += length_of(x);
-        i += 1;
+    for x in xs {
+        put_code(out, at, *x);
+        at += length_of(*x);
     }
 }
 

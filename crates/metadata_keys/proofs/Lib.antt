@@ -1,5 +1,6 @@
 pub mod PairLaws
 pub mod TwinLaws
 pub mod OrderLaws
-pub mod SortLaws
 pub mod KeyLaws
+pub mod RankedLaws
+pub mod RoundLaws

@@ -1,4 +1,5 @@
 -- Another record with the same name and ID. Assumes nothing.
+use Rattle.std.specs.Prelude.{None, Option, Some}
 use Prim.Native.Nat.{ℕ}
 use mathlib.Core.Path.{◌≡◌, refl, sym, ap, ◌∙◌}
 use mathlib.Core.List.{List, [], ◌∷◌}
@@ -6,8 +7,6 @@ use mathlib.Core.Bool.{Bool, true, false, not, ◌||◌}
 use lib.Dec.{eqb}
 use Rattle.wire.specs.Tests.{both, passes}
 use Rattle.wire.proofs.TestLaws.{no, not_both, either_way}
-use Rattle.record.specs.declared.Found.{Found}
-use Rattle.record.specs.declared.Found.TheVariants.{At, Nothing}
 use Rattle.record.specs.Record.{type_at}
 use Rattle.record.specs.Chain.{starts, first_record, header_end, records, records_of}
 use Rattle.record.proofs.FindLaws.{is_found, some_found}
@@ -30,14 +29,14 @@ pub twin_self : (s : List ℕ) (x y : ℕ) → x ≡ y → false ≡ twin_of s x
 unfolding twin_of
 twin_self s x y e = no _ (λ z. z.1.0 e)
 
-twin_found : (s : List ℕ) (x : ℕ) (f : Found) → f ≡ first_record s (header_end s) (twin_of s x) → is_found f ≡ has_twin s x
+twin_found : (s : List ℕ) (x : ℕ) (f : Option ℕ) → f ≡ first_record s (header_end s) (twin_of s x) → is_found f ≡ has_twin s x
 unfolding has_twin records_of records first_record twin_of passes
 twin_found s x f e = ap is_found e ∙ sym (some_found _ (λ y. eqb (type_at s y) 1) (twin_of s x) (λ y. refl) (starts s (header_end s)))
 
-pub twin_yes : (s : List ℕ) (x y : ℕ) (f : Found) → f ≡ At y → f ≡ first_record s (header_end s) (twin_of s x) → true ≡ has_twin s x
+pub twin_yes : (s : List ℕ) (x y : ℕ) (f : Option ℕ) → f ≡ Some y → f ≡ first_record s (header_end s) (twin_of s x) → true ≡ has_twin s x
 twin_yes s x y f p e = ap is_found (sym p) ∙ twin_found s x f e
 
-pub twin_no : (s : List ℕ) (x : ℕ) (f : Found) → f ≡ Nothing → f ≡ first_record s (header_end s) (twin_of s x) → false ≡ has_twin s x
+pub twin_no : (s : List ℕ) (x : ℕ) (f : Option ℕ) → f ≡ None → f ≡ first_record s (header_end s) (twin_of s x) → false ≡ has_twin s x
 twin_no s x f p e = ap is_found (sym p) ∙ twin_found s x f e
 
 -- no two metadata records have the same name and ID

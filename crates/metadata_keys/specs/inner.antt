@@ -1,2 +1,3 @@
 pub mod Twins
 pub mod Keys
+pub mod Ranked

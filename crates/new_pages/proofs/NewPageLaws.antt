@@ -1,4 +1,5 @@
 -- A page from nothing is accepted, reads back, and says what it was told. Assumes nothing.
+use Rattle.std.specs.Prelude.{Ok}
 use Prim.Native.Nat.{ℕ, min, ◌*◌, ◌≤◌, ◌<◌}
 use mathlib.Core.Path.{◌≡◌, sym, ap, ◌∙◌}
 use mathlib.Core.List.{List}
@@ -6,8 +7,6 @@ use mathlib.Core.Bool.{true}
 use native.Mathlib.Omega.{arith}
 use lib.ListN.{length}
 use Rattle.wire.proofs.TestLaws.{yes, sum_same}
-use Rattle.answer.specs.declared.Laid.TheVariants.{Length}
-use Rattle.answer.specs.declared.Verdict.TheVariants.{Accepted}
 use Rattle.answer.specs.Refusals.{gate, unless_refused}
 use Rattle.header.specs.Element.{integer_coded_kind, element, entries_read}
 use Rattle.geometry.specs.Tiles.{tiles_in, tile_count}
@@ -59,8 +58,8 @@ unfolding fits_in
 fits_yes f ix room h = sym (yes _ (h, tt))
 
 laid_yes :
-    (f : List ℕ) (t : ℕ) (ix c : List ℕ) (room : ℕ) → check_front f ≡ Accepted → input_right f t ix c ≡ true → length_allowed f ix ≡ true → fits_in f ix room ≡ true →
-    laid f t ix c room ≡ Length (file_length f ix)
+    (f : List ℕ) (t : ℕ) (ix c : List ℕ) (room : ℕ) → check_front f ≡ Ok tt → input_right f t ix c ≡ true → length_allowed f ix ≡ true → fits_in f ix room ≡ true →
+    laid f t ix c room ≡ Ok (file_length f ix)
 unfolding laid lay_down_verdict input_verdict length_verdict gate unless_refused
 laid_yes f t ix c room a b d e = rw (a, b, d, e)
 
@@ -72,7 +71,7 @@ from_nothing g u es ts room n t ix c out wg bu we bt bc e given low fits =
     let ft = made_fits g u es ts room n wg we e in
     let k : length c ≡ length ix * tile_bytes f = given.cells ∙ ap (λ (x : ℕ). length ix * x) (sym (bytes_told d f m.says)) in
     let i : ascending (tile_count f) 0 ix ≡ true = rw (tiles_told d f m.says) given.indexes in
-    let a : laid f t ix c (length out) ≡ Length (file_length f ix) =
+    let a : laid f t ix c (length out) ≡ Ok (file_length f ix) =
     laid_yes f t ix c (length out) m.accepted (input_yes f t ix c given.time i k) (allowed_yes f ix low) (fits_yes f ix (length out) fits) in
     let r = read_back f t ix c out (file_length f ix) m.bytes bc a in
     let h : length (laid_file f t ix c) ≡ file_length f ix = r.long in

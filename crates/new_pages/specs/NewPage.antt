@@ -1,8 +1,7 @@
 -- A page from nothing. g, u, es and ts are a description as it is given; t is the time modified, ix the tile indexes, c the cell bytes of
 -- those tiles one after another.
-use Rattle.std.specs.Prelude.{ℕ, ◌*◌, ◌≤◌, ◌<◌, ◌≡◌, List, true, length}
+use Rattle.std.specs.Prelude.{ℕ, ◌*◌, ◌≤◌, ◌<◌, ◌≡◌, List, true, length, Ok}
 use Rattle.wire.specs.Bytes.{Bytes}
-use Rattle.answer.specs.declared.Laid.TheVariants.{Length}
 use Rattle.header.specs.Element.{element, integer_coded_kind}
 use Rattle.geometry.specs.Tiles.{tiles_in}
 use Rattle.check_header.specs.Ceilings.{most_file_bytes}
@@ -23,7 +22,7 @@ pub record CellsGiven (d : Description) (t : ℕ) (ix c : List ℕ) : Type 0 whe
 -- the page that is laid down with the front of a description: it is not refused, it is accepted and reads back (`ReadsBack`), and its
 -- header says what it was told, word for word
 pub record NewPage (d : Description) (t : ℕ) (ix c out : List ℕ) : Type 0 where
-  pub answer : laid (front_of d) t ix c (length out) ≡ Length (file_length (front_of d) ix)
+  pub answer : laid (front_of d) t ix c (length out) ≡ Ok (file_length (front_of d) ix)
   pub done : Done (front_of d) t ix c out (file_length (front_of d) ix)
   pub says : FrontSays (laid_file (front_of d) t ix c) d
   -- G Table 11: the fill of an integer-coded element is its integer fill, the last of the eight numbers of its range
@@ -33,6 +32,6 @@ pub record NewPage (d : Description) (t : ℕ) (ix c out : List ℕ) : Type 0 wh
 abbrev pub FromNothing : Type 0
 FromNothing =
     (g u es ts : List ℕ) (room n t : ℕ) (ix c out : List ℕ) → Words g → Bytes u → Words es → Bytes ts → Bytes c →
-    front_made g u es ts room ≡ Length n → CellsGiven (described_by g u es ts) t ix c →
+    front_made g u es ts room ≡ Ok n → CellsGiven (described_by g u es ts) t ix c →
     file_length (front_of (described_by g u es ts)) ix ≤ most_file_bytes → file_length (front_of (described_by g u es ts)) ix ≤ length out →
     NewPage (described_by g u es ts) t ix c out

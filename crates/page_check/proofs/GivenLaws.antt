@@ -1,4 +1,5 @@
 -- What the rules of a sound page, and those of an accepted file, give the layers above. Assumes nothing.
+use Rattle.std.specs.Prelude.{Ok}
 use Prim.Native.Nat.{ℕ}
 use mathlib.Core.Path.{◌≡◌}
 use mathlib.Core.List.{List, Memᴰ}
@@ -18,7 +19,6 @@ use Rattle.check_lists.specs.FileSpace.{file_space_right}
 use Rattle.check_lists.specs.Metadata.{metadata_directory_right}
 use Rattle.check_lists.specs.Rearranged.{FreeRearranged, MetadataRearranged}
 use Rattle.check_lists.proofs.RearrangedLaws.{free_rearranged, metadata_rearranged}
-use Rattle.answer.specs.declared.Verdict.TheVariants.{Accepted}
 use Rattle.answer.proofs.VerdictLaws.{behind_passed}
 use Rattle.page_check.specs.Stages.{check_to_bodies}
 use Rattle.page_check.specs.Accepted.{SoundBy, Sound, ObeysBy}
@@ -33,7 +33,7 @@ pub obeys_range : (s xs : List ℕ) → ObeysBy s xs → InRange s (length s)
 obeys_range s xs o = sound_range s xs o.sound
 
 -- the same where stages 1 to 8 pass
-pub bodies_range : (s : List ℕ) → check_to_bodies s ≡ Accepted → InRange s (length s)
+pub bodies_range : (s : List ℕ) → check_to_bodies s ≡ Ok tt → InRange s (length s)
 unfolding check_to_bodies
 bodies_range s e = range_of s (length s) (headed_if s (behind_passed _ _ e).0).0
 

@@ -1,12 +1,11 @@
 -- The two halves of the check together are the check. Assumes nothing.
+use Rattle.std.specs.Prelude.{Err, Ok, Result, ⊤}
 use Prim.Native.Nat.{ℕ}
 use mathlib.Core.Path.{◌≡◌, sym, ◌∙◌}
 use mathlib.Core.List.{List}
 use lib.ListN.{length, take}
 use Rattle.answer.specs.declared.Refusal.{Refusal}
 use Rattle.answer.specs.declared.Refusal.TheVariants.{Input, Incomplete}
-use Rattle.answer.specs.declared.Verdict.{Verdict}
-use Rattle.answer.specs.declared.Verdict.TheVariants.{Accepted, Refused}
 use Rattle.answer.specs.Refusals.{unless_refused}
 use Rattle.answer.proofs.VerdictLaws.{refused_not, refused_is}
 use Rattle.check_header.specs.Stages.{check_header}
@@ -21,12 +20,12 @@ together s = rw (whole_file s)
 
 -- the second half, at its returns
 
-module _ (s : List ℕ) (v : Verdict) where
-  pub first_refused : v ≡ check_start s (length s) → (x : Refusal) → v ≡ Refused x → Refused x ≡ check_rest s
+module _ (s : List ℕ) (v : Result ⊤ Refusal) where
+  pub first_refused : v ≡ check_start s (length s) → (x : Refusal) → v ≡ Err x → Err x ≡ check_rest s
   unfolding check_rest unless_refused
   first_refused p x e = rw (← p, e)
 
-  pub first_passed : v ≡ check_start s (length s) → (w : Verdict) → v ≡ Accepted → w ≡ check_from_records s → w ≡ check_rest s
+  pub first_passed : v ≡ check_start s (length s) → (w : Result ⊤ Refusal) → v ≡ Ok tt → w ≡ check_from_records s → w ≡ check_rest s
   unfolding check_rest unless_refused
   first_passed p w e q = rw (← p, e) q
 
@@ -36,13 +35,13 @@ module _ (s : List ℕ) (v : Verdict) where
 pub ruleset halves = (first_refused, first_passed, rest_is)
 
 module _ (s f : List ℕ) (b : take (length s) f ≡ s) where
-  answered : (v : Verdict) → check_start s (length f) ≡ v → (v ≡ Refused Input → ⊥) → (v ≡ Refused Incomplete → ⊥) → check_header f (length f) ≡ v
+  answered : (v : Result ⊤ Refusal) → check_start s (length f) ≡ v → (v ≡ Err Input → ⊥) → (v ≡ Err Incomplete → ⊥) → check_header f (length f) ≡ v
   answered v e i m = begins_so s f b (λ k. i (sym e ∙ k)) (λ k. m (sym e ∙ k)) ∙ e
 
 pub first_decides : FirstDecides
 unfolding check unless_refused
 first_decides s f b =
     record {
-      refuses = λ r e i m. rw (answered s f b (Refused r) e (λ k. i (refused_is k)) (λ k. m (refused_is k)));
-      accepts = λ e. rw (answered s f b Accepted e (λ k. refused_not (sym k)) (λ k. refused_not (sym k)));
+      refuses = λ r e i m. rw (answered s f b (Err r) e (λ k. i (refused_is k)) (λ k. m (refused_is k)));
+      accepts = λ e. rw (answered s f b (Ok tt) e (λ k. refused_not (sym k)) (λ k. refused_not (sym k)));
     }

@@ -1,7 +1,6 @@
 -- What an accepted file is: it obeys each rule that document 01 condenses version 1.4 to.
-use Rattle.std.specs.Prelude.{ℕ, ◌≡◌, true, length}
+use Rattle.std.specs.Prelude.{ℕ, ◌≡◌, true, length, Ok}
 use mathlib.Core.List.{List, Memᴰ}
-use Rattle.answer.specs.declared.Verdict.TheVariants.{Accepted}
 use Rattle.record.specs.Chain.{Whole, header_end, records}
 use Rattle.check_header.specs.Stages.{closed}
 use Rattle.check_header.specs.Passed.{Headed}
@@ -37,4 +36,4 @@ Obeys s = ObeysBy s (records s)
 
 -- demand 2: a file is accepted exactly when it obeys
 abbrev pub AcceptedExactly : Type 0
-AcceptedExactly = (s : List ℕ) → (check s ≡ Accepted → Obeys s) × (Obeys s → check s ≡ Accepted)
+AcceptedExactly = (s : List ℕ) → (check s ≡ Ok tt → Obeys s) × (Obeys s → check s ≡ Ok tt)

@@ -1,4 +1,6 @@
 -- What is counted: the marks of a row, the rows of a piece, the pieces of a row of tiles, and all of them. Assumes nothing.
+use Rattle.std.specs.Prelude.{Result}
+use Rattle.answer.specs.declared.Refusal.{Refusal}
 use Prim.Native.Nat.{ℕ, zero, suc, ◌+◌, ◌-◌, ◌*◌, ◌≤◌, ◌<◌}
 use mathlib.Core.Path.{◌≡◌, refl, sym, ap, ◌∙◌}
 use mathlib.Core.List.{List, [], ◌∷◌}
@@ -183,7 +185,7 @@ small_row top bottom i counts s h = (omega (arith, s.long), s.each i h)
 
 -- the first cell of a piece
 pub first_cell :
-    (s : List ℕ) (ci : ℕ) (a : Rectangle) (p : Piece) (e : ℕ) (x : Side) (m : List ℕ) (v : Cell) → Ready s ci a p e x m → AtPiece s a p →
+    (s : List ℕ) (ci : ℕ) (a : Rectangle) (p : Piece) (e : ℕ) (x : Side) (m : List ℕ) (v : Result Cell Refusal) → Ready s ci a p e x m → AtPiece s a p →
     v ≡ held_cell s ci x.held (part_of m x.from x.to) (a.row + p.top) (a.column + p.left) e → v ≡ area_cells s ci a p.top p.left e
 unfolding area_cells
 first_cell s ci a p e x m v r o z = let i = o.sides in z ∙ r.answered.each p.top p.left (omega arith)
@@ -195,7 +197,7 @@ module _ (s t : List ℕ) (q : Pair) (a : Rectangle) (r c : ℕ) where
   no_halt = record { each = λ k h. absurd (omega arith) }
 
   module _
-      (e : ℕ) (u v : Cell) (h : Halt) (n : NoHalt s t q a r c e) (f : u ≡ area_cells s q.first a r c e) (g : v ≡ area_cells t q.second a r c e) (w : h ≡ cell_halt u v)
+      (e : ℕ) (u v : Result Cell Refusal) (h : Halt) (n : NoHalt s t q a r c e) (f : u ≡ area_cells s q.first a r c e) (g : v ≡ area_cells t q.second a r c e) (w : h ≡ cell_halt u v)
     where
       here : h ≡ cell_halt (area_cells s q.first a r c e) (area_cells t q.second a r c e)
       here = w ∙ rw (f, g)
@@ -228,7 +230,7 @@ piece_halt s t q a p b o w r c i =
 -- a piece's first cells, one element more
 module _
     (s t : List ℕ) (q : Pair) (a : Rectangle) (p : Piece) (b : Both s t q a) (o : AtPiece s a p) (w : AtPiece t a p) (e : ℕ) (h : e < q.elements) (x y : Side) (m : List ℕ)
-    (f : Ready s q.first a p e x m) (g : Ready t q.second a p e y m) (u v : Cell) (absent : Bool) (n sort : ℕ)
+    (f : Ready s q.first a p e x m) (g : Ready t q.second a p e y m) (u v : Result Cell Refusal) (absent : Bool) (n sort : ℕ)
     (i : u ≡ area_cells s q.first a p.top p.left e) (j : v ≡ area_cells t q.second a p.top p.left e) (z : sort ≡ sort_of absent u v)
     (k : absent ≡ true → (held_kind x.held ≡ 33) × (held_kind y.held ≡ 33)) (d : sort ≡ 2 → ⊥)
     (l : Level (area_differ s t q a) p.top p.bottom p.left p.right e n)

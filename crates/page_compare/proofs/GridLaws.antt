@@ -1,4 +1,5 @@
 -- Two pages compared in a rectangle that is the whole grid. Assumes nothing.
+use Rattle.std.specs.Prelude.{Ok}
 use Prim.Native.Nat.{ℕ, ◌+◌}
 use mathlib.Core.Path.{◌≡◌, refl, sym, ap₂, ◌∙◌}
 use mathlib.Core.List.{List}
@@ -10,7 +11,6 @@ use Rattle.wire.specs.Bytes.{put}
 use Rattle.wire.proofs.CountLaws.{count_same}
 use Rattle.wire.proofs.PutLaws.{put_nil}
 use Rattle.answer.specs.declared.Refusal.{Refusal}
-use Rattle.answer.specs.declared.Verdict.TheVariants as verdict
 use Rattle.store.specs.declared.many.Rectangle.{Rectangle}
 use Rattle.store.specs.Face.{grid_rows, grid_columns, element_count, cell_tile, cell_inside, check, meaning, whole_grid}
 use Rattle.store.proofs.PieceLaws.{elements_accepted, accepts_grid, accepts_same}
@@ -34,7 +34,7 @@ module _ (s t : List ℕ) (k j : ℕ) where
   abbrev pair_of : Pair
   pair_of = record { first = k; second = j; elements = element_count s }
 
-  pages_both : check s ≡ verdict.Accepted → check t ≡ verdict.Accepted → alike s t ≡ true → Both s t pair_of (whole_grid s)
+  pages_both : check s ≡ Ok tt → check t ≡ Ok tt → alike s t ≡ true → Both s t pair_of (whole_grid s)
   pages_both a b e =
       let h = alike_means s t e in
       let g = shape_grid s t h in
@@ -107,7 +107,7 @@ module _ (s t : List ℕ) (k j rows columns n : ℕ) (p : rows ≡ grid_rows s) 
   abbrev area : Rectangle
   area = record { e = 0; row = 0; column = 0; rows = rows; columns = columns }
 
-  pub grid_both : check s ≡ verdict.Accepted → check t ≡ verdict.Accepted → alike s t ≡ true → Both s t both area
+  pub grid_both : check s ≡ Ok tt → check t ≡ Ok tt → alike s t ≡ true → Both s t both area
   grid_both a b e = rw (p, q, z) (pages_both s t k j a b e)
 
   pub area_says : (x : Comparison) → x ≡ area_compared s t both area → x ≡ compared_pages s k t j

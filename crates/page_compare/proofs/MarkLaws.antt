@@ -1,4 +1,6 @@
 -- The marks of a row of a piece: an element, all of them, and what they say. Assumes nothing.
+use Rattle.std.specs.Prelude.{Result}
+use Rattle.answer.specs.declared.Refusal.{Refusal}
 use Prim.Native.Nat.{ℕ, ◌+◌, ◌-◌, ◌*◌, ◌≤◌, ◌<◌}
 use mathlib.Core.Path.{◌≡◌, refl, ap, ◌∙◌}
 use mathlib.Core.List.{List}
@@ -42,13 +44,13 @@ mark_room c n e len h k l = omega (arith, place_less n mark_width c e h k)
 -- the mark of two cells that were read
 
 pub numbered_mark_lem :
-    (s t : List ℕ) (x y : Side) (m l : List ℕ) (tile start c e : ℕ) (u v : Cell) → u ≡ numbered_cell s x.kind x.fill m tile (start + c) x.held →
+    (s t : List ℕ) (x y : Side) (m l : List ℕ) (tile start c e : ℕ) (u v : Result Cell Refusal) → u ≡ numbered_cell s x.kind x.fill m tile (start + c) x.held →
     v ≡ numbered_cell t y.kind y.fill l tile (start + c) y.held → one_if (differ u v) ≡ numbered_mark s t x y m l tile start c e
 unfolding numbered_mark
 numbered_mark_lem s t x y m l tile start c e u v p q = rw (p, q)
 
 pub held_mark_lem :
-    (s t : List ℕ) (q : Pair) (a : Rectangle) (x y : Held) (m l : List ℕ) (r left c e : ℕ) (u v : Cell) → u ≡ held_cell s q.first x m (a.row + r) (a.column + (left + c)) e →
+    (s t : List ℕ) (q : Pair) (a : Rectangle) (x y : Result Held Refusal) (m l : List ℕ) (r left c e : ℕ) (u v : Result Cell Refusal) → u ≡ held_cell s q.first x m (a.row + r) (a.column + (left + c)) e →
     v ≡ held_cell t q.second y l (a.row + r) (a.column + (left + c)) e → one_if (differ u v) ≡ held_mark s t q a x y m l r left e c e
 unfolding held_mark
 held_mark_lem s t q a x y m l r left c e u v f g = rw (f, g)

@@ -1,4 +1,6 @@
 -- A part of the memory that is lent, and what is held of the elements of a tile with such parts. Assumes nothing.
+use Rattle.std.specs.Prelude.{Ok, Result}
+use Rattle.answer.specs.declared.Refusal.{Refusal}
 use Prim.Native.Nat.{ℕ, ◌+◌, ◌-◌, ◌*◌, ◌≤◌, ◌<◌}
 use mathlib.Core.Path.{◌≡◌, refl, sym, ap, ◌∙◌}
 use mathlib.Core.List.{List, ◌++◌}
@@ -9,7 +11,6 @@ use native.Mathlib.Omega.{arith}
 use lib.ListN.{length, get_or, set, take, drop, length-append, length-take, length-drop, length-set, get_or-append, take-append-drop}
 use lib.Seq.{drop-drop, get_or-append-add, get_or-take, get_or-drop, ext_get_or, get_or-set_same, get_or-set_other}
 use borrow.Rule.Slice.PartMut.{put_mid, mid_of}
-use Rattle.answer.specs.declared.Verdict.TheVariants.{Accepted}
 use Rattle.answer.specs.declared.Held.{Held}
 use Rattle.store.specs.declared.many.Rectangle.{Rectangle}
 use Rattle.store.specs.declared.pieces.Piece.{Piece}
@@ -83,15 +84,15 @@ module _ (a b : ℕ) (l v now : List ℕ) (h : a ≤ b) (k : b ≤ length l) (n 
       get_or-take (b - a) (drop a now) i 0 f ∙ get_or-drop a now i 0 ∙ inside i f)
 
   pub part_holds :
-      (s : List ℕ) (ci tile x : ℕ) (r : Held) → (check s ≡ Accepted → tile < tile_count s → x < element_count s → Holds s ci tile x r v) →
-      check s ≡ Accepted → tile < tile_count s → x < element_count s → Holds s ci tile x r (part_of now a b)
+      (s : List ℕ) (ci tile x : ℕ) (r : Result Held Refusal) → (check s ≡ Ok tt → tile < tile_count s → x < element_count s → Holds s ci tile x r v) →
+      check s ≡ Ok tt → tile < tile_count s → x < element_count s → Holds s ci tile x r (part_of now a b)
   part_holds s ci tile x r f c t m = rw part_is (f c t m)
 
 -- what is held with a part
 pub part_held :
-    (a b : ℕ) (l v : List ℕ) → a ≤ b → b ≤ length l → length v ≡ length (mid_of a (b - a) l) → (s : List ℕ) (ci tile x : ℕ) (r : Held) →
-    (check s ≡ Accepted → tile < tile_count s → x < element_count s → Holds s ci tile x r v) →
-    Changed a b l (put_mid a (b - a) l v) × (check s ≡ Accepted → tile < tile_count s → x < element_count s → Holds s ci tile x r (part_of (put_mid a (b - a) l v) a b))
+    (a b : ℕ) (l v : List ℕ) → a ≤ b → b ≤ length l → length v ≡ length (mid_of a (b - a) l) → (s : List ℕ) (ci tile x : ℕ) (r : Result Held Refusal) →
+    (check s ≡ Ok tt → tile < tile_count s → x < element_count s → Holds s ci tile x r v) →
+    Changed a b l (put_mid a (b - a) l v) × (check s ≡ Ok tt → tile < tile_count s → x < element_count s → Holds s ci tile x r (part_of (put_mid a (b - a) l v) a b))
 part_held a b l v h k e s ci tile x r f =
     let n : length v ≡ b - a = e ∙ length-take (b - a) (drop a l) ∙ omega (arith, length-drop a l) in
     (part_changed a b l v (put_mid a (b - a) l v) h k n refl, part_holds a b l v (put_mid a (b - a) l v) h k n refl s ci tile x r f)
@@ -100,7 +101,7 @@ part_held a b l v h k e s ci tile x r f =
 
 pub side_ready :
     (s : List ℕ) (ci : ℕ) (a : Rectangle) (p : Piece) (e : ℕ) (x : Side) (m : List ℕ) → x.from ≤ x.to → x.to ≤ length m → x.kind ≡ (element s e).kind → x.fill ≡ (element s e).fill →
-    (check s ≡ Accepted → p.tile < tile_count s → e < element_count s → Holds s ci p.tile e x.held (part_of m x.from x.to)) → Accepts s a → AtPiece s a p → e < element_count s →
+    (check s ≡ Ok tt → p.tile < tile_count s → e < element_count s → Holds s ci p.tile e x.held (part_of m x.from x.to)) → Accepts s a → AtPiece s a p → e < element_count s →
     Ready s ci a p e x m
 side_ready s ci a p e x m h k f g w o q n =
     record {

@@ -1,4 +1,6 @@
 -- How the cells of a piece differ in an element, from what its first ones are. Assumes nothing.
+use Rattle.std.specs.Prelude.{Result}
+use Rattle.answer.specs.declared.Refusal.{Refusal}
 use Prim.Native.Nat.{ℕ}
 use mathlib.Core.Path.{◌≡◌, refl, sym, ◌∙◌}
 use mathlib.Core.Bool.{Bool, true, false}
@@ -12,7 +14,7 @@ use Rattle.comparisons.specs.Comparisons.{compared_kind, differ}
 use Rattle.comparisons.proofs.CellLaws.{same_kind, differ_kind, differ_bits}
 use Rattle.page_compare.specs.Sides.{sort_of}
 
-module _ (absent : Bool) (u v : Cell) where
+module _ (absent : Bool) (u v : Result Cell Refusal) where
   -- as the function below gives it
   module _ (k l : ℕ) (p : k ≡ compared_kind u) (q : l ≡ compared_kind v) where
     pub sort_kinds : (k ≡ l → ⊥) → 1 ≡ sort_of absent u v
@@ -34,7 +36,7 @@ module _ (absent : Bool) (u v : Cell) where
 
   -- what it says of cells of the same kinds, where absent ones have the same bits
   pub sort_says :
-      (x y : Cell) → cell_kind x ≡ cell_kind u → cell_kind y ≡ cell_kind v → (absent ≡ true → (cell_bits x ≡ cell_bits u) × (cell_bits y ≡ cell_bits v)) → (sort_of absent u v ≡ 2 → ⊥) →
+      (x y : Result Cell Refusal) → cell_kind x ≡ cell_kind u → cell_kind y ≡ cell_kind v → (absent ≡ true → (cell_bits x ≡ cell_bits u) × (cell_bits y ≡ cell_bits v)) → (sort_of absent u v ≡ 2 → ⊥) →
       one_if (differ x y) ≡ sort_of absent u v
   unfolding sort_of one_if
   sort_says x y p q w n = go (eqb (compared_kind u) (compared_kind v)) refl absent refl (eqb (cell_bits u) (cell_bits v)) refl

@@ -1,6 +1,7 @@
 -- How the call goes: what is held of the elements of a tile in both pages, each with its own part of the memory, and the marks of a row of a
 -- piece. Rows and columns count from the rectangle's first.
-use Rattle.std.specs.Prelude.{ℕ, ◌+◌, ◌-◌, ◌*◌, ◌≤◌, ◌<◌, ◌≡◌, List, Bool, ◌⊎◌, length, get_or, take, drop, eqb}
+use Rattle.std.specs.Prelude.{ℕ, ◌+◌, ◌-◌, ◌*◌, ◌≤◌, ◌<◌, ◌≡◌, List, Bool, ◌⊎◌, length, get_or, take, drop, eqb, Ok, Result}
+use Rattle.answer.specs.declared.Refusal.{Refusal}
 use Rattle.wire.specs.Pick.{pick}
 use Rattle.wire.specs.Lists.{one_if}
 use Rattle.answer.specs.declared.Cell.{Cell}
@@ -21,7 +22,7 @@ use Rattle.page_compare.specs.declared.sides.Side.{Side}
 use Rattle.comparisons.specs.Comparisons.{compared_kind, differ, differ_at, join_halt, halt_at, unless_halted}
 
 -- the cells of a page in a rectangle, and what is compared of two pages there
-unfoldable pub area_cells : List ℕ → ℕ → Rectangle → ℕ → ℕ → ℕ → Cell
+unfoldable pub area_cells : List ℕ → ℕ → Rectangle → ℕ → ℕ → ℕ → Result Cell Refusal
 area_cells s k a r c e = meaning s k (a.row + r) (a.column + c) e
 
 unfoldable pub area_differ : List ℕ → List ℕ → Pair → Rectangle → ℕ → ℕ → ℕ → Bool
@@ -68,7 +69,7 @@ pub record PartFor (e cells low high from to : ℕ) : Type 0 where
 
 -- an element of a tile that no page has: what a place of the array holds that is not read
 abbrev pub no_side : Side
-no_side = record { held = Stored 0; kind = 0; fill = 0; from = 0; to = 0 }
+no_side = record { held = Ok (Stored 0); kind = 0; fill = 0; from = 0; to = 0 }
 
 -- what is held of element e, with its part of the memory m, answers for a piece
 pub record Ready (s : List ℕ) (ci : ℕ) (a : Rectangle) (p : Piece) (e : ℕ) (x : Side) (m : List ℕ) : Type 0 where
@@ -109,12 +110,12 @@ unfoldable pub numbered_mark : List ℕ → List ℕ → Side → Side → List 
 numbered_mark s t x y m n tile start c e =
     one_if (differ (numbered_cell s x.kind x.fill m tile (start + c) x.held) (numbered_cell t y.kind y.fill n tile (start + c) y.held))
 
-unfoldable pub held_mark : List ℕ → List ℕ → Pair → Rectangle → Held → Held → List ℕ → List ℕ → ℕ → ℕ → ℕ → ℕ → ℕ → ℕ
+unfoldable pub held_mark : List ℕ → List ℕ → Pair → Rectangle → Result Held Refusal → Result Held Refusal → List ℕ → List ℕ → ℕ → ℕ → ℕ → ℕ → ℕ → ℕ
 held_mark s t q a x y m n r left e c f =
     one_if
     (differ (held_cell s q.first x m (a.row + r) (a.column + (left + c)) e) (held_cell t q.second y n (a.row + r) (a.column + (left + c)) e))
 
 -- how the cells of a piece differ in an element, from what their first ones are and whether both tiles are absent: 0 none, 1 each, 2 each by
 -- itself
-unfoldable pub sort_of : Bool → Cell → Cell → ℕ
+unfoldable pub sort_of : Bool → Result Cell Refusal → Result Cell Refusal → ℕ
 sort_of absent x y = pick (eqb (compared_kind x) (compared_kind y)) (pick absent (pick (eqb (cell_bits x) (cell_bits y)) 0 1) 2) 1

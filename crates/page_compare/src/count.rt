@@ -11,7 +11,7 @@ ghost use Rattle.page_compare.specs.Counting.{PlainSays, Small, Added, Counted, 
 
 use crate::sides::Side;
 use crate::{Pair, marks, sides};
-use answer::{Cell, Held};
+use answer::{Cell, Held, Refusal};
 use comparisons::{Comparison, Halt};
 use store::many::Rectangle;
 use store::pieces::Piece;
@@ -40,7 +40,7 @@ fn first_cell(
     p: Piece,
     e: u64,
     x: Side,
-) -> Cell
+) -> Result<Cell, Refusal>
     requires accepts { Accepts file.now a }
     requires at { AtPiece file.now a p }
     requires ready { Ready file.now compressor a p e x memory.now }
@@ -95,7 +95,7 @@ fn halt_piece(
 }
 
 // Whether both tiles are absent.
-fn both_absent(x: Held, y: Held) -> bool
+fn both_absent(x: Result<Held, Refusal>, y: Result<Held, Refusal>) -> bool
     ensures { result ≡ true → (held_kind x ≡ 33) × (held_kind y ≡ 33) }
 {
     if answer::held_kind(x) == 33 {
@@ -105,7 +105,7 @@ fn both_absent(x: Held, y: Held) -> bool
 }
 
 // How the cells of a piece differ in an element, from its first ones: 0 none, 1 each, 2 each by itself.
-fn sort_of(absent: bool, x: Cell, y: Cell) -> u64
+fn sort_of(absent: bool, x: Result<Cell, Refusal>, y: Result<Cell, Refusal>) -> u64
     ensures { result ≡ sort_of absent x y }
 {
     if comparisons::compared_kind(x) == comparisons::compared_kind(y) {

@@ -7,15 +7,13 @@ mod marks;
 mod place;
 mod sides;
 
-ghost use Rattle.std.specs.Prelude.{◌≡◌, true, ◌⊎◌, length};
+ghost use Rattle.std.specs.Prelude.{◌≡◌, true, ◌⊎◌, length, Ok};
 ghost use Rattle.wire.specs.Bytes.{put};
-ghost use Rattle.answer.specs.declared.Verdict.TheVariants.{Accepted};
 ghost use Rattle.store.specs.Face.{check};
 ghost use Rattle.comparisons.specs.Comparisons as says;
 ghost use Rattle.comparisons.specs.declared.Comparison.TheVariants as comparison;
 ghost use Rattle.comparisons.specs.Comparisons.{compared_pages, written};
 
-use answer::Verdict;
 use comparisons::Comparison;
 use store::description;
 use store::many::Rectangle;
@@ -40,7 +38,7 @@ fn compare_step(
     memory: &mut [u32],
     list: &mut [u32],
 ) -> Comparison
-    requires accepted { (check first.now ≡ Accepted) × (check second.now ≡ Accepted) }
+    requires accepted { (check first.now ≡ Ok tt) × (check second.now ≡ Ok tt) }
     requires alike { says.alike first.now second.now ≡ true }
     requires known { (known ≡ comparison.Unlike) ⊎ (known ≡ compared_pages first.now k second.now j) }
     ensures is { result ≡ compared_pages first.now k second.now j }
@@ -99,7 +97,7 @@ fn compare_alike(
     memory: &mut [u32],
     list: &mut [u32],
 ) -> Comparison
-    requires accepted { (check first.now ≡ Accepted) × (check second.now ≡ Accepted) }
+    requires accepted { (check first.now ≡ Ok tt) × (check second.now ≡ Ok tt) }
     requires alike { says.alike first.now second.now ≡ true }
     ensures is { result ≡ compared_pages first.now k second.now j }
     ensures list { list.new ≡ put list.old 0 (written first.now k second.now j (length list.old) result) }
@@ -123,10 +121,10 @@ pub fn compare_pages(
     ensures list { list.new ≡ put list.old 0 (written first.now k second.now j (length list.old) result) }
 {
     match store::check(first) {
-        Verdict::Refused(r) => Comparison::First(r),
-        Verdict::Accepted => match store::check(second) {
-            Verdict::Refused(r) => Comparison::Second(r),
-            Verdict::Accepted => {
+        Err(r) => Comparison::First(r),
+        Ok(()) => match store::check(second) {
+            Err(r) => Comparison::Second(r),
+            Ok(()) => {
                 if comparisons::alike(first, second) {
                     return compare_alike(first, k, second, j, memory, list);
                 }

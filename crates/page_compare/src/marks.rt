@@ -9,12 +9,12 @@ ghost use Rattle.page_compare.specs.Sides.{Both, Ready, BothReady, mark_width, r
 
 use crate::Pair;
 use crate::sides::Side;
-use answer::{Cell, Held};
+use answer::{Cell, Held, Refusal};
 use store::many;
 use store::many::Rectangle;
 use store::pieces::Piece;
 
-fn mark_of(x: Cell, y: Cell) -> u8
+fn mark_of(x: Result<Cell, Refusal>, y: Result<Cell, Refusal>) -> u8
     ensures { result ≡ one_if (differ x y) }
 {
     if comparisons::differs(x, y) {
@@ -24,7 +24,7 @@ fn mark_of(x: Cell, y: Cell) -> u8
 }
 
 // The mark of two cells in its place.
-fn put_mark(x: Cell, y: Cell, i: usize, marks: &mut [u8])
+fn put_mark(x: Result<Cell, Refusal>, y: Result<Cell, Refusal>, i: usize, marks: &mut [u8])
     requires { i < length marks.old }
     ensures { marks.new ≡ set marks.old i (one_if (differ x y)) }
 {
@@ -74,8 +74,8 @@ fn look_up_marks(
     second: &[u8],
     q: Pair,
     a: Rectangle,
-    x: Held,
-    y: Held,
+    x: Result<Held, Refusal>,
+    y: Result<Held, Refusal>,
     m: &[u32],
     l: &[u32],
     r: u64,
@@ -100,7 +100,7 @@ fn look_up_marks(
 }
 
 // Whether neither is looked up cell by cell.
-fn both_told(x: Held, y: Held) -> bool
+fn both_told(x: Result<Held, Refusal>, y: Result<Held, Refusal>) -> bool
     ensures { result ≡ true → (held_kind x ≡ 0 → ⊥) × (held_kind y ≡ 0 → ⊥) }
 {
     if answer::held_kind(x) == 0 {

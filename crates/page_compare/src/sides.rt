@@ -1,10 +1,9 @@
 // What is held of the elements of a tile, each with its own part of the memory that was lent.
-ghost use Rattle.std.specs.Prelude.{◌≡◌, ◌≤◌, ◌<◌, length};
-ghost use Rattle.answer.specs.declared.Verdict.TheVariants.{Accepted};
+ghost use Rattle.std.specs.Prelude.{◌≡◌, ◌≤◌, ◌<◌, length, Ok};
 ghost use Rattle.store.specs.Face.{tile_count, element_count, check, Holds, Accepts, AtPiece};
 ghost use Rattle.page_compare.specs.Sides.{part_of, Changed, PartFor, Ready, PageReady};
 
-use answer::Held;
+use answer::{Held, Refusal};
 use store::many::Rectangle;
 use store::pieces::Piece;
 use store::{description, many};
@@ -12,7 +11,7 @@ use store::{description, many};
 // An element: what is held of it in a tile, its type code and fill, and the part of the memory that has its unpacked cells.
 #[derive(Clone, Copy)]
 pub(crate) struct Side {
-    pub held: Held,
+    pub held: Result<Held, Refusal>,
     pub kind: u32,
     pub fill: u32,
     pub from: usize,
@@ -28,10 +27,10 @@ fn hold_in(
     memory: &mut [u32],
     a: usize,
     b: usize,
-) -> Held
+) -> Result<Held, Refusal>
     requires { (a ≤ b) × (b ≤ length memory.old) }
     ensures changed { Changed a b memory.old memory.new }
-    ensures holds { check file.now ≡ Accepted → tile < tile_count file.now → e < element_count file.now → Holds file.now compressor tile e result (part_of memory.new a b) }
+    ensures holds { check file.now ≡ Ok tt → tile < tile_count file.now → e < element_count file.now → Holds file.now compressor tile e result (part_of memory.new a b) }
 {
     many::hold_lent(file, compressor, tile, e, &mut memory[a..b])
 }
@@ -115,7 +114,7 @@ pub(crate) fn hold_page(
     ensures changed { Changed low high memory.old memory.new }
 {
     let mut xs = [Side {
-        held: Held::Stored(0),
+        held: Ok(Held::Stored(0)),
         kind: 0,
         fill: 0,
         from: 0,

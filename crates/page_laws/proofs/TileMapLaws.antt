@@ -1,4 +1,5 @@
 -- A page's tiles and its records of a type by its pieces. Assumes nothing.
+use Rattle.std.specs.Prelude.{Some}
 use Prim.Native.Nat.{ℕ, zero, suc, ◌+◌, ◌≤◌, ◌<◌}
 use mathlib.Core.Path.{◌≡◌, refl, sym, ap, ap₂, ◌∙◌}
 use mathlib.Core.List.{List, [], ◌∷◌, ◌++◌, map, map-append, append_assoc}
@@ -13,7 +14,6 @@ use Rattle.wire.specs.Bytes.{part}
 use Rattle.wire.specs.Lists.{below}
 use Rattle.wire.proofs.ListLaws.{below_long}
 use Rattle.wire.proofs.PlaceLaws.{Placed, placed_self}
-use Rattle.record.specs.declared.Found.TheVariants.{At}
 use Rattle.record.specs.Record.{type_at}
 use Rattle.record.specs.Chain.{records, find, first_record, joined, starts_of, WellFormed}
 use Rattle.header.specs.Fields.{element_count}
@@ -85,7 +85,7 @@ module _ (f : List ℕ) (w : Front f) where
       go :
           SameRecord t (length a) r 0 → right_of t Body (length a) ≡ true → (b : Bool) → eqb (type_at r 0) 2 ≡ b → (d : Bool) → eqb (tile_index r 0) j ≡ d →
           contents_of t (find (carries t j) (starts_of (length a + length r) rs)) ≡ held_in (element_count f) j (standing 2 (length a + length r) rs) →
-          contents_of t (pick (carries t j (length a)) (At (length a)) (find (carries t j) (starts_of (length a + length r) rs)))
+          contents_of t (pick (carries t j (length a)) (Some (length a)) (find (carries t j) (starts_of (length a + length r) rs)))
           ≡ held_in (element_count f) j (standing 2 (length a) (r ∷ rs))
       go q o true x true y i =
           rw (carries_same q j, x, y) (contents_alone_lem t (length a) r q (body_tile t (length a) o (type_same q ∙ eqb-true _ _ x)) ∙ ap (λ (n : ℕ). contents_alone n r) h.count)

@@ -1,4 +1,5 @@
 -- The record of a tile by where it is found, and that it is found there again where it stays. Assumes nothing.
+use Rattle.std.specs.Prelude.{None, Option, Some}
 use Prim.Native.Nat.{ℕ, ◌+◌}
 use mathlib.Core.Path.{◌≡◌, refl, sym, ap, subst, ◌∙◌}
 use mathlib.Core.List.{List, [], ◌∷◌, ◌++◌, append_assoc, Memᴰ}
@@ -9,8 +10,6 @@ use lib.Dec.{eqb}
 use Rattle.wire.specs.Pick.{pick}
 use Rattle.wire.specs.Tests.{passes}
 use Rattle.wire.proofs.PlaceLaws.{Placed, placed_self}
-use Rattle.record.specs.declared.Found.{Found}
-use Rattle.record.specs.declared.Found.TheVariants.{At, Nothing}
 use Rattle.record.specs.Record.{type_at}
 use Rattle.record.specs.Chain.{header_end, records, find, first_record, joined, starts_of, WellFormed}
 use Rattle.bodies.specs.TileRecord.{tile_index}
@@ -27,9 +26,9 @@ use Rattle.page_laws.specs.Tiles.{standing_of, of_tile, record_of_tile}
 use Rattle.page_laws.proofs.TileMapLaws.{carries_same, stands_of}
 
 -- where the first of some records stands
-abbrev first_place : List (ℕ × List ℕ) → Found
-first_place [] = Nothing
-first_place (p ∷ ps) = At p.0
+abbrev first_place : List (ℕ × List ℕ) → Option ℕ
+first_place [] = None
+first_place (p ∷ ps) = Some p.0
 
 first_found :
     (t a : List ℕ) (rs : List (List ℕ)) → t ≡ a ++ joined rs → WellFormed rs → (j : ℕ) →
@@ -44,7 +43,7 @@ first_found t a (r ∷ rs) e v j =
     go :
         SameRecord t (length a) r 0 → (b : Bool) → eqb (type_at r 0) 2 ≡ b → (d : Bool) → eqb (tile_index r 0) j ≡ d →
         find (carries t j) (starts_of (length a + length r) rs) ≡ first_place (of_tile j (standing 2 (length a + length r) rs)) →
-        pick (carries t j (length a)) (At (length a)) (find (carries t j) (starts_of (length a + length r) rs))
+        pick (carries t j (length a)) (Some (length a)) (find (carries t j) (starts_of (length a + length r) rs))
         ≡ first_place (of_tile j (standing 2 (length a) (r ∷ rs)))
     go q true x true y i = rw (carries_same q j, x, y)
     go q true x false y i = rw (carries_same q j, x, y) i
@@ -89,16 +88,16 @@ module _ (s : List ℕ) (o : Sound s) (j : ℕ) where
 
 pub record BothAt (s t : List ℕ) (j : ℕ) : Type 0 where
   pub start : ℕ
-  pub first : tile_at s j ≡ At start
-  pub second : tile_at t j ≡ At start
+  pub first : tile_at s j ≡ Some start
+  pub second : tile_at t j ≡ Some start
   pub same : SameRecord s start t start
 
 pub tile_stays :
     (s t : List ℕ) → Sound s → Sound t → (j : ℕ) → record_of_tile t j ≡ record_of_tile s j →
-    ((tile_at s j ≡ Nothing) × (tile_at t j ≡ Nothing)) ⊎ BothAt s t j
+    ((tile_at s j ≡ None) × (tile_at t j ≡ None)) ⊎ BothAt s t j
 tile_stays s t o q j e = go (record_of_tile s j) refl
   where
-    go : (l : List (ℕ × List ℕ)) → record_of_tile s j ≡ l → ((tile_at s j ≡ Nothing) × (tile_at t j ≡ Nothing)) ⊎ BothAt s t j
+    go : (l : List (ℕ × List ℕ)) → record_of_tile s j ≡ l → ((tile_at s j ≡ None) × (tile_at t j ≡ None)) ⊎ BothAt s t j
     go [] i = inl (found_first s o j ∙ ap first_place i, found_first t q j ∙ ap first_place (e ∙ i))
     go (p ∷ ps) i =
         let a = found_stands s o j p ps i in

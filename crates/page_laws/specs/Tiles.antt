@@ -1,12 +1,10 @@
 -- Req 03: "the tiles are those of a map from index to bytes, untouched compressed tiles and metadata kept as they are". What a page's
 -- tiles and metadata are, whether it is accepted or open for writing, and what calls keep of a page.
-use Rattle.std.specs.Prelude.{ℕ, ◌-◌, ◌≤◌, ◌≡◌, List, [], ◌∷◌, ◌++◌, map, Bool, false, length, eqb}
+use Rattle.std.specs.Prelude.{ℕ, ◌-◌, ◌≤◌, ◌≡◌, List, [], ◌∷◌, ◌++◌, map, Bool, false, length, eqb, None, Option, Some}
 use Rattle.wire.specs.Pick.{pick}
 use Rattle.wire.specs.Bytes.{part, Same}
 use Rattle.wire.specs.Lists.{below}
 use Rattle.record.specs.Types.{tile_type, tile_directory_type, metadata_type, metadata_directory_type}
-use Rattle.record.specs.declared.Found.{Found}
-use Rattle.record.specs.declared.Found.TheVariants.{At, Nothing}
 use Rattle.record.specs.Chain.{header_end}
 use Rattle.header.specs.Fields.{element_count}
 use Rattle.bodies.specs.TileRecord.{tile_index, section_length, element_content_at}
@@ -19,9 +17,9 @@ unfoldable pub contents_in : List ℕ → ℕ → List (List ℕ)
 contents_in s x = map (λ e. part s (element_content_at s x e) (section_length s x e)) (below (element_count s))
 
 -- the map: what tile i holds; nothing where it is not stored. A page has an element, so a stored tile holds something
-abbrev pub contents_of : List ℕ → Found → List (List ℕ)
-contents_of s Nothing = []
-contents_of s (At x) = contents_in s x
+abbrev pub contents_of : List ℕ → Option ℕ → List (List ℕ)
+contents_of s None = []
+contents_of s (Some x) = contents_in s x
 
 unfoldable pub tiles_of : List ℕ → ℕ → List (List ℕ)
 tiles_of s i = contents_of s (tile_at s i)

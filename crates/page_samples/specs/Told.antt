@@ -1,5 +1,6 @@
 -- What a page says, of some pages: its listing, its numbers and elements, a fill of each type, and cells where the directory is at fault.
-use Rattle.std.specs.Prelude.{ℕ, ◌≡◌, List, [], ◌∷◌, ◌++◌, map}
+use Rattle.std.specs.Prelude.{ℕ, ◌≡◌, List, [], ◌∷◌, ◌++◌, map, Err, Result, Ok}
+use Rattle.answer.specs.declared.Refusal.{Refusal}
 use Rattle.wire.specs.Bytes.{put}
 use Rattle.answer.specs.declared.Refusal.TheVariants as refusal
 use Rattle.answer.specs.declared.Cell.{Cell}
@@ -7,7 +8,6 @@ use Rattle.answer.specs.declared.Cell.TheVariants as cell
 use Rattle.answer.specs.Refusals.{refusal_number, refusal_place}
 use Rattle.answer.specs.Answers.{cell_kind, cell_bits, cell_place}
 use Rattle.cells.specs.Reads.{read_by_directory, read_by_walk, read_by_records, read_meaning}
-use Rattle.store.specs.declared.description.Specified.TheVariants as specified_as
 use Rattle.store.specs.Description.{numbers_of_page, specified}
 use Rattle.listing.specs.Listing.{listing, most_listed}
 use Rattle.check_samples.specs.Rows.{ruled}
@@ -28,7 +28,7 @@ abbrev pub refused_text : List ℕ
 refused_text = 114 ∷ 101 ∷ 102 ∷ 117 ∷ 115 ∷ 101 ∷ 100 ∷ 32 ∷ 54 ∷ 32 ∷ 97 ∷ 116 ∷ 32 ∷ 51 ∷ 54 ∷ 56 ∷ 10 ∷ []
 
 -- a cell's kind, bits and place
-abbrev pub kind_bits_place : Cell → List ℕ
+abbrev pub kind_bits_place : Result Cell Refusal → List ℕ
 kind_bits_place x = cell_kind x ∷ cell_bits x ∷ cell_place x ∷ []
 
 pub record ToldSo : Type 0 where
@@ -49,17 +49,17 @@ pub record ToldSo : Type 0 where
         checksums = 0;
       }
   -- type, fill, the name's place and length, the unit's place and length, of which `m` is the first element's
-  pub first_element : specified (put ruled 312 (1 ∷ 0 ∷ 109 ∷ [])) 0 ≡ specified_as.Element 3 7 294 1 314 1
-  pub second_element : specified (put ruled 312 (1 ∷ 0 ∷ 109 ∷ [])) 1 ≡ specified_as.Element 0 9 326 1 346 0
-  pub no_element : specified ruled 2 ≡ specified_as.Refused refusal.OutsideGrid
+  pub first_element : specified (put ruled 312 (1 ∷ 0 ∷ 109 ∷ [])) 0 ≡ Ok (record { kind = 3; fill = 7; name = 294; name_length = 1; unit = 314; unit_length = 1 })
+  pub second_element : specified (put ruled 312 (1 ∷ 0 ∷ 109 ∷ [])) 1 ≡ Ok (record { kind = 0; fill = 9; name = 326; name_length = 1; unit = 346; unit_length = 0 })
+  pub no_element : specified ruled 2 ≡ Err refusal.OutsideGrid
   -- fills of a Short, an Integer, an integer-coded Float and a Float
   pub short_fill : kind_bits_place (read_meaning ruled 256 0 1 0) ≡ 33 ∷ 7 ∷ 0 ∷ []
   pub integer_fill : kind_bits_place (read_meaning ruled 256 0 1 1) ≡ 33 ∷ 9 ∷ 0 ∷ []
   pub coded_fill : kind_bits_place (read_meaning coded 256 0 0 0) ≡ 33 ∷ 134678021 ∷ 0 ∷ []
   pub float_fill : kind_bits_place (read_meaning coded 256 0 0 1) ≡ 33 ∷ 2143289345 ∷ 0 ∷ []
   -- the directory does not list tile 0: both routes refuse with 9, the walk without stage 9 reads
-  pub by_directory : read_by_directory (put ruled 520 (0 ∷ [])) 256 0 0 0 ≡ cell.Refused refusal.Directory
-  pub by_walk : read_by_walk (put ruled 520 (0 ∷ [])) 256 0 0 0 ≡ cell.Refused refusal.Directory
+  pub by_directory : read_by_directory (put ruled 520 (0 ∷ [])) 256 0 0 0 ≡ Err refusal.Directory
+  pub by_walk : read_by_walk (put ruled 520 (0 ∷ [])) 256 0 0 0 ≡ Err refusal.Directory
   pub by_records : kind_bits_place (read_by_records (put ruled 520 (0 ∷ [])) 256 0 0 0) ≡ 32 ∷ 9500 ∷ 384 ∷ []
 
 -- the numbers of the refusals and their places: that of stages 6 to 8, 11 and 14 is given, that of stage 9 is 16, any other is 0

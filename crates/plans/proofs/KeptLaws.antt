@@ -1,4 +1,5 @@
 -- A walk over the records that are kept, and their number. Assumes nothing.
+use Rattle.std.specs.Prelude.{None, Option, Some}
 use Prim.Native.Nat.{ℕ, suc, ◌+◌, ◌-◌, ◌≤◌, ◌<◌}
 use mathlib.Core.Path.{◌≡◌, refl, sym, ap, ◌∙◌}
 use mathlib.Core.List.{List, [], ◌∷◌}
@@ -7,8 +8,6 @@ use native.Mathlib.Omega.{arith}
 use lib.ListN.{length}
 use borrow.Author.Tests.{eq-eqb, ne_eqb}
 use Rattle.wire.specs.Lists.{select}
-use Rattle.record.specs.declared.Found.{Found}
-use Rattle.record.specs.declared.Found.TheVariants.{At, Nothing}
 use Rattle.record.specs.Record.{type_at, length_at, record_ok}
 use Rattle.record.specs.Chain.{starts, header_end, records, first_record}
 use Rattle.record.proofs.ChainLaws.{IsRecord, ok_means, starts_none, starts_record, by_chain, first_none, first_here, first_next}
@@ -53,13 +52,13 @@ pub record Next (s : List ℕ) (at x : ℕ) : Type 0 where
 other : {C : Type 0} → ◌≡◌ {A = ℕ} 0 1 → C
 other e = absurd (omega arith)
 
-next_at : (s : List ℕ) (x at : ℕ) → At x ≡ first_record s at (is_kept s) → Next s at x
-next_at s x = by_chain s (λ at. At x ≡ first_record s at (is_kept s) → Next s at x) none more
+next_at : (s : List ℕ) (x at : ℕ) → Some x ≡ first_record s at (is_kept s) → Next s at x
+next_at s x = by_chain s (λ at. Some x ≡ first_record s at (is_kept s) → Next s at x) none more
   where
-    none : (at : ℕ) → record_ok s at ≡ false → At x ≡ first_record s at (is_kept s) → Next s at x
+    none : (at : ℕ) → record_ok s at ≡ false → Some x ≡ first_record s at (is_kept s) → Next s at x
     none at o e = let z = first_none (is_kept s) s at o in other (cc)
 
-    more : (at : ℕ) → record_ok s at ≡ true → (At x ≡ first_record s (at + length_at s at) (is_kept s) → Next s (at + length_at s at) x) → At x ≡ first_record s at (is_kept s) → Next s at x
+    more : (at : ℕ) → record_ok s at ≡ true → (Some x ≡ first_record s (at + length_at s at) (is_kept s) → Next s (at + length_at s at) x) → Some x ≡ first_record s at (is_kept s) → Next s at x
     more at o r e = go (is_kept s at) refl
       where
         go : (b : Bool) → is_kept s at ≡ b → Next s at x
@@ -71,21 +70,21 @@ next_at s x = by_chain s (λ at. At x ≡ first_record s at (is_kept s) → Next
             let n = r (e ∙ first_next (is_kept s) s at o h) in
             record { behind = omega (arith, n.behind); is = n.is; here = kept_pass s at o h ∙ n.here }
 
-pub next_none : (s : List ℕ) (at : ℕ) {r : Found} → r ≡ first_record s at (is_kept s) → r ≡ Nothing → kept_from s at ≡ []
-next_none s at p q = by_chain s (λ at. Nothing ≡ first_record s at (is_kept s) → kept_from s at ≡ []) (λ at o e. kept_none s at o) more at (sym q ∙ p)
+pub next_none : (s : List ℕ) (at : ℕ) {r : Option ℕ} → r ≡ first_record s at (is_kept s) → r ≡ None → kept_from s at ≡ []
+next_none s at p q = by_chain s (λ at. None ≡ first_record s at (is_kept s) → kept_from s at ≡ []) (λ at o e. kept_none s at o) more at (sym q ∙ p)
   where
-    more : (at : ℕ) → record_ok s at ≡ true → (Nothing ≡ first_record s (at + length_at s at) (is_kept s) → kept_from s (at + length_at s at) ≡ []) → Nothing ≡ first_record s at (is_kept s) → kept_from s at ≡ []
+    more : (at : ℕ) → record_ok s at ≡ true → (None ≡ first_record s (at + length_at s at) (is_kept s) → kept_from s (at + length_at s at) ≡ []) → None ≡ first_record s at (is_kept s) → kept_from s at ≡ []
     more at o r e = go (is_kept s at) refl
       where
         go : (b : Bool) → is_kept s at ≡ b → kept_from s at ≡ []
         go true h = let z = first_here (is_kept s) s at o h in other (cc)
         go false h = kept_pass s at o h ∙ r (e ∙ first_next (is_kept s) s at o h)
 
-pub next_is : (s : List ℕ) (at x : ℕ) {r : Found} → r ≡ first_record s at (is_kept s) → r ≡ At x → Next s at x
+pub next_is : (s : List ℕ) (at x : ℕ) {r : Option ℕ} → r ≡ first_record s at (is_kept s) → r ≡ Some x → Next s at x
 next_is s at x p q = next_at s x at (sym q ∙ p)
 
 -- and n its length: the walk goes on, within the page
-module _ (s : List ℕ) (at x n : ℕ) (r : Found) (p : r ≡ first_record s at (is_kept s)) (q : r ≡ At x) (e : n ≡ length_at s x) where
+module _ (s : List ℕ) (at x n : ℕ) (r : Option ℕ) (p : r ≡ first_record s at (is_kept s)) (q : r ≡ Some x) (e : n ≡ length_at s x) where
   pub next_room : x + n ≤ length s
   next_room = omega (arith, (next_is s at x p q).is.inside, e)
 
@@ -100,11 +99,11 @@ pub record Counting (s : List ℕ) (at found : ℕ) : Type 0 where
 pub counting_begin : (s : List ℕ) (at : ℕ) → at ≡ header_end s → Counting s at 0
 counting_begin s at e = record { same = let z = ap (λ (y : ℕ). length (kept_from s y)) e ∙ ap length (kept_all s) in omega arith; few = omega arith }
 
-module _ {s : List ℕ} {at found : ℕ} {r : Found} (t : Counting s at found) (p : r ≡ first_record s at (is_kept s)) where
-  pub counting_over : r ≡ Nothing → found ≡ length (kept_starts s)
+module _ {s : List ℕ} {at found : ℕ} {r : Option ℕ} (t : Counting s at found) (p : r ≡ first_record s at (is_kept s)) where
+  pub counting_over : r ≡ None → found ≡ length (kept_starts s)
   counting_over q = omega (arith, t.same, ap length (next_none s at p q))
 
-  module _ {x n : ℕ} (q : r ≡ At x) (e : n ≡ length_at s x) where
+  module _ {x n : ℕ} (q : r ≡ Some x) (e : n ≡ length_at s x) where
     pub counting_more : Counting s (x + n) (found + 1)
     counting_more =
         let h = next_is s at x p q in

@@ -1,4 +1,5 @@
 -- Both starts in one number: a plan takes the old ones in and lets them go. Assumes nothing.
+use Rattle.std.specs.Prelude.{None, Option, Some}
 use Prim.Native.Nat.{ℕ, zero, suc, ◌+◌, ◌≤◌, ◌<◌}
 use mathlib.Core.Path.{◌≡◌, refl, sym, ap, ap₂, ◌∙◌}
 use mathlib.Core.List.{List, [], ◌∷◌, ◌++◌, append-nil, Memᴰ}
@@ -9,8 +10,6 @@ use lib.Seq.{take_all, take-suc-set, drop-cons, drop-set-lt, append_snoc}
 use Rattle.wire.specs.Pick.{pick}
 use Rattle.wire.proofs.ListLaws.{Behind, behind_select, select_member}
 use Rattle.wire.proofs.TestLaws.{not_both}
-use Rattle.record.specs.declared.Found.{Found}
-use Rattle.record.specs.declared.Found.TheVariants.{At, Nothing}
 use Rattle.record.specs.Record.{length_at}
 use Rattle.record.specs.Chain.{header_end, records, first_record}
 use Rattle.record.proofs.ChainLaws.{ok_means, starts_behind, starts_ok}
@@ -61,14 +60,14 @@ pub packing_end : {s old now : List ℕ} {at k : ℕ} → TakingIn s old now at 
 packing_end {s} {old} {now} {at} {k} t h =
     sym (done_all now k h) ∙ ap (λ (l : List ℕ). take k now ++ l) (sym (ap (both_starts (kept_from s at)) (drop_of_length-le now h) ∙ packed_end _)) ∙ t.same
 
-module _ {s old now : List ℕ} {at k : ℕ} {r : Found} (t : TakingIn s old now at k) (u : r ≡ first_record s at (is_kept s)) where
-  pub packing_none : r ≡ Nothing → now ≡ both_starts (kept_starts s) old
+module _ {s old now : List ℕ} {at k : ℕ} {r : Option ℕ} (t : TakingIn s old now at k) (u : r ≡ first_record s at (is_kept s)) where
+  pub packing_none : r ≡ None → now ≡ both_starts (kept_starts s) old
   packing_none v =
       sym (take-append-drop k now) ∙ ap (λ (l : List ℕ). take k now ++ l) (sym (ap (λ (xs : List ℕ). both_starts xs (drop k now)) (next_none s at u v) ∙ packed_none (drop k now)))
       ∙ t.same
 
   pub packing_more :
-      {x n z : ℕ} → r ≡ At x → k < length now → z ≡ both_in x (get_or now k 0) → n ≡ length_at s x → TakingIn s old (set now k z) (x + n) (k + 1)
+      {x n z : ℕ} → r ≡ Some x → k < length now → z ≡ both_in x (get_or now k 0) → n ≡ length_at s x → TakingIn s old (set now k z) (x + n) (k + 1)
   packing_more {x} {n} {z} v h e m =
       let y = kept_from s (x + length_at s x) in
       let a : both_starts (kept_from s at) (drop k now) ≡ z ∷ both_starts y (drop (suc k) now) =

@@ -1,4 +1,5 @@
 -- The tight plan, put into a list start by start. Assumes nothing.
+use Rattle.std.specs.Prelude.{Err, None, Ok, Option, Some}
 use Prim.Native.Nat.{ℕ, suc, ◌+◌, ◌≤◌, ◌<◌}
 use mathlib.Core.Path.{◌≡◌, refl, sym, ap, ◌∙◌}
 use mathlib.Core.List.{List, [], ◌∷◌}
@@ -9,11 +10,7 @@ use Rattle.wire.specs.Bytes.{put}
 use Rattle.wire.proofs.PutLaws.{put_not, put_nil, put_one, put_put}
 use Rattle.wire.proofs.TestLaws.{yes, no}
 use Rattle.answer.specs.declared.Refusal.TheVariants.{Room}
-use Rattle.answer.specs.declared.Verdict.TheVariants.{Accepted}
-use Rattle.answer.specs.declared.Laid.TheVariants.{Length, Refused}
 use Rattle.answer.specs.Refusals.{gate, unless_refused}
-use Rattle.record.specs.declared.Found.{Found}
-use Rattle.record.specs.declared.Found.TheVariants.{At, Nothing}
 use Rattle.record.specs.Record.{length_at}
 use Rattle.record.specs.Chain.{header_end, first_record}
 use Rattle.correct.specs.Plan.{is_kept, kept_starts, end_from, planned_end, tight_from, tight_plan}
@@ -74,8 +71,8 @@ sliding_begin s old at h e =
       low = omega arith;
     }
 
-module _ {s old now : List ℕ} {at e k : ℕ} {r : Found} (t : Sliding s old now at e k) (u : r ≡ first_record s at (is_kept s)) where
-  module _ (v : r ≡ Nothing) where
+module _ {s old now : List ℕ} {at e k : ℕ} {r : Option ℕ} (t : Sliding s old now at e k) (u : r ≡ first_record s at (is_kept s)) where
+  module _ (v : r ≡ None) where
     pub sliding_end : e ≡ planned_end s (tight_plan s)
     sliding_end = sym (end_none s e) ∙ ap (tight_end s e) (sym (next_none s at u v)) ∙ t.end
 
@@ -83,7 +80,7 @@ module _ {s old now : List ℕ} {at e k : ℕ} {r : Found} (t : Sliding s old no
     sliding_plan =
         sym (put_nil now k) ∙ ap (put now k) (sym (ap (tight_from s e) (next_none s at u v) ∙ tight_none s e)) ∙ t.plan
 
-  module _ {x n : ℕ} (v : r ≡ At x) (m : n ≡ length_at s x) where
+  module _ {x n : ℕ} (v : r ≡ Some x) (m : n ≡ length_at s x) where
     pub sliding_index : k < length now
     sliding_index = omega (arith, t.room, ap length (next_is s at x u v).here)
 
@@ -107,11 +104,11 @@ module _ {s old now : List ℕ} {at e k : ℕ} {r : Found} (t : Sliding s old no
 
 -- the room
 
-pub starts_not : (s ps : List ℕ) (n : ℕ) → length ps < length (kept_starts s) → Refused Room ≡ answered (starts_then s ps Accepted) n
+pub starts_not : (s ps : List ℕ) (n : ℕ) → length ps < length (kept_starts s) → Err Room ≡ answered (starts_then s ps (Ok tt)) n
 unfolding starts_then answered gate unless_refused
 starts_not s ps n h = rw (sym (no ((length (kept_starts s) ≤? length ps) ∷ []) (λ z. omega (arith, z.0))))
 
-pub starts_fit : (s ps : List ℕ) (n m : ℕ) → length (kept_starts s) ≤ length ps → n ≡ m → Length n ≡ answered (starts_then s ps Accepted) m
+pub starts_fit : (s ps : List ℕ) (n m : ℕ) → length (kept_starts s) ≤ length ps → n ≡ m → Ok n ≡ answered (starts_then s ps (Ok tt)) m
 unfolding starts_then answered gate unless_refused
 starts_fit s ps n m h e = rw (sym (yes ((length (kept_starts s) ≤? length ps) ∷ []) (h, tt)), e)
 

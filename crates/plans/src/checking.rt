@@ -1,12 +1,11 @@
 // Whether a plan of new starts is right, and how long the page would then be.
-ghost use Rattle.std.specs.Prelude.{◌≡◌};
-ghost use Rattle.answer.specs.declared.Verdict.TheVariants.{Accepted};
+ghost use Rattle.std.specs.Prelude.{◌≡◌, Ok};
 ghost use Rattle.correct.specs.Plan.{start_right, planned_end};
 ghost use Rattle.correct.specs.Answers.{plan_then, answered};
 
 use crate::kept;
-use answer::{Laid, Refusal};
-use record::{Found, chain};
+use answer::Refusal;
+use record::chain;
 
 // One new start p, of the record at x, behind what ends at e. What is not up is small, so no sum wraps.
 fn start_right(e: usize, x: usize, p: u64) -> bool
@@ -32,8 +31,8 @@ fn start_right(e: usize, x: usize, p: u64) -> bool
 }
 
 // One walk over the records that are kept: the length that the page would have, or 12.
-pub fn check_plan(s: &[u8], plan: &[u64]) -> Laid
-    ensures { result ≡ answered (plan_then s.now plan.now Accepted) (planned_end s.now plan.now) }
+pub fn check_plan(s: &[u8], plan: &[u64]) -> Result<usize, Refusal>
+    ensures { result ≡ answered (plan_then s.now plan.now (Ok tt)) (planned_end s.now plan.now) }
 {
     let mut at = chain::header_end(s);
     let mut e = at;
@@ -41,21 +40,21 @@ pub fn check_plan(s: &[u8], plan: &[u64]) -> Laid
     while k < plan.len() {
         let p = plan[k];
         match kept::next_kept(s, at) {
-            Found::Nothing => return Laid::Refused(Refusal::Input),
-            Found::At(x) => {
+            None => return Err(Refusal::Input),
+            Some(x) => {
                 if start_right(e, x, p) {
                     let n = wire::u32_at(s, x) as usize;
                     at = x + n;
                     e = p as usize + n;
                     k += 1;
                 } else {
-                    return Laid::Refused(Refusal::Input);
+                    return Err(Refusal::Input);
                 }
             }
         }
     }
     match kept::next_kept(s, at) {
-        Found::Nothing => Laid::Length(e),
-        Found::At(_) => Laid::Refused(Refusal::Input),
+        None => Ok(e),
+        Some(_) => Err(Refusal::Input),
     }
 }

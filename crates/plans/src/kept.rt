@@ -4,7 +4,7 @@ ghost use Rattle.record.specs.Record.{type_at};
 ghost use Rattle.record.specs.Chain.{first_record};
 ghost use Rattle.correct.specs.Plan.{is_kept, kept_starts};
 
-use record::{Cursor, Found, Step, chain};
+use record::{Cursor, Step, chain};
 
 // Whether the record of a type at a position is kept: it is not free.
 fn is_kept(s: &[u8], kind: u32, at: usize) -> bool
@@ -18,7 +18,7 @@ fn is_kept(s: &[u8], kind: u32, at: usize) -> bool
 }
 
 // The first such record from a position on.
-pub fn next_kept(s: &[u8], at: usize) -> Found
+pub fn next_kept(s: &[u8], at: usize) -> Option<usize>
     ensures { result ≡ first_record s.now at (is_kept s.now) }
 {
     let mut c = Cursor { at };
@@ -30,10 +30,10 @@ pub fn next_kept(s: &[u8], at: usize) -> Found
             next,
         } = c.step(s)
         else {
-            return Found::Nothing;
+            return None;
         };
         if is_kept(s, kind, start) {
-            return Found::At(start);
+            return Some(start);
         }
         c = next;
     }
@@ -47,8 +47,8 @@ pub fn kept_count(s: &[u8]) -> usize
     let mut found = 0;
     loop {
         match next_kept(s, at) {
-            Found::Nothing => return found,
-            Found::At(x) => {
+            None => return found,
+            Some(x) => {
                 at = x + wire::u32_at(s, x) as usize;
                 found += 1;
             }

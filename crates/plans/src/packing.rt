@@ -4,7 +4,7 @@ ghost use Rattle.correct.specs.Plan.{kept_starts};
 ghost use Rattle.plans.specs.Moved.{both_in, both_starts, new_starts};
 
 use crate::kept;
-use record::{Found, chain};
+use record::chain;
 
 // The old start above, the new one below.
 fn both_in(x: u64, p: u64) -> u64
@@ -21,8 +21,8 @@ pub fn pack(s: &[u8], plan: &mut [u64])
     let mut k = 0;
     while k < plan.len() {
         match kept::next_kept(s, at) {
-            Found::Nothing => return,
-            Found::At(x) => {
+            None => return,
+            Some(x) => {
                 plan[k] = both_in(x as u64, plan[k]);
                 at = x + wire::u32_at(s, x) as usize;
                 k += 1;

@@ -1,14 +1,13 @@
 // The plan that slides every record against the one before it.
-ghost use Rattle.std.specs.Prelude.{◌≡◌, ◌≤◌, length};
-ghost use Rattle.answer.specs.declared.Verdict.TheVariants.{Accepted};
+ghost use Rattle.std.specs.Prelude.{◌≡◌, ◌≤◌, length, Ok};
 ghost use Rattle.wire.specs.Bytes.{put};
 ghost use Rattle.correct.specs.Plan.{kept_starts, planned_end, tight_plan};
 ghost use Rattle.correct.specs.Answers.{answered};
 ghost use Rattle.plans.specs.Tight.{starts_then};
 
 use crate::kept;
-use answer::{Laid, Refusal};
-use record::{Found, chain};
+use answer::Refusal;
+use record::chain;
 
 // Its starts put into a list that has room for them, and where the last record then ends.
 fn lay_tight(s: &[u8], plan: &mut [u64]) -> usize
@@ -21,8 +20,8 @@ fn lay_tight(s: &[u8], plan: &mut [u64]) -> usize
     let mut k = 0;
     loop {
         match kept::next_kept(s, at) {
-            Found::Nothing => return e,
-            Found::At(x) => {
+            None => return e,
+            Some(x) => {
                 let n = wire::u32_at(s, x) as usize;
                 plan[k] = e as u64;
                 at = x + n;
@@ -34,12 +33,12 @@ fn lay_tight(s: &[u8], plan: &mut [u64]) -> usize
 }
 
 // The same where there is room, else 13 and the list as it was: what does not fit is not put.
-pub fn tight_plan(s: &[u8], plan: &mut [u64]) -> Laid
-    ensures answer { result ≡ answered (starts_then s.now plan.old Accepted) (planned_end s.now (tight_plan s.now)) }
+pub fn tight_plan(s: &[u8], plan: &mut [u64]) -> Result<usize, Refusal>
+    ensures answer { result ≡ answered (starts_then s.now plan.old (Ok tt)) (planned_end s.now (tight_plan s.now)) }
     ensures plan { plan.new ≡ put plan.old 0 (tight_plan s.now) }
 {
     if plan.len() < kept::kept_count(s) {
-        return Laid::Refused(Refusal::Room);
+        return Err(Refusal::Room);
     }
-    Laid::Length(lay_tight(s, plan))
+    Ok(lay_tight(s, plan))
 }

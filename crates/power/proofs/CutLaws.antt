@@ -1,4 +1,5 @@
 -- Writes that reach into nothing that stages 1 to 4 judge, stopped anywhere, leave a file refused with 5. Assumes nothing.
+use Rattle.std.specs.Prelude.{Err}
 use Prim.Native.Nat.{ℕ, zero, suc, ◌+◌, ◌-◌, ◌≤◌, ◌<◌}
 use native.Mathlib.Omega.{arith}
 use mathlib.Core.Path.{◌≡◌, refl, sym, ap, ◌∙◌}
@@ -12,7 +13,6 @@ use Rattle.wire.proofs.TestLaws.{no}
 use Rattle.wire.proofs.ByteLaws.{same_sym, same_append, part_at_lem, zeros_length}
 use Rattle.wire.proofs.PutLaws.{put_same, put_each_lem, length_put}
 use Rattle.answer.specs.declared.Refusal.TheVariants.{Opened}
-use Rattle.answer.specs.declared.Verdict.TheVariants.{Refused}
 use Rattle.answer.specs.Refusals.{gate, unless_refused}
 use Rattle.record.specs.Chain.{header_end}
 use Rattle.check_header.specs.Stages.{closed, first_two, next_two, stages, check_header}
@@ -46,7 +46,7 @@ opened_byte s p g h l z = sym (no _ (λ e. z (at_place (number_none (part s 48 8
 
 -- what is judged is that of a good header, and a byte of the opened time is not zero: refused with 5, whatever the length
 
-header_five : (s : List ℕ) → Headed s (length s) → closed s ≡ false → check s ≡ Refused Opened
+header_five : (s : List ℕ) → Headed s (length s) → closed s ≡ false → check s ≡ Err Opened
 unfolding check unless_refused check_header stages first_two next_two gate
 header_five s h c = rw (h.block, h.version, h.header, h.ceilings, c)
 
@@ -57,7 +57,7 @@ taken_same d l a b h k =
 
 pub in_between :
     (s d : List ℕ) (n l p : ℕ) → Headed s n → SameJudged s d → 288 ≤ header_end s → 48 ≤ p → p < 56 → (byte_at d p ≡ 0 → ⊥) → header_end s ≤ l →
-    l ≤ 16777216 → l ≤ length d → check (take l d) ≡ Refused Opened
+    l ≤ 16777216 → l ≤ length d → check (take l d) ≡ Err Opened
 in_between s d n l p h j e g q z a b c =
     let m : length (take l d) ≡ l = length-take-le l d c in
     let k = judged_then j e (taken_same d l 0 40 c (omega arith)) (taken_same d l 88 (header_end s - 4) c (omega arith)) (omega arith) in
@@ -129,7 +129,7 @@ module _ (s b : List ℕ) (n p : ℕ) (ws : List Write) (h : Headed s n) (j : Sa
       ∙ ap (stopped (k - 1) w.middle) (begun_run k i)
 
   pub between_refused :
-      (k : ℕ) → 0 < k → k < store_count ws → (m : ℕ) → header_end s ≤ m → m ≤ 16777216 → m ≤ length b → check (take m (stopped k ws b)) ≡ Refused Opened
+      (k : ℕ) → 0 < k → k < store_count ws → (m : ℕ) → header_end s ≤ m → m ≤ 16777216 → m ≤ length b → check (take m (stopped k ws b)) ≡ Err Opened
   between_refused k i c m x y z =
       let d = put b p w.first in
       let e = stopped_between k (omega arith) c in

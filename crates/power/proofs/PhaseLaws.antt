@@ -1,5 +1,7 @@
 -- A sequence of calls on an accepted file: before it is opened no byte is stored; then its stores begin with a byte of the opened time,
 -- and until it is closed none reaches into that byte or into what is judged. Assumes nothing.
+use Rattle.std.specs.Prelude.{Err, Ok, Result}
+use Rattle.answer.specs.declared.Refusal.{Refusal}
 use Prim.Native.Nat.{ℕ}
 use native.Mathlib.Omega.{arith}
 use mathlib.Core.Path.{◌≡◌, refl, sym, ap, ◌∙◌}
@@ -8,9 +10,6 @@ use mathlib.Core.List.{List, [], ◌∷◌, ◌++◌, append_assoc, append-nil}
 use mathlib.Core.Bool.{true}
 use Rattle.wire.specs.Bytes.{Bytes, bytes_of}
 use Rattle.wire.proofs.TestLaws.{not_both}
-use Rattle.answer.specs.declared.Verdict.TheVariants.{Accepted}
-use Rattle.answer.specs.declared.Laid.{Laid}
-use Rattle.answer.specs.declared.Laid.TheVariants.{Length, Refused}
 use Rattle.record.specs.Chain.{header_end}
 use Rattle.header.specs.Fields.{time_opened}
 use Rattle.check_header.specs.Judged.{SameJudged}
@@ -33,7 +32,7 @@ use Rattle.lawful.proofs.StepLaws.{line_in, refused_leaves, refused_stores, step
 use Rattle.power.specs.Calls.{stores_of_all, IsRefused, NoneCloses}
 
 -- a page that is accepted is not open for writing
-not_open : (p : List ℕ) → check p ≡ Accepted → open_for_writing p ≡ true → ⊥
+not_open : (p : List ℕ) → check p ≡ Ok tt → open_for_writing p ≡ true → ⊥
 not_open p a b = not_both (accepted_obeys p a).not_opened (open_means p b).opened
 
 -- the byte that an opening set is set still
@@ -47,7 +46,7 @@ marked_then {s = s} {page = page} ys m k =
     let z = time_same s page k.time in
     record { lowest = rw z m.lowest; begins = rw z (begins_append ys m.begins k.harmless) }
 
-module _ (st0 : State) (a0 : check (page_of st0) ≡ Accepted) where
+module _ (st0 : State) (a0 : check (page_of st0) ≡ Ok tt) where
   abbrev s : List ℕ
   s = page_of st0
 
@@ -78,7 +77,7 @@ module _ (st0 : State) (a0 : check (page_of st0) ≡ Accepted) where
   opens Role.Works c w l m = absurd (not_open s a0 w)
   opens Role.Closes c w l m = absurd (not_open s a0 w)
 
-  pub closes_not : (call : Call) (m : ℕ) → (kind_of call).role ≡ Role.Closes → Bytes st0.buffer → Given call → answer_of call st0 ≡ Length m → ⊥
+  pub closes_not : (call : Call) (m : ℕ) → (kind_of call).role ≡ Role.Closes → Bytes st0.buffer → Given call → answer_of call st0 ≡ Ok m → ⊥
   closes_not call m z b g q = go (kind_of call).role z (stepped call st0 m b g q).wanted
     where
       go : (r : Role) → r ≡ Role.Closes → Wants r s → ⊥
@@ -86,7 +85,7 @@ module _ (st0 : State) (a0 : check (page_of st0) ≡ Accepted) where
       go Role.Works f w = not_open s a0 w
       go Role.Closes f w = not_open s a0 w
 
-  first_call : (call : Call) (m : ℕ) → Bytes st0.buffer → Given call → answer_of call st0 ≡ Length m → OpenedBy (after call st0) (stores_of call st0)
+  first_call : (call : Call) (m : ℕ) → Bytes st0.buffer → Given call → answer_of call st0 ≡ Ok m → OpenedBy (after call st0) (stores_of call st0)
   first_call call m b g q =
       let w = stepped call st0 m b g q in
       let d = w.done in
@@ -104,7 +103,7 @@ module _ (st0 : State) (a0 : check (page_of st0) ≡ Accepted) where
 
   next_call :
       (call : Call) (st : State) (xs : List Write) (m : ℕ) → OpenedBy st xs → Bytes st.buffer → Given call →
-      ((kind_of call).role ≡ Role.Closes → IsRefused (answer_of call st)) → answer_of call st ≡ Length m → OpenedBy (after call st) (xs ++ stores_of call st)
+      ((kind_of call).role ≡ Role.Closes → IsRefused (answer_of call st)) → answer_of call st ≡ Ok m → OpenedBy (after call st) (xs ++ stores_of call st)
   next_call call st xs m w b g n q =
       let p = page_of st in
       let d = stepped call st m b g q in
@@ -121,13 +120,13 @@ module _ (st0 : State) (a0 : check (page_of st0) ≡ Accepted) where
       ((kind_of call).role ≡ Role.Closes → IsRefused (answer_of call st)) → Phase (after call st) (xs ++ stores_of call st)
   one_call call st xs p b g n = go (answer_of call st) refl
     where
-      go : (a : Laid) → answer_of call st ≡ a → Phase (after call st) (xs ++ stores_of call st)
-      go (Refused r) q = rw (refused_leaves call st r q, refused_stores call st r q, append-nil xs) p
-      go (Length m) q =
+      go : (a : Result ℕ Refusal) → answer_of call st ≡ a → Phase (after call st) (xs ++ stores_of call st)
+      go (Err r) q = rw (refused_leaves call st r q, refused_stores call st r q, append-nil xs) p
+      go (Ok m) q =
           ⊎_elim
           (λ y.
           let b0 : Bytes st0.buffer = rw y.same at b in
-          let q0 : answer_of call st0 ≡ Length m = rw y.same at q in
+          let q0 : answer_of call st0 ≡ Ok m = rw y.same at q in
           inr (rw (y.same, y.none) (first_call call m b0 g q0)))
           (λ w. inr (next_call call st xs m w b g n q)) p
 

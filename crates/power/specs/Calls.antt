@@ -1,8 +1,6 @@
 -- Req 05: a sequence of calls, cut after any byte store.
-use Rattle.std.specs.Prelude.{ℕ, ◌-◌, ◌≡◌, List, [], ◌∷◌, ◌++◌, leb}
+use Rattle.std.specs.Prelude.{ℕ, ◌-◌, ◌≡◌, List, [], ◌∷◌, ◌++◌, leb, Err, Result}
 use Rattle.wire.specs.Pick.{pick}
-use Rattle.answer.specs.declared.Laid.{Laid}
-use Rattle.answer.specs.declared.Laid.TheVariants.{Refused}
 use Rattle.answer.specs.declared.Refusal.{Refusal}
 use Rattle.stores.specs.Stores.{Write, store_count}
 use Rattle.correct.specs.Calls.{Call, Role, kind_of, stopped_by, State, change_in, answer_of, stores_of, after}
@@ -23,8 +21,8 @@ cut_at k (call ∷ calls) st =
     pick (leb (store_count (stores_of call st)) k) (cut_at (k - store_count (stores_of call st)) calls (after call st)) (stopped_out k call st)
 
 -- no closing among them but a refused one
-abbrev pub IsRefused : Laid → Type 0
-IsRefused a = (r : Refusal) × (a ≡ Refused r)
+abbrev pub IsRefused : Result ℕ Refusal → Type 0
+IsRefused a = (r : Refusal) × (a ≡ Err r)
 
 abbrev pub NoneCloses : List Call → State → Type 0
 NoneCloses [] st = Unit {0}

@@ -47,12 +47,9 @@ pub fn predict_row(p: u32, above: &[u32], row: &mut [u32])
 {
     let mut left = 0;
     let mut second = 0;
-    let mut i = 0;
-    while i < row.len() {
-        let v = corrected(p, above, i, left, second, row[i]);
-        row[i] = v;
+    for (i, cell) in row.iter_mut().enumerate() {
+        *cell = corrected(p, above, i, left, second, *cell);
         second = left;
-        left = v;
-        i += 1;
+        left = *cell;
     }
 }

@@ -1,4 +1,5 @@
 -- A file that is laid down obeys each rule, so the check accepts it. Assumes nothing.
+use Rattle.std.specs.Prelude.{Ok}
 use Prim.Native.Nat.{ℕ, ◌+◌, ◌*◌, ◌<◌}
 use mathlib.Core.Path.{◌≡◌, sym, ap, ◌∙◌, refl}
 use mathlib.Core.List.{List}
@@ -7,7 +8,6 @@ use mathlib.Core.Bool.{true}
 use native.Mathlib.Omega.{arith}
 use lib.ListN.{length, get_or}
 use Rattle.wire.proofs.ByteLaws.{bytes_append, bytes_part, bytes_of_lem}
-use Rattle.answer.specs.declared.Verdict.TheVariants.{Accepted}
 use Rattle.header.specs.Fields.{checksum_enabled, element_count}
 use Rattle.record.specs.Chain.{starts_of}
 use Rattle.record.specs.Record.{length_at}
@@ -75,5 +75,5 @@ module _ {f : List ℕ} {t : ℕ} {ix c : List ℕ} (l : Laying f t ix c) where
         file_space = space_laid l;
       }
 
-  pub laid_accepted : check (laid_file f t ix c) ≡ Accepted
+  pub laid_accepted : check (laid_file f t ix c) ≡ Ok tt
   laid_accepted = obeys_accepted _ _ laid_obeys

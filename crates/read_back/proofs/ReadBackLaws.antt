@@ -1,4 +1,5 @@
 -- A page laid down is accepted, and reads back (demand 2, second half). Assumes nothing.
+use Rattle.std.specs.Prelude.{None, Ok, Some}
 use Prim.Native.Nat.{ℕ, ◌+◌, ◌*◌, ◌-◌, ◌≤◌, ◌<◌}
 use mathlib.Core.Path.{◌≡◌, sym, ap, ◌∙◌}
 use mathlib.Core.List.{List}
@@ -13,7 +14,6 @@ use Rattle.wire.specs.Bytes.{part, number_at}
 use Rattle.wire.proofs.TestLaws.{yes}
 use Rattle.wire.proofs.PlaceLaws.{part_placed, placed_part}
 use Rattle.answer.specs.declared.Cell.TheVariants as cell
-use Rattle.answer.specs.declared.Content.TheVariants.{Present, Absent}
 use Rattle.answer.specs.Values.{value_of}
 use Rattle.header.specs.Fields.{grid_rows, grid_columns, element_count}
 use Rattle.header.specs.Element.{cell_size, element}
@@ -37,7 +37,6 @@ use Rattle.tile_routes.proofs.WayLaws.{directory_finds}
 use Rattle.written_records.proofs.TileLaws.{element_within}
 use Rattle.lay_down.specs.Page.{laid_file}
 use Rattle.lay_down.specs.Answer.{laid_out}
-use Rattle.record.specs.declared.Found.TheVariants.{At, Nothing}
 use Rattle.read_back.specs.ReadBack.{content_given, content_laid, cell_given, cell_laid, ListedAs, ReadBack}
 use Rattle.written_rules.proofs.PlainLaws.{tile_section, tile_holds, tile_bytes_lem}
 use Rattle.read_back.proofs.Setting.{Laying, laying_of, front_range, tiles_kept, tile_kept, size_kept, grid_kept, asked_kept, offset_kept, fill_kept, location_kept}
@@ -60,14 +59,14 @@ module _ {f : List ℕ} {t : ℕ} {ix c : List ℕ} (l : Laying f t ix c) where
 
   -- the record that is meant for a tile: that of a listed one, none of another
 
-  listed_found : (k : ℕ) → k < length ix → meant s (get_or ix k 0) ≡ At (start k)
+  listed_found : (k : ℕ) → k < length ix → meant s (get_or ix k 0) ≡ Some (start k)
   unfolding referred_to
   listed_found k h =
       let d : start k + 8 - 8 ≡ start k = omega arith in
       sym (directory_finds s one (get_or ix k 0) (omega (arith, index_below l k h, tiles_kept (front_kept l))))
       ∙ rw (given_reference l k h, ne_eqb (start k + 8) 0 (λ z. omega arith), d)
 
-  unlisted_none : (tile : ℕ) → tile < tile_count f → ((k : ℕ) → k < length ix → get_or ix k 0 ≡ tile → ⊥) → meant s tile ≡ Nothing
+  unlisted_none : (tile : ℕ) → tile < tile_count f → ((k : ℕ) → k < length ix → get_or ix k 0 ≡ tile → ⊥) → meant s tile ≡ None
   unfolding referred_to
   unlisted_none tile h none =
       let z : tile_reference s tile ≡ 0 =
@@ -105,7 +104,7 @@ module _ {f : List ℕ} {t : ℕ} {ix c : List ℕ} (l : Laying f t ix c) where
         let q : content_given f k e + 0 ≡ content_given f k e = omega arith in
         rw (p, q) at (bytes_given_lem 0 (element_bytes f e) (omega arith))
 
-    content_read : content_meaning s (get_or ix k 0) e ≡ Present (content_laid f k e) (element_bytes f e)
+    content_read : content_meaning s (get_or ix k 0) e ≡ Ok (Some (record { start = content_laid f k e; length = element_bytes f e }))
     unfolding content_meaning tile_by in_tiles content_in
     content_read =
         let i : in_tiles s (get_or ix k 0) e ≡ true =
@@ -114,7 +113,7 @@ module _ {f : List ℕ} {t : ℕ} {ix c : List ℕ} (l : Laying f t ix c) where
 
   -- a tile that is not listed
   absent_read :
-      (tile e : ℕ) → in_tiles f tile e ≡ true → ((k : ℕ) → k < length ix → get_or ix k 0 ≡ tile → ⊥) → content_meaning s tile e ≡ Absent
+      (tile e : ℕ) → in_tiles f tile e ≡ true → ((k : ℕ) → k < length ix → get_or ix k 0 ≡ tile → ⊥) → content_meaning s tile e ≡ Ok None
   unfolding content_meaning tile_by
   absent_read tile e i none = rw (asked_kept (front_kept l) tile e, i, unlisted_none tile (tiles_mean f tile e i).0 none)
 
@@ -148,12 +147,11 @@ module _ {f : List ℕ} {t : ℕ} {ix c : List ℕ} (l : Laying f t ix c) where
 
       stored_read :
           (ci : ℕ) → meaning s ci row column e
-          ≡ cell.Stored (value_of (element f e).kind (number_at (cell_size (element f e).kind) c (cell_given f k row column e))) (cell_laid f k row column e)
-          (location_of f row column)
+          ≡ Ok (cell.Stored (value_of (element f e).kind (number_at (cell_size (element f e).kind) c (cell_given f k row column e))) (cell_laid f k row column e) (location_of f row column))
       unfolding meaning cell_by cell_in cell_from packed place_in number_at
       stored_read ci =
           let g = asked.1.1 in
-          let r : meant s (cell_tile s row column) ≡ At (start k) = ap (meant s) (tile_kept (front_kept l) row column ∙ sym q.tile) ∙ listed_found k q.among in
+          let r : meant s (cell_tile s row column) ≡ Some (start k) = ap (meant s) (tile_kept (front_kept l) row column ∙ sym q.tile) ∙ listed_found k q.among in
           rw (grid_kept (front_kept l) row column e, i, r, tile_whole (front_kept l) (tile_here l k q.among) e g, place, location_kept (front_kept l) row column, (front_kept l).elements e g, cell_bytes)
 
 pub read_back : ReadBack

@@ -1,4 +1,6 @@
 -- What a lay-down that is not refused was given, and the fields of its front that the file keeps. Assumes nothing.
+use Rattle.std.specs.Prelude.{Err, Ok, Result, ⊤}
+use Rattle.answer.specs.declared.Refusal.{Refusal}
 use Prim.Native.Nat.{ℕ, ◌*◌, ◌%◌, ◌≤◌, ◌<◌}
 use mathlib.Core.Path.{◌≡◌, refl}
 use mathlib.Core.List.{List}
@@ -7,9 +9,6 @@ use native.Mathlib.Omega.{arith}
 use lib.ListN.{length}
 use Rattle.wire.specs.Bytes.{Bytes}
 use Rattle.wire.proofs.TestLaws.{means}
-use Rattle.answer.specs.declared.Verdict.{Verdict}
-use Rattle.answer.specs.declared.Verdict.TheVariants as verdict
-use Rattle.answer.specs.declared.Laid.TheVariants.{Length, Refused}
 use Rattle.answer.specs.Refusals.{unless_refused}
 use Rattle.header.specs.Fields.{grid_rows, grid_columns, tile_rows, tile_columns, checksum_enabled, element_count}
 use Rattle.record.specs.Chain.{header_end}
@@ -36,12 +35,12 @@ pub record Laying (f : List ℕ) (t : ℕ) (ix c : List ℕ) : Type 0 where
   pub front_bytes : Bytes f
   pub cell_bytes : Bytes c
 
-lengths_are : (v : Verdict) (n m : ℕ) → unless_refused Refused v (Length n) ≡ Length m → (v ≡ verdict.Accepted) × (n ≡ m)
+lengths_are : (v : Result ⊤ Refusal) (n m : ℕ) → unless_refused Err v (Ok n) ≡ Ok m → (v ≡ Ok tt) × (n ≡ m)
 unfolding unless_refused
-lengths_are verdict.Accepted n m e = (refl, cc)
-lengths_are (verdict.Refused r) n m e = let z : ◌≡◌ {A = ℕ} 0 1 = cc in absurd (omega arith)
+lengths_are (Ok accepted) n m e = (refl, cc)
+lengths_are (Err r) n m e = let z : ◌≡◌ {A = ℕ} 0 1 = cc in absurd (omega arith)
 
-pub laying_of : (f : List ℕ) (t : ℕ) (ix c : List ℕ) (room n : ℕ) → Bytes f → Bytes c → laid f t ix c room ≡ Length n → Laying f t ix c × (file_length f ix ≡ n)
+pub laying_of : (f : List ℕ) (t : ℕ) (ix c : List ℕ) (room n : ℕ) → Bytes f → Bytes c → laid f t ix c room ≡ Ok n → Laying f t ix c × (file_length f ix ≡ n)
 unfolding laid
 laying_of f t ix c room n b d e =
     let a = lengths_are _ _ _ e in

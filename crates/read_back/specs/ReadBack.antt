@@ -1,13 +1,10 @@
 -- Demand 2, second half: a page laid down is accepted, and reads back. f is the front, t the time modified, ix the tile indexes, c the
 -- cell bytes of those tiles one after another.
-use Rattle.std.specs.Prelude.{ℕ, ◌+◌, ◌*◌, ◌-◌, ◌≤◌, ◌<◌, ◌≡◌, List, true, false, length, get_or, take}
+use Rattle.std.specs.Prelude.{ℕ, ◌+◌, ◌*◌, ◌-◌, ◌≤◌, ◌<◌, ◌≡◌, List, true, false, length, get_or, take, Err, None, Ok, Some}
 use Rattle.wire.specs.Tests.{sum_below}
 use Rattle.wire.specs.Bytes.{Bytes, byte_at, part, number_at}
 use Rattle.answer.specs.declared.Refusal.TheVariants.{OutsideGrid}
-use Rattle.answer.specs.declared.Verdict.TheVariants.{Accepted}
 use Rattle.answer.specs.declared.Cell.TheVariants as cell
-use Rattle.answer.specs.declared.Content.TheVariants.{Present, Absent, Refused}
-use Rattle.answer.specs.declared.Laid.TheVariants.{Length}
 use Rattle.answer.specs.Values.{value_of}
 use Rattle.header.specs.Fields.{element_count}
 use Rattle.header.specs.Element.{cell_size, element}
@@ -46,13 +43,12 @@ pub record ListedAs (f ix : List ℕ) (k row column : ℕ) : Type 0 where
 
 pub record ReadsBack (f : List ℕ) (t : ℕ) (ix c : List ℕ) : Type 0 where
   -- the check accepts the file
-  pub accepted : check (laid_file f t ix c) ≡ Accepted
+  pub accepted : check (laid_file f t ix c) ≡ Ok tt
   -- a grid cell of a listed tile is stored, with the value that the bytes given for it give
   pub stored :
       (ci row column e k : ℕ) → in_grid f row column e ≡ true → ListedAs f ix k row column →
       meaning (laid_file f t ix c) ci row column e
-      ≡ cell.Stored (value_of (element f e).kind (number_at (cell_size (element f e).kind) c (cell_given f k row column e))) (cell_laid f k row column e)
-      (location_of f row column)
+      ≡ Ok (cell.Stored (value_of (element f e).kind (number_at (cell_size (element f e).kind) c (cell_given f k row column e))) (cell_laid f k row column e) (location_of f row column))
   -- and has exactly those bytes at its place
   pub given :
       (row column e k : ℕ) → in_grid f row column e ≡ true → ListedAs f ix k row column →
@@ -67,7 +63,7 @@ pub record ReadsBack (f : List ℕ) (t : ℕ) (ix c : List ℕ) : Type 0 where
   -- an element's content in a listed tile is the bytes given for it, also past the grid's edge
   pub content :
       (k e : ℕ) → k < length ix → e < element_count f →
-      content_meaning (laid_file f t ix c) (get_or ix k 0) e ≡ Present (content_laid f k e) (element_bytes f e)
+      content_meaning (laid_file f t ix c) (get_or ix k 0) e ≡ Ok (Some (record { start = content_laid f k e; length = element_bytes f e }))
   pub content_given_lem : (k e : ℕ) → k < length ix → e < element_count f → content_given f k e + element_bytes f e ≤ length c
   pub content_inside : (k e : ℕ) → k < length ix → e < element_count f → content_laid f k e + element_bytes f e ≤ length (laid_file f t ix c)
   pub content_bytes :
@@ -76,10 +72,10 @@ pub record ReadsBack (f : List ℕ) (t : ℕ) (ix c : List ℕ) : Type 0 where
   -- every other tile of the grid has none
   pub absent :
       (tile e : ℕ) → in_tiles f tile e ≡ true → ((k : ℕ) → k < length ix → get_or ix k 0 ≡ tile → ⊥) →
-      content_meaning (laid_file f t ix c) tile e ≡ Absent
+      content_meaning (laid_file f t ix c) tile e ≡ Ok None
   -- the grid and its tiles are the front's
-  pub outside : (ci row column e : ℕ) → in_grid f row column e ≡ false → meaning (laid_file f t ix c) ci row column e ≡ cell.Refused OutsideGrid
-  pub content_outside : (tile e : ℕ) → in_tiles f tile e ≡ false → content_meaning (laid_file f t ix c) tile e ≡ Refused OutsideGrid
+  pub outside : (ci row column e : ℕ) → in_grid f row column e ≡ false → meaning (laid_file f t ix c) ci row column e ≡ Err OutsideGrid
+  pub content_outside : (tile e : ℕ) → in_tiles f tile e ≡ false → content_meaning (laid_file f t ix c) tile e ≡ Err OutsideGrid
   -- the header says what is set, and is the front that was given in every other byte before its checksum
   pub fields : FieldsRead (laid_file f t ix c) t (content_at (directory_start f ix))
   pub front : (i : ℕ) → i < length f - 4 → NotSet i → byte_at (laid_file f t ix c) i ≡ byte_at f i
@@ -94,4 +90,4 @@ pub record Done (f : List ℕ) (t : ℕ) (ix c out : List ℕ) (n : ℕ) : Type 
   pub reads : ReadsBack f t ix c
 
 abbrev pub ReadBack : Type 0
-ReadBack = (f : List ℕ) (t : ℕ) (ix c out : List ℕ) (n : ℕ) → Bytes f → Bytes c → laid f t ix c (length out) ≡ Length n → Done f t ix c out n
+ReadBack = (f : List ℕ) (t : ℕ) (ix c out : List ℕ) (n : ℕ) → Bytes f → Bytes c → laid f t ix c (length out) ≡ Ok n → Done f t ix c out n

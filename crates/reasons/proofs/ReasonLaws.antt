@@ -1,18 +1,17 @@
 -- The first row that fails: none just where all pass, and named. Rows joined, and rows below a number. Assumes nothing.
-use Prim.Native.Nat.{ℕ, zero, suc, ◌+◌, ◌%◌, ◌≤◌, ◌<◌}
+use Prim.Native.Nat.{ℕ, zero, suc, ◌+◌, ◌≤◌, ◌<◌}
 use mathlib.Core.Path.{◌≡◌, refl, sym, ap, ◌∙◌}
 use mathlib.Core.List.{List, [], ◌∷◌, ◌++◌}
 use mathlib.Core.Bool.{Bool, true, false}
 use native.Mathlib.Omega.{arith}
 use native.Mathlib.Numerals.{add-one}
 use lib.Dec.{eqb}
-use borrow.Author.Tests.{eqb-true, eqb-false, le-leb, lt-leb, eq-eqb, ne_eqb}
+use borrow.Author.Tests.{eqb-true, eqb-false}
 use Rattle.wire.specs.Tests.{test, both, passes, all_below}
 use Rattle.wire.proofs.TestLaws.{not_both}
 use Rattle.reasons.specs.declared.Fault.{Fault}
-use Rattle.reasons.specs.declared.Reason.{Reason}
-use Rattle.reasons.specs.declared.Reason.TheVariants.{Kept, Broken}
-use Rattle.reasons.specs.Rows.{Row, fault_of, at_most, at_least, equal, eighths, tests, keeps, judged, or_else, first_failing, rows_below, NamedIn, KeptExactly, FirstNamed}
+use Rattle.reasons.specs.Rows.{Row, tests, keeps, judged, or_else, first_failing, rows_below, NamedIn, KeptExactly, FirstNamed, Reason}
+use Rattle.std.specs.Prelude.{Ok, Err}
 
 -- both, as a sum of tests
 
@@ -48,7 +47,7 @@ keeps_below (suc n) f =
 
 -- the first that fails, of rows joined
 
-pub first_none : first_failing [] ≡ Kept
+pub first_none : first_failing [] ≡ Ok tt
 unfolding first_failing
 first_none = refl
 
@@ -58,14 +57,14 @@ first_more x xs = refl
 
 pub or_assoc : (a b c : Reason) → or_else (or_else a b) c ≡ or_else a (or_else b c)
 unfolding or_else
-or_assoc Kept b c = refl
-or_assoc (Broken x) b c = refl
+or_assoc (Ok kept) b c = refl
+or_assoc (Err x) b c = refl
 
-pub or_kept : (a b : Reason) → a ≡ Kept → or_else a b ≡ b
+pub or_kept : (a b : Reason) → a ≡ Ok tt → or_else a b ≡ b
 unfolding or_else
 or_kept a b e = rw e refl
 
-pub or_broken : (a b : Reason) (x : Fault) → a ≡ Broken x → or_else a b ≡ Broken x
+pub or_broken : (a b : Reason) (x : Fault) → a ≡ Err x → or_else a b ≡ Err x
 unfolding or_else
 or_broken a b x e = rw e refl
 
@@ -78,56 +77,27 @@ first_joined (x ∷ xs) ys =
 
 -- one row
 
-pub row_kept : (x : Row) → test x.rule ≡ true → judged x ≡ Kept
+pub row_kept : (x : Row) → test x.rule ≡ true → judged x ≡ Ok tt
 unfolding judged
 row_kept x e = rw e refl
 
-pub row_broken : (x : Row) → test x.rule ≡ false → judged x ≡ Broken x.fault
+pub row_broken : (x : Row) → test x.rule ≡ false → judged x ≡ Err x.fault
 unfolding judged
 row_broken x e = rw e refl
 
-pub kept_is : (x : Row) → test x.rule ≡ true → Kept ≡ judged x
+pub kept_is : (x : Row) → test x.rule ≡ true → Ok tt ≡ judged x
 kept_is x e = sym (row_kept x e)
 
-pub broken_is : (x : Row) → test x.rule ≡ false → Broken x.fault ≡ judged x
+pub broken_is : (x : Row) → test x.rule ≡ false → Err x.fault ≡ judged x
 broken_is x e = sym (row_broken x e)
 
-pub or_first : (a b : Reason) → a ≡ Kept → b ≡ or_else a b
-or_first a b e = sym (or_kept a b e)
+pub or_end : (a : Reason) → or_else a (Ok tt) ≡ a
+unfolding or_else
+or_end (Ok kept) = refl
+or_end (Err x) = refl
 
-pub or_second : (a b : Reason) (x : Fault) → a ≡ Broken x → Broken x ≡ or_else a b
-or_second a b x e = sym (or_broken a b x e)
-
--- the kinds of rows
-
-module _ (r i a f w : ℕ) where
-  pub most_yes : f ≤ w → Kept ≡ judged (at_most r i a f w)
-  most_yes h = kept_is _ (le-leb f w h)
-
-  pub most_no : w < f → Broken (fault_of r i a f w) ≡ judged (at_most r i a f w)
-  most_no h = broken_is (at_most r i a f w) (lt-leb f w h)
-
-  pub least_yes : w ≤ f → Kept ≡ judged (at_least r i a f w)
-  least_yes h = kept_is _ (le-leb w f h)
-
-  pub least_no : f < w → Broken (fault_of r i a f w) ≡ judged (at_least r i a f w)
-  least_no h = broken_is (at_least r i a f w) (lt-leb w f h)
-
-  pub equal_yes : f ≡ w → Kept ≡ judged (equal r i a f w)
-  equal_yes h = kept_is _ (eq-eqb f w h)
-
-  pub equal_no : (f ≡ w → ⊥) → Broken (fault_of r i a f w) ≡ judged (equal r i a f w)
-  equal_no h = broken_is (equal r i a f w) (ne_eqb f w h)
-
-  pub eighths_yes : f % 8 ≡ 0 → Kept ≡ judged (eighths r i a f)
-  eighths_yes h = kept_is _ (eq-eqb (f % 8) 0 h)
-
-  pub eighths_no : (f % 8 ≡ 0 → ⊥) → Broken (fault_of r i a f 8) ≡ judged (eighths r i a f)
-  eighths_no h = broken_is (eighths r i a f) (ne_eqb (f % 8) 0 h)
-
--- what is told of a list, by another that says the same
-pub told_as : {a b r : Reason} → b ≡ a → r ≡ a → r ≡ b
-told_as p q = q ∙ sym p
+-- what a chain of rules answers
+pub ruleset chain = (first_none, first_more, first_joined, or_kept, or_broken, or_end)
 
 -- none just where all pass, and else the first is named
 
@@ -137,12 +107,12 @@ split x xs b e = keeps_more x xs ∙ ap (λ (a : Bool). both a (keeps xs)) e
 judged_by_lem : (x : Row) (xs : List Row) → test x.rule ≡ true → first_failing (x ∷ xs) ≡ first_failing xs
 judged_by_lem x xs e = first_more x xs ∙ or_kept _ _ (row_kept x e)
 
-stopped_by_lem : (x : Row) (xs : List Row) → test x.rule ≡ false → first_failing (x ∷ xs) ≡ Broken x.fault
+stopped_by_lem : (x : Row) (xs : List Row) → test x.rule ≡ false → first_failing (x ∷ xs) ≡ Err x.fault
 stopped_by_lem x xs e = first_more x xs ∙ or_broken _ _ _ (row_broken x e)
 
 abbrev pub is_kept : Reason → Bool
-is_kept Kept = true
-is_kept (Broken x) = false
+is_kept (Ok kept) = true
+is_kept (Err x) = false
 
 -- as one equation
 pub kept_same : (l : List Row) → is_kept (first_failing l) ≡ keeps l
@@ -153,30 +123,30 @@ kept_same (x ∷ xs) = go (test x.rule) refl (kept_same xs)
     go true p r = ap is_kept (judged_by_lem x xs p) ∙ r ∙ sym (split x xs true p)
     go false p r = ap is_kept (stopped_by_lem x xs p) ∙ sym (split x xs false p)
 
-kept_of : (r : Reason) → is_kept r ≡ true → r ≡ Kept
-kept_of Kept e = refl
-kept_of (Broken x) e = not_both e refl
+kept_of : (r : Reason) → is_kept r ≡ true → r ≡ Ok tt
+kept_of (Ok kept) e = refl
+kept_of (Err x) e = not_both e refl
 
-pub keeps_by : (l : List Row) → first_failing l ≡ Kept → keeps l ≡ true
+pub keeps_by : (l : List Row) → first_failing l ≡ Ok tt → keeps l ≡ true
 keeps_by l e = sym (kept_same l) ∙ ap is_kept e
 
-pub keeps_not : (l : List Row) (x : Fault) → first_failing l ≡ Broken x → keeps l ≡ false
+pub keeps_not : (l : List Row) (x : Fault) → first_failing l ≡ Err x → keeps l ≡ false
 keeps_not l x e = sym (kept_same l) ∙ ap is_kept e
 
-pub kept_by : (l : List Row) → keeps l ≡ true → first_failing l ≡ Kept
+pub kept_by : (l : List Row) → keeps l ≡ true → first_failing l ≡ Ok tt
 kept_by l e = kept_of _ (kept_same l ∙ e)
 
 pub kept_exactly : KeptExactly
 kept_exactly l = (keeps_by l, kept_by l)
 
 abbrev fault_of_lem : Reason → Fault → Fault
-fault_of_lem Kept y = y
-fault_of_lem (Broken x) y = x
+fault_of_lem (Ok kept) y = y
+fault_of_lem (Err x) y = x
 
-same_fault : (x y : Fault) → Broken x ≡ Broken y → x ≡ y
+same_fault : (x y : Fault) → ◌≡◌ {A = Reason} (Err x) (Err y) → x ≡ y
 same_fault x y e = ap (λ (r : Reason). fault_of_lem r x) e
 
-not_kept : {C : Type 0} (x : Fault) → Kept ≡ Broken x → C
+not_kept : {C : Type 0} (x : Fault) → ◌≡◌ {A = Reason} (Ok tt) (Err x) → C
 not_kept x e = not_both refl (ap is_kept e)
 
 behind : (y : Row) (l : List Row) (x : Fault) → test y.rule ≡ true → NamedIn l x → NamedIn (y ∷ l) x
@@ -191,11 +161,11 @@ behind y l x e n =
       says = n.says;
     }
 
-pub named_first : (l : List Row) (x : Fault) → first_failing l ≡ Broken x → NamedIn l x
+pub named_first : (l : List Row) (x : Fault) → first_failing l ≡ Err x → NamedIn l x
 named_first [] x e = not_kept x (sym first_none ∙ e)
 named_first (y ∷ ys) x e = go (test y.rule) refl (named_first ys x)
   where
-    go : (b : Bool) → test y.rule ≡ b → (first_failing ys ≡ Broken x → NamedIn ys x) → NamedIn (y ∷ ys) x
+    go : (b : Bool) → test y.rule ≡ b → (first_failing ys ≡ Err x → NamedIn ys x) → NamedIn (y ∷ ys) x
     go true p r = behind y ys x p (r (sym (judged_by_lem y ys p) ∙ e))
     go false p r =
         record {
@@ -212,12 +182,12 @@ pub first_named : FirstNamed
 first_named l x = (
   named_first l x,
   λ n. ap first_failing n.whole ∙ first_joined n.before (n.row ∷ n.after) ∙ or_kept _ _ (kept_by n.before n.kept)
-      ∙ stopped_by_lem n.row n.after n.broken ∙ ap Broken n.says,
+      ∙ stopped_by_lem n.row n.after n.broken ∙ ap Err n.says,
 )
 
 -- a loop over the rows of each number below n
 
-pub below_begin : (f : ℕ → List Row) → first_failing (rows_below 0 f) ≡ Kept
+pub below_begin : (f : ℕ → List Row) → first_failing (rows_below 0 f) ≡ Ok tt
 unfolding rows_below
 below_begin f = first_none
 
@@ -226,22 +196,19 @@ unfolding rows_below
 below_next i f = rw add-one (first_joined (rows_below i f) (f i))
 
 module _ (i : ℕ) (f : ℕ → List Row) (a : Reason) (q : a ≡ first_failing (f i)) where
-  pub below_pass : a ≡ Kept → first_failing (rows_below i f) ≡ Kept → first_failing (rows_below (i + 1) f) ≡ Kept
+  pub below_pass : a ≡ Ok tt → first_failing (rows_below i f) ≡ Ok tt → first_failing (rows_below (i + 1) f) ≡ Ok tt
   below_pass e h = below_next i f ∙ or_kept _ _ h ∙ sym q ∙ e
 
-  pub below_stop : (n : ℕ) (x : Fault) → a ≡ Broken x → first_failing (rows_below i f) ≡ Kept → i < n → Broken x ≡ first_failing (rows_below n f)
+  pub below_stop : (n : ℕ) (x : Fault) → a ≡ Err x → first_failing (rows_below i f) ≡ Ok tt → i < n → Err x ≡ first_failing (rows_below n f)
   below_stop n x e h k = sym (go n k)
     where
-      go : (m : ℕ) → i < m → first_failing (rows_below m f) ≡ Broken x
+      go : (m : ℕ) → i < m → first_failing (rows_below m f) ≡ Err x
       go zero j = absurd (omega arith)
       go (suc m) j = at (eqb i m) refl (go m)
         where
-          at : (b : Bool) → eqb i m ≡ b → (i < m → first_failing (rows_below m f) ≡ Broken x) → first_failing (rows_below (suc m) f) ≡ Broken x
+          at : (b : Bool) → eqb i m ≡ b → (i < m → first_failing (rows_below m f) ≡ Err x) → first_failing (rows_below (suc m) f) ≡ Err x
           at true d r =
               rw (← add-one m) (below_next m f ∙ rw (← eqb-true i m d) (or_kept _ _ h ∙ sym q ∙ e))
           at false d r =
               let z = eqb-false i m d in
               rw (← add-one m) (below_next m f ∙ or_broken _ _ _ (r (omega arith)))
-
-pub below_whole : (n i : ℕ) (f : ℕ → List Row) → first_failing (rows_below i f) ≡ Kept → i ≤ n → n ≤ i → Kept ≡ first_failing (rows_below n f)
-below_whole n i f e h k = let m : n ≡ i = omega arith in rw m (sym e)

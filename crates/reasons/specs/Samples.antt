@@ -1,15 +1,13 @@
 -- Small files and what is said of them, as one table: number, rule, position, found, wanted.
-use Rattle.std.specs.Prelude.{ℕ, ◌≡◌, List, [], ◌∷◌, ◌++◌, map, replicate}
+use Rattle.std.specs.Prelude.{ℕ, ◌≡◌, List, [], ◌∷◌, ◌++◌, map, replicate, Ok, Err}
 use Rattle.answer.specs.Refusals.{refusal_number}
 use Rattle.check_header.specs.Identification.{mark}
-use Rattle.reasons.specs.declared.Explained.{Explained}
-use Rattle.reasons.specs.declared.Explained.TheVariants.{Accepted, Refused}
-use Rattle.reasons.specs.Stages.{explained}
+use Rattle.reasons.specs.Stages.{explained, Explained}
 use Rattle.reasons.specs.HeadRows.{head_stages}
 
 abbrev pub sample_numbers : Explained → List ℕ
-sample_numbers Accepted = []
-sample_numbers (Refused r x) = refusal_number r ∷ x.rule ∷ x.at ∷ x.found ∷ x.wanted ∷ []
+sample_numbers (Ok accepted) = []
+sample_numbers (Err z) = refusal_number z.refusal ∷ z.fault.rule ∷ z.fault.at ∷ z.fault.found ∷ z.fault.wanted ∷ []
 
 -- no byte; 15 and 16 zeros; version 1.3; nothing behind the block; a header length of 12; one of 16 in a file of 24
 abbrev pub files : List (List ℕ)

@@ -18,16 +18,9 @@ pub struct Fault {
     pub wanted: u64,
 }
 
-// What is said of some rules: all are kept, or the first that is broken.
+// What is said of a file that is refused: the refusal and the rule.
 #[derive(Clone, Copy)]
-pub enum Reason {
-    Kept,
-    Broken(Fault),
-}
-
-// What is said of a file: it is accepted, or the refusal and the rule.
-#[derive(Clone, Copy)]
-pub enum Explained {
-    Accepted,
-    Refused { refusal: Refusal, fault: Fault },
+pub struct Explanation {
+    pub refusal: Refusal,
+    pub fault: Fault,
 }

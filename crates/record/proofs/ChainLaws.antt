@@ -1,4 +1,5 @@
 -- Records, what a cursor's step tells, and the chain as a list. Assumes nothing.
+use Rattle.std.specs.Prelude.{None, Some}
 use Prim.Native.Nat.{ℕ, zero, suc, ◌+◌, ◌%◌, ◌-◌, ◌≤◌, ◌<◌}
 use mathlib.Core.Path.{◌≡◌, refl, sym, ap, ◌∙◌}
 use mathlib.Core.List.Memᴰ
@@ -16,7 +17,6 @@ use Rattle.wire.proofs.ListLaws.{Behind, behind_more}
 use Rattle.record.specs.declared.Cursor.{Cursor}
 use Rattle.record.specs.declared.Step.{Step}
 use Rattle.record.specs.declared.Step.TheVariants.{Record, Bad, End}
-use Rattle.record.specs.declared.Found.TheVariants.{At, Nothing}
 use Rattle.record.specs.Record.{length_at, type_at, record_ok, step_at}
 use Rattle.record.specs.Chain.{starts_go, starts, end_of, find, first_record, Stand, Whole, joined, starts_of, WellFormed}
 
@@ -234,11 +234,11 @@ whole_starts s at xs w = stand_starts s at xs (length s) w (past_bad s (length s
 -- the first record of which p holds
 
 module _ (p : ℕ → Bool) (s : List ℕ) (at : ℕ) where
-  pub first_none : record_ok s at ≡ false → Nothing ≡ first_record s at p
+  pub first_none : record_ok s at ≡ false → None ≡ first_record s at p
   unfolding first_record find
   first_none e = rw (starts_none s at e)
 
-  pub first_here : record_ok s at ≡ true → p at ≡ true → At at ≡ first_record s at p
+  pub first_here : record_ok s at ≡ true → p at ≡ true → Some at ≡ first_record s at p
   unfolding first_record find
   first_here f e = rw (starts_record s at f, e)
 

@@ -1,10 +1,8 @@
 -- The chain of records as a list (document 01, stage 6: records follow the header without a gap up to the last byte).
-use Rattle.std.specs.Prelude.{ℕ, zero, suc, ◌+◌, ◌≡◌, List, [], ◌∷◌, ◌++◌, Bool, true, false, not, length, eqb}
+use Rattle.std.specs.Prelude.{ℕ, zero, suc, ◌+◌, ◌≡◌, List, [], ◌∷◌, ◌++◌, Bool, true, false, not, length, eqb, None, Option, Some}
 use Rattle.wire.specs.Pick.{pick}
 use Rattle.wire.specs.Lists.{select}
 use Rattle.record.specs.Record.{length_at, type_at, record_ok}
-use Rattle.record.specs.declared.Found.{Found}
-use Rattle.record.specs.declared.Found.TheVariants.{At, Nothing}
 
 -- the starts of the records from `at` on, up to the file's end or to the first bad one; the first argument only bounds the
 -- recursion
@@ -36,16 +34,16 @@ unfoldable pub records_end : List ℕ → ℕ
 records_end s = end_of s (header_end s) (records s)
 
 -- the first of a list at which p holds
-unfoldable pub find : (ℕ → Bool) → List ℕ → Found
-find p [] = Nothing
-find p (x ∷ xs) = pick (p x) (At x) (find p xs)
+unfoldable pub find : (ℕ → Bool) → List ℕ → Option ℕ
+find p [] = None
+find p (x ∷ xs) = pick (p x) (Some x) (find p xs)
 
 -- the first at which it does not
-unfoldable pub find_not : (ℕ → Bool) → List ℕ → Found
+unfoldable pub find_not : (ℕ → Bool) → List ℕ → Option ℕ
 find_not p xs = find (λ x. not (p x)) xs
 
 -- the start of the first record from `at` on of which p holds
-unfoldable pub first_record : List ℕ → ℕ → (ℕ → Bool) → Found
+unfoldable pub first_record : List ℕ → ℕ → (ℕ → Bool) → Option ℕ
 first_record s at p = find p (starts s at)
 
 -- the records xs stand one behind the other from `at` on, without a gap, up to `end`

@@ -8,3 +8,4 @@
 pub mod Types
 pub mod Record
 pub mod Chain
+pub mod Asked

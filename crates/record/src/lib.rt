@@ -44,13 +44,6 @@ pub enum Step {
     End,
 }
 
-// The start of a record, or that there is none.
-#[derive(Clone, Copy)]
-pub enum Found {
-    At(usize),
-    Nothing,
-}
-
 // Whether a record stands at a position: its length is a multiple of 8, at least 16, not negative, and ends inside the
 // file; its type is 0 to 5.
 fn record_ok(s: &[u8], at: usize) -> bool

@@ -1,5 +1,5 @@
 -- Stage 8: what the functions answer, put together. Assumes nothing.
-use Prim.Native.Nat.{ℕ, ◌+◌, ◌-◌, ◌*◌, ◌/◌, ◌≤◌, ◌<◌, min}
+use Prim.Native.Nat.{ℕ, ◌+◌, ◌-◌, ◌*◌, ◌/◌, ◌<◌, min}
 use mathlib.Core.Path.{◌≡◌, refl, sym, ap, ◌∙◌}
 use mathlib.Core.List.{List}
 use mathlib.Core.Bool.{Bool, true}
@@ -22,12 +22,11 @@ use Rattle.bodies.proofs.MetadataLaws.{id_told}
 use Rattle.check_records.specs.TileBody.{tile_right}
 use Rattle.check_records.specs.MetadataBody.{metadata_right}
 use Rattle.reasons.specs.declared.Fault.{Fault}
-use Rattle.reasons.specs.declared.Reason.{Reason}
-use Rattle.reasons.specs.declared.Reason.TheVariants.{Kept, Broken}
-use Rattle.reasons.specs.Rows.{fault_of, at_most, at_least, judged, or_else, first_failing, rows_below}
-use Rattle.reasons.proofs.ReasonLaws.{first_none, first_more, first_joined, below_stop, below_whole, kept_by}
+use Rattle.reasons.specs.Rows.{fault_of, at_most, at_least, judged, or_else, first_failing, rows_below, Reason}
+use Rattle.reasons.proofs.ReasonLaws.{first_none, first_more, first_joined, below_stop, kept_by, or_kept, or_broken, or_end}
 use Rattle.record_reasons.specs.RecordRows.{ending_rows, section_rows, tile_body_rows, described_rows, metadata_body_rows, body_rows}
 use Rattle.record_reasons.proofs.RecordRowLaws.{tile_keeps, metadata_keeps}
+use Rattle.std.specs.Prelude.{Ok, Err}
 
 pub least_told : (at end n : ℕ) → n ≡ end - at → (n + 4 + 7) / 8 * 8 ≡ least_length (end - at)
 unfolding least_length
@@ -47,25 +46,25 @@ most_told :
 unfolding judged
 most_told e p l m u h q = rw (q, within_cap l u h) refl
 
-pub section_rows_told :
-    (s : List ℕ) (at e p l m : ℕ) (a b c r : Reason) → at < length s → p ≡ section_start s at e → l ≡ u32_at s p →
-    m ≡ min (element_bytes s e) cap → a ≡ judged (at_least 43 e p l 1) → b ≡ judged (at_most 44 e p l m) → c ≡ or_else b Kept →
-    r ≡ or_else a c → l < cap → r ≡ first_failing (section_rows s at e)
+pub section_second :
+    (s : List ℕ) (at e p l m : ℕ) (r : Reason) → at < length s → p ≡ section_start s at e → l ≡ u32_at s p → m ≡ min (element_bytes s e) cap →
+    l < cap → judged (at_least 43 e p l 1) ≡ Ok tt → r ≡ judged (at_most 44 e p l m) → r ≡ first_failing (section_rows s at e)
 unfolding first_failing section_rows section_length
-section_rows_told s at e p l m a b c r h d q w f g i j k =
+section_second s at e p l m r h d q w k f g =
     let z : section_at s at e ≡ p = sym (section_told s at e p h d) in
     let y = g ∙ most_told e p l m (element_bytes s e) k w in
-    rw (z, ← q, ← f, ← y) (j ∙ ap (or_else a) i)
+    rw (z, ← q, or_kept _ _ f, or_end) y
+
+pub section_stop :
+    (s : List ℕ) (at e p l : ℕ) (x : Fault) → at < length s → p ≡ section_start s at e → l ≡ u32_at s p → judged (at_least 43 e p l 1) ≡ Err x →
+    Err x ≡ first_failing (section_rows s at e)
+unfolding first_failing section_rows section_length
+section_stop s at e p l x h d q f = let z : section_at s at e ≡ p = sym (section_told s at e p h d) in rw (z, ← q) (sym (or_broken _ _ _ f))
 
 pub sections_stop :
-    (s : List ℕ) (at n e : ℕ) (a : Reason) (x : Fault) → n ≡ element_count s → a ≡ first_failing (section_rows s at e) → a ≡ Broken x →
-    first_failing (rows_below e (section_rows s at)) ≡ Kept → e < n → Broken x ≡ first_failing (rows_below (element_count s) (section_rows s at))
+    (s : List ℕ) (at n e : ℕ) (a : Reason) (x : Fault) → n ≡ element_count s → a ≡ first_failing (section_rows s at e) → a ≡ Err x →
+    first_failing (rows_below e (section_rows s at)) ≡ Ok tt → e < n → Err x ≡ first_failing (rows_below (element_count s) (section_rows s at))
 sections_stop s at n e a x p q r h k = below_stop e (section_rows s at) a q (element_count s) x r h (omega arith)
-
-pub sections_whole :
-    (s : List ℕ) (at n e : ℕ) → n ≡ element_count s → first_failing (rows_below e (section_rows s at)) ≡ Kept → e ≤ n → n ≤ e →
-    Kept ≡ first_failing (rows_below (element_count s) (section_rows s at))
-sections_whole s at n e p q h k = below_whole (element_count s) e (section_rows s at) q (omega arith) (omega arith)
 
 pub sections_end_told :
     (s : List ℕ) (k at n p : ℕ) (r : Reason) → at < length s → n ≡ element_count s → p ≡ section_start s at n →
@@ -73,19 +72,7 @@ pub sections_end_told :
 unfolding tile_end
 sections_end_told s k at n p r h a b c = c ∙ rw (section_told s at n p h b, a)
 
-pub tile_told_lem :
-    (s : List ℕ) (k at : ℕ) →
-    first_failing (tile_body_rows s k at)
-    ≡ or_else (judged (at_most 39 k (at + 8) (tile_index s at) largest_integer))
-    (or_else (judged (at_most 40 k (at + 8) (tile_index s at + 1) (tile_count s)))
-    (or_else (first_failing (ending_rows s k at (tile_end s at))) (first_failing (rows_below (element_count s) (section_rows s at)))))
-unfolding tile_body_rows
-tile_told_lem s k at =
-    first_more _ _
-    ∙ ap (or_else _)
-    (first_more _ _ ∙ ap (or_else _) (first_joined (ending_rows s k at (tile_end s at)) (rows_below (element_count s) (section_rows s at))))
-
-pub tile_body_kept : (s : List ℕ) (k at : ℕ) (b : Bool) → b ≡ tile_right s at → b ≡ true → Kept ≡ first_failing (tile_body_rows s k at)
+pub tile_body_kept : (s : List ℕ) (k at : ℕ) (b : Bool) → b ≡ tile_right s at → b ≡ true → Ok tt ≡ first_failing (tile_body_rows s k at)
 tile_body_kept s k at b p q = sym (kept_by (tile_body_rows s k at) (tile_keeps s k at ∙ sym p ∙ q))
 
 -- a metadata record
@@ -110,15 +97,7 @@ pub fields_end_told :
 unfolding metadata_end string_end
 fields_end_told s k at d n r e f g = g ∙ rw (f, e)
 
-pub metadata_told :
-    (s : List ℕ) (k at : ℕ) →
-    first_failing (metadata_body_rows s k at)
-    ≡ or_else (judged (at_most 45 k (content_length_at s at) (metadata_length s at) largest_integer))
-    (or_else (first_failing (ending_rows s k at (metadata_end s at))) (first_failing (described_rows s k at)))
-unfolding metadata_body_rows
-metadata_told s k at = first_more _ _ ∙ ap (or_else _) (first_joined (ending_rows s k at (metadata_end s at)) (described_rows s k at))
-
-pub metadata_body_kept : (s : List ℕ) (k at : ℕ) (b : Bool) → b ≡ metadata_right s at → b ≡ true → Kept ≡ first_failing (metadata_body_rows s k at)
+pub metadata_body_kept : (s : List ℕ) (k at : ℕ) (b : Bool) → b ≡ metadata_right s at → b ≡ true → Ok tt ≡ first_failing (metadata_body_rows s k at)
 metadata_body_kept s k at b p q = sym (kept_by (metadata_body_rows s k at) (metadata_keeps s k at ∙ sym p ∙ q))
 
 -- by the type
@@ -132,6 +111,6 @@ module _ (s : List ℕ) (k kind at : ℕ) (t : kind ≡ type_at s at) where
   unfolding body_rows
   row_of_metadata r g h e = rw (← t, ne_eqb kind 2 g, eq-eqb kind 1 h) e
 
-  pub row_of_other : (kind ≡ 2 → ⊥) → (kind ≡ 1 → ⊥) → Kept ≡ first_failing (body_rows s k at)
+  pub row_of_other : (kind ≡ 2 → ⊥) → (kind ≡ 1 → ⊥) → Ok tt ≡ first_failing (body_rows s k at)
   unfolding body_rows
   row_of_other g h = rw (← t, ne_eqb kind 2 g, ne_eqb kind 1 h) (sym first_none)

@@ -1,10 +1,12 @@
 // Stage 8: where a record's fields end.
+#![tactic(auto, using(reasons::proofs::ReasonLaws::chain), unfolding(crate::specs::RecordRows::ending_rows))]
+
 ghost use Rattle.std.specs.Prelude.{◌≡◌, ◌+◌, ◌-◌, ◌*◌, ◌≤◌, length};
 ghost use Rattle.geometry.specs.Sizes.{least_length, cap};
 ghost use Rattle.reasons.specs.Rows.{first_failing};
 ghost use Rattle.record_reasons.specs.RecordRows.{ending_rows};
 
-use reasons::{Reason, rows};
+use reasons::{Fault, rows};
 use record::frame;
 
 // How much more one number is than another; 0 where it is not.
@@ -28,14 +30,13 @@ fn least_of(s: &[u8], at: usize, end: usize) -> u64
 }
 
 // The fields of record k end at `end`.
-pub(crate) fn ending(s: &[u8], k: u64, at: usize, end: usize) -> Reason
+pub(crate) fn ending(s: &[u8], k: u64, at: usize, end: usize) -> Result<(), Fault>
     requires { end ≤ length s.now + 2 * cap }
     ensures { result ≡ first_failing (ending_rows s.now k at end) }
 {
     let place = at as u64;
     let limit = frame::record_limit(s, at) as u64;
-    let a = rows::at_most(41, k, place, end as u64, limit);
+    rows::at_most(41, k, place, end as u64, limit)?;
     let found = wire::u32_at(s, at) as u64;
-    let b = rows::equal(42, k, place, found, least_of(s, at, end));
-    rows::or_else(a, rows::or_else(b, Reason::Kept))
+    rows::equal(42, k, place, found, least_of(s, at, end))
 }

@@ -1,4 +1,6 @@
 // Stage 8: the body of a metadata record.
+#![tactic(auto, using(reasons::proofs::ReasonLaws::chain), unfolding(crate::specs::RecordRows::described_rows, crate::specs::RecordRows::metadata_body_rows))]
+
 ghost use Rattle.std.specs.Prelude.{◌≡◌, ◌+◌, ◌≤◌, ◌<◌, length};
 ghost use Rattle.wire.specs.Bytes.{u16_at, largest_integer};
 ghost use Rattle.header.specs.Names.{identifier, longest_name};
@@ -13,7 +15,7 @@ use crate::ends;
 use bodies::metadata_record;
 use check_records::metadata_body;
 use header::{entries, names, texts};
-use reasons::{Reason, rows};
+use reasons::{Fault, rows};
 
 // Where the content's length stands.
 fn content_length_at(s: &[u8], at: usize) -> usize
@@ -34,7 +36,7 @@ fn description_from(s: &[u8], at: usize) -> usize
     p + 4 + wire::u32_at(s, p) as usize
 }
 
-fn length_row(s: &[u8], k: u64, at: usize) -> Reason
+fn length_row(s: &[u8], k: u64, at: usize) -> Result<(), Fault>
     requires { at < length s.now }
     ensures { result ≡ judged (at_most 45 k (content_length_at s.now at) (metadata_length s.now at) largest_integer) }
 {
@@ -43,7 +45,7 @@ fn length_row(s: &[u8], k: u64, at: usize) -> Reason
     rows::at_most(45, k, p as u64, n, wire::LARGEST_INTEGER as u64)
 }
 
-fn metadata_ending(s: &[u8], k: u64, at: usize) -> Reason
+fn metadata_ending(s: &[u8], k: u64, at: usize) -> Result<(), Fault>
     requires { at < length s.now }
     ensures { result ≡ first_failing (ending_rows s.now k at (metadata_end s.now at)) }
 {
@@ -52,7 +54,7 @@ fn metadata_ending(s: &[u8], k: u64, at: usize) -> Reason
     ends::ending(s, k, at, end)
 }
 
-fn name_row(s: &[u8], k: u64, at: usize) -> Reason
+fn name_row(s: &[u8], k: u64, at: usize) -> Result<(), Fault>
     requires { at < length s.now }
     ensures { result ≡ judged (holds 46 k (at + 10) (u16_at s.now (at + 8)) longest_name (identifier longest_name (metadata_name s.now at))) }
 {
@@ -62,7 +64,7 @@ fn name_row(s: &[u8], k: u64, at: usize) -> Reason
     rows::holds(46, k, (at + 10) as u64, n, names::LONGEST as u64, named)
 }
 
-fn data_type_row(s: &[u8], k: u64, at: usize) -> Reason
+fn data_type_row(s: &[u8], k: u64, at: usize) -> Result<(), Fault>
     requires { at < length s.now }
     ensures { result ≡ judged (at_most 47 k (record_id_at s.now at + 4) (data_type s.now at) 9) }
 {
@@ -71,7 +73,7 @@ fn data_type_row(s: &[u8], k: u64, at: usize) -> Reason
     rows::at_most(47, k, (p + 4) as u64, found, 9)
 }
 
-fn description_row(s: &[u8], k: u64, at: usize) -> Reason
+fn description_row(s: &[u8], k: u64, at: usize) -> Result<(), Fault>
     requires { at < length s.now }
     ensures { result ≡ judged (text_row s.now 48 k (metadata_description_at s.now at)) }
 {
@@ -81,34 +83,32 @@ fn description_row(s: &[u8], k: u64, at: usize) -> Reason
     rows::holds(48, k, (p + 2) as u64, found, 0, kept)
 }
 
-fn described_fields(s: &[u8], k: u64, at: usize) -> Reason
+fn described_fields(s: &[u8], k: u64, at: usize) -> Result<(), Fault>
     requires { at < length s.now }
     ensures { result ≡ first_failing (described_rows s.now k at) }
 {
-    let a = name_row(s, k, at);
-    let b = data_type_row(s, k, at);
-    let c = description_row(s, k, at);
-    rows::or_else(a, rows::or_else(b, rows::or_else(c, Reason::Kept)))
+    name_row(s, k, at)?;
+    data_type_row(s, k, at)?;
+    description_row(s, k, at)
 }
 
 // Metadata record k, field by field.
-fn metadata_fields(s: &[u8], k: u64, at: usize) -> Reason
+fn metadata_fields(s: &[u8], k: u64, at: usize) -> Result<(), Fault>
     requires { at < length s.now }
     ensures { result ≡ first_failing (metadata_body_rows s.now k at) }
 {
-    let a = length_row(s, k, at);
-    let b = metadata_ending(s, k, at);
-    let c = described_fields(s, k, at);
-    rows::or_else(a, rows::or_else(b, c))
+    length_row(s, k, at)?;
+    metadata_ending(s, k, at)?;
+    described_fields(s, k, at)
 }
 
 // Metadata record k. Fields are asked one by one only of a record that the check refuses.
-pub(crate) fn metadata_record_rows(s: &[u8], k: u64, at: usize) -> Reason
+pub(crate) fn metadata_record_rows(s: &[u8], k: u64, at: usize) -> Result<(), Fault>
     requires { at < length s.now }
     ensures { result ≡ first_failing (metadata_body_rows s.now k at) }
 {
     if metadata_body::metadata_right(s, at) {
-        return Reason::Kept;
+        return Ok(());
     }
     metadata_fields(s, k, at)
 }

@@ -12,7 +12,7 @@ ghost use Rattle.record_reasons.specs.RecordRows.{Stands, checksum_rows, body_ro
 use crate::{ends, metadata_rows, tile_rows};
 use answer::Refusal;
 use header::fields;
-use reasons::{Explained, Reason, rows};
+use reasons::{Explanation, Fault, rows};
 use record::{Cursor, Step, chain};
 
 // How many bytes of a record are summed.
@@ -45,19 +45,18 @@ fn stored_checksum(s: &[u8], kind: u32, at: usize, long: usize) -> u32
 }
 
 // The record of a type, from a position on, so many bytes long, is number k.
-fn checksum_row(s: &[u8], k: u64, kind: u32, at: usize, long: usize) -> Reason
+fn checksum_row(s: &[u8], k: u64, kind: u32, at: usize, long: usize) -> Result<(), Fault>
     requires { Stands s.now kind at long }
     ensures { result ≡ first_failing (checksum_rows s.now k at) }
 {
     let found = stored_checksum(s, kind, at, long);
     let wanted = right_checksum(s, kind, at, long);
     let place = at + ends::surplus(long, 4);
-    let a = rows::equal(38, k, place as u64, found as u64, wanted as u64);
-    rows::or_else(a, Reason::Kept)
+    rows::equal(38, k, place as u64, found as u64, wanted as u64)
 }
 
 // The records behind the header.
-fn checksums(s: &[u8]) -> Explained
+fn checksums(s: &[u8]) -> Result<(), Explanation>
     ensures { result ≡ explained (stages_of Checksum (checksum_rows s.now) 1 (records s.now)) }
 {
     let mut c = Cursor {
@@ -72,20 +71,16 @@ fn checksums(s: &[u8]) -> Explained
             next,
         } = c.step(s)
         else {
-            return Explained::Accepted;
+            return Ok(());
         };
-        if let Reason::Broken(fault) = checksum_row(s, k, kind, start, long) {
-            return Explained::Refused {
-                refusal: Refusal::Checksum(start),
-                fault,
-            };
-        }
+        let row = checksum_row(s, k, kind, start, long);
+        rows::refused_by(Refusal::Checksum(start), row)?;
         c = next;
         k += 1;
     }
 }
 
-fn header_checksum(s: &[u8]) -> Reason
+fn header_checksum(s: &[u8]) -> Result<(), Fault>
     ensures { result ≡ first_failing (checksum_rows s.now 0 16) }
 {
     let kind = wire::byte_at(s, 20);
@@ -94,20 +89,15 @@ fn header_checksum(s: &[u8]) -> Reason
 }
 
 // Stage 7: the header first.
-pub fn all_checksums(s: &[u8]) -> Explained
+pub fn all_checksums(s: &[u8]) -> Result<(), Explanation>
     ensures { result ≡ explained (stages_of Checksum (checksum_rows s.now) 0 (16 ∷ records s.now)) }
 {
-    if let Reason::Broken(fault) = header_checksum(s) {
-        return Explained::Refused {
-            refusal: Refusal::Checksum(16),
-            fault,
-        };
-    }
+    rows::refused_by(Refusal::Checksum(16), header_checksum(s))?;
     checksums(s)
 }
 
 // The body of record k, of a type.
-fn body_row(s: &[u8], k: u64, kind: u32, at: usize) -> Reason
+fn body_row(s: &[u8], k: u64, kind: u32, at: usize) -> Result<(), Fault>
     requires { (kind ≡ type_at s.now at) × (at < length s.now) }
     ensures { result ≡ first_failing (body_rows s.now k at) }
 {
@@ -117,11 +107,11 @@ fn body_row(s: &[u8], k: u64, kind: u32, at: usize) -> Reason
     if kind == record::METADATA {
         return metadata_rows::metadata_record_rows(s, k, at);
     }
-    Reason::Kept
+    Ok(())
 }
 
 // Stage 8.
-pub fn body_rows(s: &[u8]) -> Explained
+pub fn body_rows(s: &[u8]) -> Result<(), Explanation>
     ensures { result ≡ explained (stages_of Body (body_rows s.now) 0 (records s.now)) }
 {
     let mut c = Cursor {
@@ -136,14 +126,9 @@ pub fn body_rows(s: &[u8]) -> Explained
             next,
         } = c.step(s)
         else {
-            return Explained::Accepted;
+            return Ok(());
         };
-        if let Reason::Broken(fault) = body_row(s, k, kind, start) {
-            return Explained::Refused {
-                refusal: Refusal::Body(start),
-                fault,
-            };
-        }
+        rows::refused_by(Refusal::Body(start), body_row(s, k, kind, start))?;
         c = next;
         k += 1;
     }

@@ -1,4 +1,5 @@
 -- What the call answers and writes, by its tests in their order. Assumes nothing.
+use Rattle.std.specs.Prelude.{Err, Ok, Result, ⊤}
 use Prim.Native.Nat.{ℕ, ◌*◌, ◌≤◌}
 use mathlib.Core.Path.{◌≡◌, sym, ◌∙◌}
 use mathlib.Core.List.{List, [], ◌∷◌}
@@ -12,8 +13,6 @@ use Rattle.wire.proofs.TestLaws.{yes, no}
 use Rattle.wire.proofs.PutLaws.{put_nil}
 use Rattle.answer.specs.declared.Refusal.{Refusal}
 use Rattle.answer.specs.declared.Refusal.TheVariants.{OutsideGrid, Room}
-use Rattle.answer.specs.declared.Verdict.{Verdict}
-use Rattle.answer.specs.declared.Verdict.TheVariants as verdict
 use Rattle.answer.specs.Answers.{cell_kind, cell_bits}
 use Rattle.answer.specs.Refusals.{unless_refused}
 use Rattle.store.specs.declared.many.Rectangle.{Rectangle}
@@ -21,18 +20,16 @@ use Rattle.store.specs.Face.{most_grid_side, check, rectangle_inside, Accepts}
 use Rattle.store.proofs.PieceLaws.{rectangle_small}
 use Rattle.blocks.specs.Tables.{Inside}
 use Rattle.blocks.proofs.TableLaws.{tabled_long, tabled_at, filled_all}
-use Rattle.rectangles.specs.declared.Given.{Given}
-use Rattle.rectangles.specs.declared.Given.TheVariants.{Cells, Refused}
 use Rattle.rectangles.specs.Rectangles.{room_for, given_in, cells_given, cell_says, written, CellsByRows}
 use Rattle.rectangles.specs.Pieces.{HasRoom, Told}
 
 -- nothing is written of a refused call
-pub none_written : (x : Given) (r : Refusal) (k b : List ℕ) → Refused r ≡ x → (Refused r ≡ x) × ((k ≡ put k 0 []) × (b ≡ put b 0 []))
+pub none_written : (x : Result ℕ Refusal) (r : Refusal) (k b : List ℕ) → Err r ≡ x → (Err r ≡ x) × ((k ≡ put k 0 []) × (b ≡ put b 0 []))
 none_written x r k b e = (e, (sym (put_nil k 0), sym (put_nil b 0)))
 
 -- of a rectangle in the grid
 
-pub no_room : (rows columns kn bn : ℕ) → (rows * columns ≤ kn → rows * columns ≤ bn → ⊥) → Refused Room ≡ given_in rows columns kn bn
+pub no_room : (rows columns kn bn : ℕ) → (rows * columns ≤ kn → rows * columns ≤ bn → ⊥) → Err Room ≡ given_in rows columns kn bn
 unfolding given_in room_for
 no_room rows columns kn bn f = rw (← no ((rows * columns ≤? kn) ∷ (rows * columns ≤? bn) ∷ []) (λ h. f h.0 h.1.0))
 
@@ -49,25 +46,25 @@ module _ (s : List ℕ) (a : Rectangle) (g : Accepts s a) where
 pub all_given :
     (s : List ℕ) (ci : ℕ) (a : Rectangle) (k k' b b' : List ℕ) → Told s ci a (Inside 0 a.rows 0 a.columns) k k' b b' → a.rows * a.columns ≤ length k →
     a.rows * a.columns ≤ length b →
-    (Cells (a.rows * a.columns) ≡ given_in a.rows a.columns (length k) (length b))
-    × ((k' ≡ put k 0 (written cell_kind s ci a.e a.row a.column a.rows a.columns (Cells (a.rows * a.columns))))
-    × (b' ≡ put b 0 (written cell_bits s ci a.e a.row a.column a.rows a.columns (Cells (a.rows * a.columns)))))
+    (Ok (a.rows * a.columns) ≡ given_in a.rows a.columns (length k) (length b))
+    × ((k' ≡ put k 0 (written cell_kind s ci a.e a.row a.column a.rows a.columns (Ok (a.rows * a.columns))))
+    × (b' ≡ put b 0 (written cell_bits s ci a.e a.row a.column a.rows a.columns (Ok (a.rows * a.columns)))))
 unfolding given_in room_for
 all_given s ci a k k' b b' t p q = (rw (← yes ((a.rows * a.columns ≤? length k) ∷ (a.rows * a.columns ≤? length b) ∷ []) (p, (q, tt))), (filled_all t.kinds p, filled_all t.bits q))
 
 -- behind the check
 
-module _ (s : List ℕ) (e row column rows columns kn bn : ℕ) (v : Verdict) (p : v ≡ check s) where
-  pub given_refused : (r : Refusal) → v ≡ verdict.Refused r → Refused r ≡ cells_given s e row column rows columns kn bn
+module _ (s : List ℕ) (e row column rows columns kn bn : ℕ) (v : Result ⊤ Refusal) (p : v ≡ check s) where
+  pub given_refused : (r : Refusal) → v ≡ Err r → Err r ≡ cells_given s e row column rows columns kn bn
   unfolding cells_given unless_refused
   given_refused r q = rw (← p, q)
 
-  module _ (b : Bool) (i : b ≡ rectangle_inside s e row column rows columns) (q : v ≡ verdict.Accepted) where
-    pub given_outside : b ≡ false → Refused OutsideGrid ≡ cells_given s e row column rows columns kn bn
+  module _ (b : Bool) (i : b ≡ rectangle_inside s e row column rows columns) (q : v ≡ Ok tt) where
+    pub given_outside : b ≡ false → Err OutsideGrid ≡ cells_given s e row column rows columns kn bn
     unfolding cells_given unless_refused
     given_outside f = rw (← p, q, ← i, f)
 
-    pub given_inside : (x : Given) → b ≡ true → x ≡ given_in rows columns kn bn → x ≡ cells_given s e row column rows columns kn bn
+    pub given_inside : (x : Result ℕ Refusal) → b ≡ true → x ≡ given_in rows columns kn bn → x ≡ cells_given s e row column rows columns kn bn
     unfolding cells_given unless_refused
     given_inside x f z = z ∙ rw (← p, q, ← i, f)
 

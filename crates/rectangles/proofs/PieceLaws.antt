@@ -1,4 +1,6 @@
 -- Pieces of a rectangle told, a cell, a row and a piece at a time. Assumes nothing.
+use Rattle.std.specs.Prelude.{Result}
+use Rattle.answer.specs.declared.Refusal.{Refusal}
 use Prim.Native.Nat.{ℕ, ◌+◌, ◌-◌, ◌*◌, ◌≤◌, ◌<◌}
 use mathlib.Core.Path.{◌≡◌, ap, ◌∙◌}
 use mathlib.Core.List.{List}
@@ -47,13 +49,13 @@ told_ends t e f = rw (← e, ← f) t
 -- one cell more in a row
 module _ (s : List ℕ) (ci : ℕ) (a : Rectangle) (r left c : ℕ) where
   next :
-      (f : Cell → ℕ) (v : ℕ) {k k₁ k₂ : List ℕ} → Filled a.columns (cell_says f s ci a.e a.row a.column) (Inside r (r + 1) left c) k k₁ →
+      (f : Result Cell Refusal → ℕ) (v : ℕ) {k k₁ k₂ : List ℕ} → Filled a.columns (cell_says f s ci a.e a.row a.column) (Inside r (r + 1) left c) k k₁ →
       v ≡ f (meaning s ci (a.row + r) (a.column + c) a.e) → k₂ ≡ set k₁ (r * a.columns + c) v → r * a.columns + c < length k → left ≤ c → c < a.columns →
       Filled a.columns (cell_says f s ci a.e a.row a.column) (Inside r (r + 1) left (c + 1)) k k₂
   unfolding cell_says
   next f v p e q h l w = rw q (filled_beside p (filled_one r c v _ e (omega (arith, p.long))) (omega arith) l (omega arith))
 
-  module _ (h : Held) (m : List ℕ) (k k₁ k₂ b b₁ b₂ : List ℕ) (t : Told s ci a (Inside r (r + 1) left c) k k₁ b b₁) where
+  module _ (h : Result Held Refusal) (m : List ℕ) (k k₁ k₂ b b₁ b₂ : List ℕ) (t : Told s ci a (Inside r (r + 1) left c) k k₁ b b₁) where
     more :
         (v w : ℕ) → v ≡ cell_kind (meaning s ci (a.row + r) (a.column + c) a.e) → w ≡ cell_bits (meaning s ci (a.row + r) (a.column + c) a.e) →
         k₂ ≡ set k₁ (r * a.columns + c) v → b₂ ≡ set b₁ (r * a.columns + c) w → HasRoom a k b → r < a.rows → left ≤ c → c < a.columns →
@@ -63,13 +65,13 @@ module _ (s : List ℕ) (ci : ℕ) (a : Rectangle) (r left c : ℕ) where
         record { kinds = next cell_kind v t.kinds e p y.0 l u; bits = next cell_bits w t.bits g q y.1 l u }
 
     pub told_more :
-        (p : Piece) (x : Cell) → Answered s ci a p h m → Inside p.top p.bottom p.left p.right r c → x ≡ held_cell s ci h m (a.row + r) (a.column + c) a.e →
+        (p : Piece) (x : Result Cell Refusal) → Answered s ci a p h m → Inside p.top p.bottom p.left p.right r c → x ≡ held_cell s ci h m (a.row + r) (a.column + c) a.e →
         k₂ ≡ set k₁ (r * a.columns + c) (cell_kind x) → b₂ ≡ set b₁ (r * a.columns + c) (cell_bits x) → HasRoom a k b → r < a.rows → left ≤ c → c < a.columns →
         Told s ci a (Inside r (r + 1) left (c + 1)) k k₂ b b₂
     told_more p x n i e f g y u l w = let z = e ∙ n.each r c i in more (cell_kind x) (cell_bits x) (ap cell_kind z) (ap cell_bits z) f g y u l w
 
     pub told_numbered :
-        (right kind fill tile start : ℕ) (x : Cell) → Numbered s ci a h m kind fill tile start r left right → x ≡ numbered_cell s kind fill m tile (start + (c - left)) h →
+        (right kind fill tile start : ℕ) (x : Result Cell Refusal) → Numbered s ci a h m kind fill tile start r left right → x ≡ numbered_cell s kind fill m tile (start + (c - left)) h →
         k₂ ≡ set k₁ (r * a.columns + c) (cell_kind x) → b₂ ≡ set b₁ (r * a.columns + c) (cell_bits x) → HasRoom a k b → r < a.rows → left ≤ c → c < right → right ≤ a.columns →
         Told s ci a (Inside r (r + 1) left (c + 1)) k k₂ b b₂
     told_numbered right kind fill tile start x n e f g y u l v w =

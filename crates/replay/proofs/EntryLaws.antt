@@ -1,4 +1,6 @@
 -- The entries of a log as calls. Assumes nothing.
+use Rattle.std.specs.Prelude.{Result}
+use Rattle.answer.specs.declared.Refusal.{Refusal}
 use Prim.Native.Nat.{ℕ, zero, suc, ◌+◌, ◌≤◌, ◌<◌}
 use native.Mathlib.Omega.{arith}
 use mathlib.Core.Path.{◌≡◌, refl, sym, ap, ap₂, ◌∙◌}
@@ -9,7 +11,6 @@ use Rattle.wire.specs.Pick.{pick}
 use Rattle.wire.specs.Bytes.{Bytes, part}
 use Rattle.wire.proofs.ByteLaws.{bytes_part, part_length}
 use Rattle.wire.proofs.TestLaws.{means}
-use Rattle.answer.specs.declared.Laid.{Laid}
 use Rattle.correction_logs.specs.Log.{is_store, entry_tile, entry_cells, end_of_entry, entry_right, entries_go, entries_from}
 use Rattle.correction_logs.proofs.LogLaws.{end_stored, from_right, from_end, right_ends}
 use Rattle.writable.specs.Writable.{open_for_writing}
@@ -32,7 +33,7 @@ module _ (t : ℕ) (log : List ℕ) (p : ℕ) {b : Bool} (e : b ≡ is_store log
   call_removes f = rw (sym e ∙ f)
 
 -- what a call without a check does, as the entry's
-module _ (d : List ℕ) (n k : ℕ) {a : Laid} {l : List ℕ} {x y : Call} (e : x ≡ y) where
+module _ (d : List ℕ) (n k : ℕ) {a : Result ℕ Refusal} {l : List ℕ} {x y : Call} (e : x ≡ y) where
   pub called :
       a ≡ answer_by (change_on x d n) → l ≡ stopped_by k (change_on x d n) d → (a ≡ answer_by (change_on y d n)) × (l ≡ stopped_by k (change_on y d n) d)
   called f g = (f ∙ ap (λ (z : Call). answer_by (change_on z d n)) e, g ∙ ap (λ (z : Call). stopped_by k (change_on z d n) d) e)

@@ -1,4 +1,5 @@
 -- A log replayed: what it is judged by, and the walk over its entries. Assumes nothing.
+use Rattle.std.specs.Prelude.{Err, Ok, Result, ⊤, Option, Some, None}
 use Prim.Native.Nat.{ℕ, ◌+◌, ◌-◌, ◌≤◌, ◌<◌, min}
 use native.Mathlib.Omega.{arith}
 use mathlib.Core.Path.{◌≡◌, refl, sym, ap, ◌∙◌}
@@ -11,10 +12,6 @@ use Rattle.wire.specs.Bytes.{Bytes, part}
 use Rattle.wire.proofs.TestLaws.{means, yes}
 use Rattle.answer.specs.declared.Refusal.{Refusal}
 use Rattle.answer.specs.declared.Refusal.TheVariants.{Input, NotOpen}
-use Rattle.answer.specs.declared.Verdict.{Verdict}
-use Rattle.answer.specs.declared.Verdict.TheVariants as verdict
-use Rattle.answer.specs.declared.Laid.{Laid}
-use Rattle.answer.specs.declared.Laid.TheVariants as laid
 use Rattle.answer.specs.Refusals.{gate, unless_refused}
 use Rattle.answer.proofs.VerdictLaws.{gate_passed, refused_not}
 use Rattle.correction_logs.specs.Log.{end_of_entry, entry_right, log_right}
@@ -33,7 +30,7 @@ use Rattle.calls.proofs.ReadLaws.{worked_of}
 use Rattle.lawful.proofs.CaseLaws.{Refusing, refusing_gate}
 use Rattle.lawful.proofs.StepLaws.{after_buffer, after_bytes, refused_leaves}
 use Rattle.replay.specs.Entries.{call_at, calls_from, right_for, log_calls}
-use Rattle.replay.specs.Replay.{Stop, None, By, Outcome, replayed, replay_verdict, outcome_of, told_of, told, replay_answer, replay_out}
+use Rattle.replay.specs.Replay.{Outcome, replayed, replay_verdict, outcome_of, told_of, told, replay_answer, replay_out}
 use Rattle.replay.specs.ByHand.{WentThrough, StoppedAt, DoneBy, DoneByHand, StoppedBy, StoppedByHand, RefusedFirst}
 use Rattle.replay.specs.declared.Replayed.{Replayed}
 use Rattle.replay.specs.declared.Replayed.TheVariants.{Done, Stopped, Refused}
@@ -47,7 +44,7 @@ pub open_tile : (s : List ℕ) {u : ℕ} → open_for_writing s ≡ true → u �
 open_tile s o e = omega (arith, (worked_of s (sound_workable (open_sound s o))).tile)
 
 module _ (b : List ℕ) (n : ℕ) (log : List ℕ) where
-  pub judged_past : length b < n → verdict.Refused Input ≡ replay_verdict b n log
+  pub judged_past : length b < n → Err Input ≡ replay_verdict b n log
   unfolding replay_verdict
   judged_past h = open_past b n _ h
 
@@ -55,7 +52,7 @@ module _ (b : List ℕ) (n : ℕ) (log : List ℕ) where
     opened : {c : Bool} → f ≡ c → open_for_writing (page_in b n) ≡ c
     opened z = ap open_for_writing (sym (part_page b n e)) ∙ sym g ∙ z
 
-    pub judged_closed : f ≡ false → verdict.Refused NotOpen ≡ replay_verdict b n log
+    pub judged_closed : f ≡ false → Err NotOpen ≡ replay_verdict b n log
     unfolding replay_verdict on_open_page on_page gate
     judged_closed z = rw (← yes ((n ≤? length b) ∷ []) (h, tt), opened z)
 
@@ -67,11 +64,11 @@ module _ (b : List ℕ) (n : ℕ) (log : List ℕ) where
           let t : u ≡ tile_bytes s = open_tile s (sym g ∙ o) q in
           ap (λ (y : List ℕ). log_right (tile_count y) (tile_bytes y) log) (sym i) ∙ sym (r ∙ rw (p, t)) ∙ z
 
-      pub judged_wrong : x ≡ false → verdict.Refused Input ≡ replay_verdict b n log
+      pub judged_wrong : x ≡ false → Err Input ≡ replay_verdict b n log
       unfolding replay_verdict on_open_page on_page gate
       judged_wrong z = rw (← yes ((n ≤? length b) ∷ []) (h, tt), opened o, logged z)
 
-      pub judged_right : x ≡ true → verdict.Accepted ≡ replay_verdict b n log
+      pub judged_right : x ≡ true → Ok tt ≡ replay_verdict b n log
       unfolding replay_verdict on_open_page on_page gate
       judged_right z = rw (← yes ((n ≤? length b) ∷ []) (h, tt), opened o, logged z)
 
@@ -80,24 +77,24 @@ module _ (b : List ℕ) (n : ℕ) (log : List ℕ) where
     pub open_page_lem : open_for_writing (page_in b n) ≡ true
     pub right : log_right (tile_count (page_in b n)) (tile_bytes (page_in b n)) log ≡ true
 
-  pub admitted : replay_verdict b n log ≡ verdict.Accepted → Admitted
+  pub admitted : replay_verdict b n log ≡ Ok tt → Admitted
   unfolding replay_verdict on_open_page on_page right_for
   admitted e =
       let x = gate_passed _ _ _ e in
       let y = gate_passed _ _ _ x.1 in
       record { inside = (means _ x.0).0; open_page_lem = y.0; right = (gate_passed _ _ _ y.1).0 }
 
-  pub tile_told_lem : {s : List ℕ} {u : ℕ} → replay_verdict b n log ≡ verdict.Accepted → s ≡ part b 0 n → u ≡ min (tile_bytes s) cap → u ≡ tile_bytes (page_in b n)
+  pub tile_told_lem : {s : List ℕ} {u : ℕ} → replay_verdict b n log ≡ Ok tt → s ≡ part b 0 n → u ≡ min (tile_bytes s) cap → u ≡ tile_bytes (page_in b n)
   tile_told_lem v e f = open_tile (page_in b n) (admitted v).open_page_lem (f ∙ ap (λ (x : List ℕ). min (tile_bytes x) cap) (part_page b n e))
 
   -- what is answered then
 
-  pub answer_refused : {v : Verdict} → v ≡ replay_verdict b n log → (r : Refusal) → v ≡ verdict.Refused r → (Refused r ≡ replay_answer b n log) × (b ≡ replay_out b n log)
+  pub answer_refused : {v : Result ⊤ Refusal} → v ≡ replay_verdict b n log → (r : Refusal) → v ≡ Err r → (Refused r ≡ replay_answer b n log) × (b ≡ replay_out b n log)
   unfolding replay_answer replay_out unless_refused
   answer_refused e r f = rw (← e, f) (refl, refl)
 
   pub answer_done :
-      {v : Verdict} → v ≡ replay_verdict b n log → v ≡ verdict.Accepted → {x : Replayed} {l : List ℕ} → x ≡ told (outcome_of b n log) →
+      {v : Result ⊤ Refusal} → v ≡ replay_verdict b n log → v ≡ Ok tt → {x : Replayed} {l : List ℕ} → x ≡ told (outcome_of b n log) →
       l ≡ (outcome_of b n log).state.buffer → (x ≡ replay_answer b n log) × (l ≡ replay_out b n log)
   unfolding replay_answer replay_out unless_refused
   answer_done e f p q = rw (← e, f) (p, q)
@@ -127,7 +124,7 @@ module _ (m t : ℕ) (log : List ℕ) (o : Outcome) where
         (ap told e, ap (λ (x : Outcome). x.state.buffer) e)
 
     -- or an entry more
-    module _ (h : at < length log) (y : Bytes log) {a : Laid} {l : List ℕ} (e : a ≡ answer_by (change_on (call_at t log at) d k)) (f : l ≡ stopped_by 18446744073709551615 (change_on (call_at t log at) d k) d) where
+    module _ (h : at < length log) (y : Bytes log) {a : Result ℕ Refusal} {l : List ℕ} (e : a ≡ answer_by (change_on (call_at t log at) d k)) (f : l ≡ stopped_by 18446744073709551615 (change_on (call_at t log at) d k) d) where
       abbrev call : Call
       call = call_at t log at
 
@@ -149,7 +146,7 @@ module _ (m t : ℕ) (log : List ℕ) (o : Outcome) where
       pub going_less : {q : ℕ} → q ≡ min (end_of_entry t log at) (length log) → length log - q < length log - at
       going_less {q} g = walks_less m t log at q going_inside (sym entry) (right_end m t log at q entry g)
 
-      pub going_on : (j : ℕ) → a ≡ laid.Length j → {q : ℕ} → q ≡ min (end_of_entry t log at) (length log) → Going q l j (done + 1)
+      pub going_on : (j : ℕ) → a ≡ Ok j → {q : ℕ} → q ≡ min (end_of_entry t log at) (length log) → Going q l j (done + 1)
       unfolding page_of
       going_on j p {q} g =
           let i = right_end m t log at q entry g in
@@ -165,7 +162,7 @@ module _ (m t : ℕ) (log : List ℕ) (o : Outcome) where
             few = omega (arith, i, w.few, end_least t log at);
           }
 
-      pub going_stop : (r : Refusal) → a ≡ laid.Refused r → (Stopped r k done ≡ told o) × (l ≡ o.state.buffer)
+      pub going_stop : (r : Refusal) → a ≡ Err r → (Stopped r k done ≡ told o) × (l ≡ o.state.buffer)
       unfolding told
       going_stop r p =
           let e = sym (replayed_stop call (calls_from m t log (end_of_entry t log at)) here done r (sym answers ∙ p)) ∙ next in
@@ -173,7 +170,7 @@ module _ (m t : ℕ) (log : List ℕ) (o : Outcome) where
           (ap told e, writes ∙ u ∙ ap (λ (x : Outcome). x.state.buffer) e)
 
 pub going_first :
-    (b : List ℕ) (n : ℕ) (log : List ℕ) {t : ℕ} → Bytes b → replay_verdict b n log ≡ verdict.Accepted → t ≡ tile_bytes (page_in b n) →
+    (b : List ℕ) (n : ℕ) (log : List ℕ) {t : ℕ} → Bytes b → replay_verdict b n log ≡ Ok tt → t ≡ tile_bytes (page_in b n) →
     Going (tile_count (page_in b n)) t log (outcome_of b n log) 5 b n 0
 unfolding outcome_of log_calls
 going_first b n log v e f =
@@ -202,17 +199,17 @@ told_done : (o : Outcome) (m k : ℕ) → told o ≡ Done m k → (o.stop ≡ No
 unfolding told
 told_done o m k = go o.stop refl
   where
-    go : (x : Stop) → o.stop ≡ x → told_of x o.state o.done ≡ Done m k → (o.stop ≡ None) × ((o.state.long ≡ m) × (o.done ≡ k))
+    go : (x : Option Refusal) → o.stop ≡ x → told_of x o.state o.done ≡ Done m k → (o.stop ≡ None) × ((o.state.long ≡ m) × (o.done ≡ k))
     go None e f = (e, (cc, cc))
-    go (By r) e f = not_done f
+    go (Some r) e f = not_done f
 
-told_stopped : (o : Outcome) (r : Refusal) (m k : ℕ) → told o ≡ Stopped r m k → (o.stop ≡ By r) × ((o.state.long ≡ m) × (o.done ≡ k))
+told_stopped : (o : Outcome) (r : Refusal) (m k : ℕ) → told o ≡ Stopped r m k → (o.stop ≡ Some r) × ((o.state.long ≡ m) × (o.done ≡ k))
 unfolding told
 told_stopped o r m k = go o.stop refl
   where
-    go : (x : Stop) → o.stop ≡ x → told_of x o.state o.done ≡ Stopped r m k → (o.stop ≡ By r) × ((o.state.long ≡ m) × (o.done ≡ k))
+    go : (x : Option Refusal) → o.stop ≡ x → told_of x o.state o.done ≡ Stopped r m k → (o.stop ≡ Some r) × ((o.state.long ≡ m) × (o.done ≡ k))
     go None e f = not_done (sym f)
-    go (By q) e f = let z : q ≡ r = cc in (e ∙ ap By z, (cc, cc))
+    go (Some q) e f = let z : q ≡ r = cc in (e ∙ ap Some z, (cc, cc))
 
 module _ (b : List ℕ) (n : ℕ) (log : List ℕ) where
   abbrev calls : List Call
@@ -224,12 +221,12 @@ module _ (b : List ℕ) (n : ℕ) (log : List ℕ) where
   -- refused before the first entry, or what the entries come to
 
   pub record Went : Type 0 where
-    pub accepted : replay_verdict b n log ≡ verdict.Accepted
+    pub accepted : replay_verdict b n log ≡ Ok tt
     pub answer : replay_answer b n log ≡ told (outcome_of b n log)
     pub out : replay_out b n log ≡ (outcome_of b n log).state.buffer
 
   pub record Turned (r : Refusal) : Type 0 where
-    pub refused : replay_verdict b n log ≡ verdict.Refused r
+    pub refused : replay_verdict b n log ≡ Err r
     pub answer : replay_answer b n log ≡ Refused r
     pub out : replay_out b n log ≡ b
 
@@ -237,9 +234,9 @@ module _ (b : List ℕ) (n : ℕ) (log : List ℕ) where
   unfolding replay_answer replay_out unless_refused
   either {C} f g = go (replay_verdict b n log) refl
     where
-      go : (x : Verdict) → replay_verdict b n log ≡ x → C
-      go verdict.Accepted e = g (record { accepted = e; answer = rw e; out = rw e })
-      go (verdict.Refused r) e = f r (record { refused = e; answer = rw e; out = rw e })
+      go : (x : Result ⊤ Refusal) → replay_verdict b n log ≡ x → C
+      go (Ok accepted) e = g (record { accepted = e; answer = rw e; out = rw e })
+      go (Err r) e = f r (record { refused = e; answer = rw e; out = rw e })
 
   first_alone : Refusing (λ r. (r ≡ Input) ⊎ (r ≡ NotOpen)) (replay_verdict b n log)
   unfolding replay_verdict on_open_page on_page
@@ -283,7 +280,7 @@ module _ (b : List ℕ) (n : ℕ) (log : List ℕ) where
           rest = z.rest;
           whole = z.whole;
           each = z.each;
-          refused = z.refused ∙ ap laid.Refused (by_is (sym z.stop ∙ x.0));
+          refused = z.refused ∙ ap Err (by_is (sym z.stop ∙ x.0));
           left = left_is x.1.0 ∙ z.state;
           entries = sym x.1.1 ∙ z.done;
           open_page_lem = left_open v y x.1.0;
@@ -300,9 +297,9 @@ told_not : {C : Type 0} (o : Outcome) (r : Refusal) → told o ≡ Refused r →
 unfolding told
 told_not {C} o r = go o.stop
   where
-    go : (x : Stop) → told_of x o.state o.done ≡ Refused r → C
+    go : (x : Option Refusal) → told_of x o.state o.done ≡ Refused r → C
     go None e = not_refused (sym e)
-    go (By q) e = not_stopped (sym e)
+    go (Some q) e = not_stopped (sym e)
 
 pub refused_first : RefusedFirst
 refused_first b n log r e =
@@ -313,7 +310,7 @@ refused_first b n log r e =
     refusal_is e = cc
 
 pub record ToTheEnd (b : List ℕ) (n : ℕ) (log : List ℕ) (m : ℕ) : Type 0 where
-  pub accepted : replay_verdict b n log ≡ verdict.Accepted
+  pub accepted : replay_verdict b n log ≡ Ok tt
   pub left : record { buffer = replay_out b n log; long = m } ≡ (outcome_of b n log).state
   pub stop : (outcome_of b n log).stop ≡ None
 

@@ -1,4 +1,5 @@
 -- Each entry on what the last left: the page stays open, with its tiles and their sizes. Assumes nothing.
+use Rattle.std.specs.Prelude.{Err, Ok, Result, ⊤, Some}
 use Prim.Native.Nat.{ℕ, ◌+◌, ◌≤◌, ◌<◌, min}
 use native.Mathlib.Omega.{arith}
 use mathlib.Core.Path.{◌≡◌, refl, sym, ap, ◌∙◌}
@@ -11,9 +12,6 @@ use Rattle.wire.specs.Bytes.{Bytes}
 use Rattle.wire.proofs.TestLaws.{sum_same}
 use Rattle.answer.specs.declared.Refusal.{Refusal}
 use Rattle.answer.specs.declared.Refusal.TheVariants.{Ceiling, Room}
-use Rattle.answer.specs.declared.Verdict.{Verdict}
-use Rattle.answer.specs.declared.Laid.{Laid}
-use Rattle.answer.specs.declared.Laid.TheVariants.{Length, Refused}
 use Rattle.answer.proofs.VerdictLaws.{refused_not}
 use Rattle.header.specs.Fields.{element_count}
 use Rattle.header.specs.Element.{entries_read}
@@ -32,7 +30,7 @@ use Rattle.calls.proofs.AnswerLaws.{whole_call}
 use Rattle.lawful.proofs.CaseLaws.{Refusing, refusing_gate}
 use Rattle.lawful.proofs.StepLaws.{Stepped, stepped, after_bytes}
 use Rattle.corrected.proofs.SequenceLaws.{page_inside}
-use Rattle.replay.specs.Replay.{By, replayed, go_on}
+use Rattle.replay.specs.Replay.{replayed, go_on}
 use Rattle.replay.specs.ByHand.{Entry, Entries, StaysOpen}
 use Rattle.replay.proofs.EntryLaws.{RightOf, AllRight, entry_wants, entry_makes, entry_leaves}
 use Rattle.replay.proofs.HandLaws.{none_by, by_is}
@@ -56,13 +54,13 @@ module _ (d : List ℕ) (k : ℕ) (v : Bytes d) (o : open_for_writing (page_in d
   wants : change_on call d k ≡ change_of call d k
   wants = on_wanted call d k inside (entry_wants call n (page_in d k) o)
 
-  pub entry_answers : {a : Laid} → a ≡ answer_by (change_on call d k) → a ≡ answer_of call here
+  pub entry_answers : {a : Result ℕ Refusal} → a ≡ answer_by (change_on call d k) → a ≡ answer_of call here
   entry_answers e = e ∙ ap answer_by wants
 
   pub entry_writes : {l : List ℕ} → l ≡ stopped_by 18446744073709551615 (change_on call d k) d → l ≡ out_of call here
   entry_writes e = whole_call call (entry_makes call n) d k v (e ∙ ap (λ (c : Change). stopped_by 18446744073709551615 c d) wants)
 
-  module _ (m : ℕ) (q : answer_of call here ≡ Length m) where
+  module _ (m : ℕ) (q : answer_of call here ≡ Ok m) where
     step : Stepped call here m
     step = stepped call here m v g q
 
@@ -96,11 +94,11 @@ all_open [] st k v o g n = o
 all_open (call ∷ calls) st k v o g n = go (answer_of call st) refl (λ w q. all_open calls (after call st) (k + 1) w q g.1 n.1)
   where
     go :
-        (a : Laid) → answer_of call st ≡ a →
+        (a : Result ℕ Refusal) → answer_of call st ≡ a →
         (Bytes (after call st).buffer → open_for_writing (page_of (after call st)) ≡ true → open_for_writing (page_of (replayed calls (after call st) (k + 1)).state) ≡ true) →
         open_for_writing (page_of (go_on a (replayed calls (after call st) (k + 1)) st k).state) ≡ true
-    go (Length m) q f = f (after_bytes call st v g.0) (step_open st.buffer st.long v o call n.0 g.0 m q)
-    go (Refused r) q f = o
+    go (Ok m) q f = f (after_bytes call st v g.0) (step_open st.buffer st.long v o call n.0 g.0 m q)
+    go (Err r) q f = o
 
 pub stays_open : StaysOpen
 unfolding page_of
@@ -115,11 +113,11 @@ for_room : (b : List ℕ) (m : ℕ) → Refusing ForRoom (room_left b m)
 unfolding room_left
 for_room b m = refusing_gate ForRoom _ Room _ (inl refl) (refusing_gate ForRoom _ Ceiling _ (inr refl) (λ r e. refused_not (sym e)))
 
-tile_passes : (s : List ℕ) (i : ℕ) (v : Verdict) → i < tile_count s → Refusing ForRoom v → Refusing ForRoom (tile_then s i v)
+tile_passes : (s : List ℕ) (i : ℕ) (v : Result ⊤ Refusal) → i < tile_count s → Refusing ForRoom v → Refusing ForRoom (tile_then s i v)
 unfolding tile_then
 tile_passes s i v h f r e = f r (gate_yes ((i + 1 ≤? tile_count s) ∷ []) _ v (omega arith, tt) ∙ e)
 
-cells_pass : (s c : List ℕ) (v : Verdict) → length c ≡ tile_bytes s → Refusing ForRoom v → Refusing ForRoom (cells_then s c v)
+cells_pass : (s c : List ℕ) (v : Result ⊤ Refusal) → length c ≡ tile_bytes s → Refusing ForRoom v → Refusing ForRoom (cells_then s c v)
 unfolding cells_then
 cells_pass s c v h f r e = f r (gate_yes ((length c ≡? tile_bytes s) ∷ []) _ v (h, tt) ∙ e)
 
@@ -133,7 +131,7 @@ line_refused (Call.Squeezing ps) b s h = absurd h
 
 entry_refused :
     (st : State) → open_for_writing (page_of st) ≡ true → (call : Call) → Entry call → RightOf (tile_count (page_of st)) (tile_bytes (page_of st)) call →
-    (r : Refusal) → answer_of call st ≡ Refused r → ForRoom r
+    (r : Refusal) → answer_of call st ≡ Err r → ForRoom r
 unfolding answer_by page_of
 entry_refused st o call n h r e =
     line_refused call st.buffer (page_in st.buffer st.long) h r
@@ -144,20 +142,20 @@ entry_refused st o call n h r e =
 
 pub stopped_for :
     (calls : List Call) (st : State) (k : ℕ) → Bytes st.buffer → open_for_writing (page_of st) ≡ true → AllGiven calls → Entries calls →
-    AllRight (tile_count (page_of st)) (tile_bytes (page_of st)) calls → (r : Refusal) → (replayed calls st k).stop ≡ By r → ForRoom r
+    AllRight (tile_count (page_of st)) (tile_bytes (page_of st)) calls → (r : Refusal) → (replayed calls st k).stop ≡ Some r → ForRoom r
 unfolding replayed page_of
 stopped_for [] st k v o g n h r e = none_by r (sym e)
 stopped_for (call ∷ calls) st k v o g n h r e =
     go (answer_of call st) refl e (λ w q a f. stopped_for calls (after call st) (k + 1) w q g.1 n.1 a r f)
   where
     go :
-        (a : Laid) → answer_of call st ≡ a → (go_on a (replayed calls (after call st) (k + 1)) st k).stop ≡ By r →
+        (a : Result ℕ Refusal) → answer_of call st ≡ a → (go_on a (replayed calls (after call st) (k + 1)) st k).stop ≡ Some r →
         (Bytes (after call st).buffer → open_for_writing (page_of (after call st)) ≡ true →
-        AllRight (tile_count (page_of (after call st))) (tile_bytes (page_of (after call st))) calls → (replayed calls (after call st) (k + 1)).stop ≡ By r → ForRoom r) →
+        AllRight (tile_count (page_of (after call st))) (tile_bytes (page_of (after call st))) calls → (replayed calls (after call st) (k + 1)).stop ≡ Some r → ForRoom r) →
         ForRoom r
-    go (Length m) q e f =
+    go (Ok m) q e f =
         let w = step_open st.buffer st.long v o call n.0 g.0 m q in
         let x = step_tiles st.buffer st.long v o call n.0 g.0 m q in
         let y = step_tile st.buffer st.long v o call n.0 g.0 m q in
         f (after_bytes call st v g.0) w (rw (x, y) h.1) e
-    go (Refused q) a e f = rw (by_is e) at (entry_refused st o call n.0 h.0 q a)
+    go (Err q) a e f = rw (by_is e) at (entry_refused st o call n.0 h.0 q a)

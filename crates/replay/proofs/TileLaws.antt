@@ -1,4 +1,6 @@
 -- What the tiles depend on after a replay. Assumes nothing.
+use Rattle.std.specs.Prelude.{Err, Ok, Result, None}
+use Rattle.answer.specs.declared.Refusal.{Refusal}
 use Prim.Native.Nat.{ℕ, ◌+◌}
 use mathlib.Core.Path.{◌≡◌, refl, sym, ap, ◌∙◌}
 use mathlib.Core.Logic.{inr}
@@ -6,8 +8,6 @@ use mathlib.Core.List.{List, [], ◌∷◌}
 use mathlib.Core.Bool.{Bool, true, false}
 use lib.Dec.{eqb}
 use Rattle.wire.specs.Pick.{pick}
-use Rattle.answer.specs.declared.Laid.{Laid}
-use Rattle.answer.specs.declared.Laid.TheVariants.{Length, Refused}
 use Rattle.alone.specs.Alone.{SameHeader}
 use Rattle.page_laws.specs.Tiles.{tiles_of}
 use Rattle.correct.specs.Front.{page_in}
@@ -17,7 +17,7 @@ use Rattle.lawful.proofs.CaseLaws.{lawful}
 use Rattle.corrected.specs.Sequence.{map_after_all}
 use Rattle.corrected.proofs.SequenceLaws.{sequence}
 use Rattle.replay.specs.Entries.{log_calls}
-use Rattle.replay.specs.Replay.{None, Outcome, replayed, go_on, outcome_of}
+use Rattle.replay.specs.Replay.{Outcome, replayed, go_on, outcome_of}
 use Rattle.replay.specs.ByHand.{Answered}
 use Rattle.replay.specs.Tiles.{Last, Untouched, Stored, Removed, unless_later, last_of, last_for, tile_after, LastEntry, SameTiles, LogLastEntry, LogsSameTiles}
 use Rattle.replay.proofs.EntryLaws.{calls_given}
@@ -30,9 +30,9 @@ first_done : (call : Call) (calls : List Call) (st : State) (k : ℕ) → (repla
 unfolding replayed
 first_done call calls st k e = go (answer_of call st) refl e
   where
-    go : (a : Laid) → answer_of call st ≡ a → (go_on a (replayed calls (after call st) (k + 1)) st k).stop ≡ None → Answered call st
-    go (Length m) q f = record { long = m; answer = q }
-    go (Refused r) q f = none_by r f
+    go : (a : Result ℕ Refusal) → answer_of call st ≡ a → (go_on a (replayed calls (after call st) (k + 1)) st k).stop ≡ None → Answered call st
+    go (Ok m) q f = record { long = m; answer = q }
+    go (Err r) q f = none_by r f
 
 all_done : (calls : List Call) (st : State) (k : ℕ) → (replayed calls st k).stop ≡ None → (replayed calls st k).state ≡ after_all calls st
 unfolding replayed after_all

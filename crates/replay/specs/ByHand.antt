@@ -1,20 +1,19 @@
 -- Req 14: what a replay answers and leaves, by the calls by hand.
-use Rattle.std.specs.Prelude.{ℕ, ◌≡◌, ◌⊎◌, true, List, [], ◌∷◌, ◌++◌, length}
+use Rattle.std.specs.Prelude.{ℕ, ◌≡◌, ◌⊎◌, true, List, [], ◌∷◌, ◌++◌, length, Err, Ok, Some, None}
 use Rattle.wire.specs.Bytes.{Bytes}
 use Rattle.answer.specs.declared.Refusal.{Refusal}
 use Rattle.answer.specs.declared.Refusal.TheVariants.{Ceiling, Input, Room, NotOpen}
-use Rattle.answer.specs.declared.Laid.TheVariants as laid
 use Rattle.writable.specs.Writable.{open_for_writing}
 use Rattle.correct.specs.Front.{page_in}
 use Rattle.correct.specs.Calls.{Call, AllGiven, State, page_of, answer_of, after, after_all}
 use Rattle.replay.specs.Entries.{log_calls}
-use Rattle.replay.specs.Replay.{None, By, Outcome, replayed, replay_answer, replay_out}
+use Rattle.replay.specs.Replay.{Outcome, replayed, replay_answer, replay_out}
 use Rattle.replay.specs.declared.Replayed.TheVariants.{Done, Stopped, Refused}
 
 -- a call that is not refused, and calls none of which is, each on what the last left
 pub record Answered (call : Call) (st : State) : Type 0 where
   pub long : ℕ
-  pub answer : answer_of call st ≡ laid.Length long
+  pub answer : answer_of call st ≡ Ok long
 
 abbrev pub AllAnswered : List Call → State → Type 0
 AllAnswered [] st = Unit {0}
@@ -35,10 +34,10 @@ pub record StoppedAt (calls : List Call) (st : State) (o : Outcome) : Type 0 whe
   pub whole : calls ≡ first ++ (call ∷ rest)
   pub each : AllAnswered first st
   pub by : Refusal
-  pub refused : answer_of call (after_all first st) ≡ laid.Refused by
+  pub refused : answer_of call (after_all first st) ≡ Err by
   pub state : o.state ≡ after_all first st
   pub done : o.done ≡ length first
-  pub stop : o.stop ≡ By by
+  pub stop : o.stop ≡ Some by
 
 -- "Replay on an open page equals making the calls by hand", of any calls
 abbrev pub ByHand : Type 0
@@ -81,7 +80,7 @@ pub record StoppedBy (b : List ℕ) (n : ℕ) (log : List ℕ) (r : Refusal) (m 
   pub rest : List Call
   pub whole : log_calls (page_in b n) log ≡ first ++ (call ∷ rest)
   pub each : AllAnswered first (record { buffer = b; long = n })
-  pub refused : answer_of call (after_all first (record { buffer = b; long = n })) ≡ laid.Refused r
+  pub refused : answer_of call (after_all first (record { buffer = b; long = n })) ≡ Err r
   pub left : record { buffer = replay_out b n log; long = m } ≡ after_all first (record { buffer = b; long = n })
   pub entries : k ≡ length first
   pub open_page_lem : open_for_writing (page_in (replay_out b n log) m) ≡ true

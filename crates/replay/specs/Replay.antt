@@ -1,11 +1,7 @@
 -- Req 14: a replay. b is the buffer, n the page's length.
-use Rattle.std.specs.Prelude.{ℕ, ◌+◌, List, [], ◌∷◌}
+use Rattle.std.specs.Prelude.{ℕ, ◌+◌, List, [], ◌∷◌, Err, None, Ok, Result, ⊤, Option, Some}
 use Rattle.answer.specs.declared.Refusal.{Refusal}
 use Rattle.answer.specs.declared.Refusal.TheVariants.{Input}
-use Rattle.answer.specs.declared.Verdict.{Verdict}
-use Rattle.answer.specs.declared.Verdict.TheVariants.{Accepted}
-use Rattle.answer.specs.declared.Laid.{Laid}
-use Rattle.answer.specs.declared.Laid.TheVariants as laid
 use Rattle.answer.specs.Refusals.{refusal_number, refusal_place, gate, unless_refused}
 use Rattle.correct.specs.Front.{page_in}
 use Rattle.correct.specs.Answers.{on_open_page}
@@ -14,23 +10,18 @@ use Rattle.replay.specs.Entries.{right_for, log_calls}
 use Rattle.replay.specs.declared.Replayed.{Replayed}
 use Rattle.replay.specs.declared.Replayed.TheVariants.{Done, Stopped, Refused}
 
--- whether a refusal stopped it
-pub data Stop : Type 0 where
-  None : Stop
-  By : Refusal → Stop
-
 -- what a replay comes to: the buffer and the page's length, how many entries were done, and what stopped it
 pub record Outcome : Type 0 where
   pub state : State
   pub done : ℕ
-  pub stop : Stop
+  pub stop : Option Refusal
 
 -- "Replay on an open page equals making the calls by hand. A refusal by 13 or 4 stops it": each call of Req 03 on what the last left, up to
 -- the first that is refused (Req 14, readings 5 to 7). `done` counts those before. `answer_of` and `after` are what the contracts of
 -- calls::store_tile and calls::remove_tile say, so by hand is by what a user calls
-abbrev pub go_on : Laid → Outcome → State → ℕ → Outcome
-go_on (laid.Length m) on st done = on
-go_on (laid.Refused r) on st done = record { state = st; done = done; stop = By r }
+abbrev pub go_on : Result ℕ Refusal → Outcome → State → ℕ → Outcome
+go_on (Ok m) on st done = on
+go_on (Err r) on st done = record { state = st; done = done; stop = Some r }
 
 unfoldable pub replayed : List Call → State → ℕ → Outcome
 replayed [] st done = record { state = st; done = done; stop = None }
@@ -38,16 +29,16 @@ replayed (call ∷ calls) st done = go_on (answer_of call st) (replayed calls (a
 
 -- "A malformed log, or an index past the tiles anywhere in it, is 12 before the page is touched": behind the page's length, 12, and a page
 -- that is not open, 15 (Req 14, readings 3 and 4)
-unfoldable pub replay_verdict : List ℕ → ℕ → List ℕ → Verdict
-replay_verdict b n log = on_open_page b n (gate (right_for (page_in b n) log) Input Accepted)
+unfoldable pub replay_verdict : List ℕ → ℕ → List ℕ → Result ⊤ Refusal
+replay_verdict b n log = on_open_page b n (gate (right_for (page_in b n) log) Input (Ok tt))
 
 unfoldable pub outcome_of : List ℕ → ℕ → List ℕ → Outcome
 outcome_of b n log = replayed (log_calls (page_in b n) log) (record { buffer = b; long = n }) 0
 
 -- "reports the number of entries done and the length"
-abbrev pub told_of : Stop → State → ℕ → Replayed
+abbrev pub told_of : Option Refusal → State → ℕ → Replayed
 told_of None st done = Done st.long done
-told_of (By r) st done = Stopped r st.long done
+told_of (Some r) st done = Stopped r st.long done
 
 unfoldable pub told : Outcome → Replayed
 told o = told_of o.stop o.state o.done

@@ -1,7 +1,7 @@
 -- Req 14, "Show that when no entry is refused, the tiles depend only on the tiles before and the last entry for each index". The tiles are
 -- those of Req 03's map, from index to the contents of the elements, not the bytes of the page: places depend on all entries (Req 14,
 -- reading 8).
-use Rattle.std.specs.Prelude.{ℕ, ◌≡◌, List, [], ◌∷◌, true, eqb}
+use Rattle.std.specs.Prelude.{ℕ, ◌≡◌, List, [], ◌∷◌, true, eqb, None}
 use Rattle.wire.specs.Pick.{pick}
 use Rattle.wire.specs.Bytes.{Bytes}
 use Rattle.alone.specs.Alone.{SameHeader}
@@ -11,7 +11,7 @@ use Rattle.correct.specs.Storing.{plain_contents}
 use Rattle.correct.specs.Calls.{Call, AllGiven, State, page_of}
 use Rattle.page_laws.specs.Tiles.{tiles_of}
 use Rattle.replay.specs.Entries.{log_calls}
-use Rattle.replay.specs.Replay.{None, replayed, replay_answer, replay_out}
+use Rattle.replay.specs.Replay.{replayed, replay_answer, replay_out}
 use Rattle.replay.specs.declared.Replayed.TheVariants.{Done}
 
 -- the last call for an index

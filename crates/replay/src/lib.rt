@@ -2,15 +2,14 @@
 // 03, made without a check of the page.
 #![tactic(auto)]
 
-ghost use Rattle.std.specs.Prelude.{◌≡◌};
-ghost use Rattle.answer.specs.declared.Verdict.TheVariants.{Accepted};
+ghost use Rattle.std.specs.Prelude.{◌≡◌, Ok};
 ghost use Rattle.geometry.specs.Sizes.{tile_bytes};
 ghost use Rattle.correct.specs.Front.{page_in};
 ghost use Rattle.correct.specs.Calls.{change_on, answer_by, stopped_by};
 ghost use Rattle.replay.specs.Entries.{call_at};
 ghost use Rattle.replay.specs.Replay.{replay_verdict, outcome_of, told, replay_answer, replay_out, replayed_number, replayed_length, replayed_entries};
 
-use answer::{Laid, Refusal, Verdict};
+use answer::Refusal;
 use calls::on;
 use geometry::{sizes, tiles};
 
@@ -79,24 +78,24 @@ pub fn replayed_entries(x: Replayed) -> usize
 }
 
 // Before the page is touched: its length, whether it is open for writing, and the whole log: 12, 15, 12.
-fn judge_replay(buf: &[u8], n: usize, log: &[u8]) -> Verdict
+fn judge_replay(buf: &[u8], n: usize, log: &[u8]) -> Result<(), Refusal>
     ensures { result ≡ replay_verdict buf.now n log.now }
 {
     if buf.len() < n {
-        return Verdict::Refused(Refusal::Input);
+        return Err(Refusal::Input);
     }
     let s = wire::part_of(buf, 0, n);
     if writable::is_open(s) {
         if correction_logs::log_right(log, tiles::tile_count(s), sizes::tile_bytes(s) as usize) {
-            return Verdict::Accepted;
+            return Ok(());
         }
-        return Verdict::Refused(Refusal::Input);
+        return Err(Refusal::Input);
     }
-    Verdict::Refused(Refusal::NotOpen)
+    Err(Refusal::NotOpen)
 }
 
 // One entry, of a tile of so many bytes: its call on the page, which is taken to be open for writing.
-fn do_entry(buf: &mut [u8], n: usize, log: &[u8], at: usize, long: usize) -> Laid
+fn do_entry(buf: &mut [u8], n: usize, log: &[u8], at: usize, long: usize) -> Result<usize, Refusal>
     ensures answer { result ≡ answer_by (change_on (call_at long log.now at) buf.old n) }
     ensures buffer { buf.new ≡ stopped_by 18446744073709551615 (change_on (call_at long log.now at) buf.old n) buf.old }
 {
@@ -112,7 +111,7 @@ fn do_entry(buf: &mut [u8], n: usize, log: &[u8], at: usize, long: usize) -> Lai
 
 // The entries one behind the other, up to the first that is refused.
 fn do_entries(buf: &mut [u8], n: usize, log: &[u8], long: usize) -> Replayed
-    requires { (replay_verdict buf.old n log.now ≡ Accepted) × (long ≡ tile_bytes (page_in buf.old n)) }
+    requires { (replay_verdict buf.old n log.now ≡ Ok tt) × (long ≡ tile_bytes (page_in buf.old n)) }
     ensures answer { result ≡ told (outcome_of buf.old n log.now) }
     ensures buffer { buf.new ≡ (outcome_of buf.old n log.now).state.buffer }
 {
@@ -121,14 +120,14 @@ fn do_entries(buf: &mut [u8], n: usize, log: &[u8], long: usize) -> Replayed
     let mut entries = 0;
     while at < log.len() {
         match do_entry(buf, length, log, at, long) {
-            Laid::Refused(refusal) => {
+            Err(refusal) => {
                 return Replayed::Stopped {
                     refusal,
                     length,
                     entries,
                 };
             }
-            Laid::Length(m) => {
+            Ok(m) => {
                 length = m;
                 entries += 1;
                 at = correction_logs::end_of_entry(log, long, at);
@@ -144,8 +143,8 @@ pub fn replay(buf: &mut [u8], n: usize, log: &[u8]) -> Replayed
     ensures buffer { buf.new ≡ replay_out buf.old n log.now }
 {
     match judge_replay(buf, n, log) {
-        Verdict::Refused(r) => Replayed::Refused(r),
-        Verdict::Accepted => {
+        Err(r) => Replayed::Refused(r),
+        Ok(()) => {
             let long = sizes::tile_bytes(wire::part_of(buf, 0, n)) as usize;
             do_entries(buf, n, log, long)
         }

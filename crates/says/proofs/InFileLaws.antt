@@ -1,4 +1,5 @@
 -- What lies in an accepted file of the texts that a page says. Assumes nothing.
+use Rattle.std.specs.Prelude.{Ok}
 use Prim.Native.Nat.{ℕ, ◌+◌, ◌-◌, ◌≤◌, ◌<◌}
 use mathlib.Core.Path.{◌≡◌, refl, ◌∙◌}
 use mathlib.Core.List.{List}
@@ -9,7 +10,6 @@ use borrow.Author.Tests.{le-leb}
 use Rattle.wire.specs.Bytes.{u16_at}
 use Rattle.wire.proofs.TestLaws.{means}
 use Rattle.wire.proofs.ItemLaws.{advance_grows, advance_more, advance_mono}
-use Rattle.answer.specs.declared.Verdict.TheVariants.{Accepted}
 use Rattle.record.specs.Chain.{records}
 use Rattle.header.specs.Fields.{element_count, header_limit}
 use Rattle.header.specs.Element.{string_size, string_end, most_elements, label_at, description_at, unit_at, entry_start, unit_place, unit_length}
@@ -127,7 +127,7 @@ module _ (s : List ℕ) (few : element_count s ≤ most_elements) (t : tail_righ
 
 -- an element's
 
-module _ (s : List ℕ) (a : check s ≡ Accepted) (e : ℕ) (h : e < element_count s) where
+module _ (s : List ℕ) (a : check s ≡ Ok tt) (e : ℕ) (h : e < element_count s) where
   unit_in : string_end s (unit_at s (entry_start s e)) ≤ length s
   unfolding unit_place unit_length
   unit_in = omega (arith, (described_in_file s a).unit e h, string_there s (unit_at s (entry_start s e)))

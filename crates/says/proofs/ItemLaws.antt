@@ -1,4 +1,5 @@
 -- Lists of items of one size, given one by one. Assumes nothing.
+use Rattle.std.specs.Prelude.{Err, Ok, Result, ⊤}
 use Prim.Native.Nat.{ℕ, zero, suc, ◌+◌, ◌-◌, ◌≤◌, ◌<◌}
 use mathlib.Core.Path.{◌≡◌, refl, sym, ap, ◌∙◌}
 use mathlib.Core.List.{List, [], ◌∷◌, ◌++◌, map, flat_map}
@@ -16,8 +17,6 @@ use Rattle.wire.specs.Lists.{select, below}
 use Rattle.wire.proofs.PutLaws.{put_not, put_nil, put_put, length_put}
 use Rattle.wire.proofs.ListLaws.{below_long, below_at}
 use Rattle.answer.specs.declared.Refusal.{Refusal}
-use Rattle.answer.specs.declared.Verdict.{Verdict}
-use Rattle.answer.specs.declared.Verdict.TheVariants as verdict
 use Rattle.answer.specs.Refusals.{unless_refused}
 use Rattle.answer.proofs.VerdictLaws.{refusal_handed, answer_behind}
 use Rattle.page_check.specs.Stages.{check}
@@ -289,19 +288,19 @@ below_end n k h = drop_of_length-le (below n) {i = k} (omega (arith, below_size 
 
 -- behind the check
 
-module _ (s : List ℕ) (size from room : ℕ) (xs : List ℕ) (v : Verdict) (e : v ≡ check s) where
-  pub list_refused : (r : Refusal) → v ≡ verdict.Refused r → Refused r ≡ listed s size from xs room
+module _ (s : List ℕ) (size from room : ℕ) (xs : List ℕ) (v : Result ⊤ Refusal) (e : v ≡ check s) where
+  pub list_refused : (r : Refusal) → v ≡ Err r → Refused r ≡ listed s size from xs room
   unfolding listed
   list_refused r h = refusal_handed Refused v (check s) e _ r h
 
-  pub list_accepted : (r : Listed) → v ≡ verdict.Accepted → r ≡ items_of size from xs room → r ≡ listed s size from xs room
+  pub list_accepted : (r : Listed) → v ≡ Ok tt → r ≡ items_of size from xs room → r ≡ listed s size from xs room
   unfolding listed
   list_accepted r h q = answer_behind Refused v (check s) e _ r h (λ a. q)
 
-  pub none_listed : (f : ℕ → List ℕ) (r : Refusal) (d : List ℕ) → v ≡ verdict.Refused r → d ≡ put d 0 (listed_numbers s f size from xs room)
+  pub none_listed : (f : ℕ → List ℕ) (r : Refusal) (d : List ℕ) → v ≡ Err r → d ≡ put d 0 (listed_numbers s f size from xs room)
   unfolding listed_numbers unless_refused
   none_listed f r d h = rw (← e, h) (sym (put_nil d 0))
 
-  pub numbers_listed : (f : ℕ → List ℕ) (d d' : List ℕ) → v ≡ verdict.Accepted → d' ≡ put d 0 (item_numbers f size from xs room) → d' ≡ put d 0 (listed_numbers s f size from xs room)
+  pub numbers_listed : (f : ℕ → List ℕ) (d d' : List ℕ) → v ≡ Ok tt → d' ≡ put d 0 (item_numbers f size from xs room) → d' ≡ put d 0 (listed_numbers s f size from xs room)
   unfolding listed_numbers unless_refused
   numbers_listed f d d' h q = q ∙ rw (← e, h)

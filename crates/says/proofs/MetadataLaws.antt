@@ -1,4 +1,5 @@
 -- The metadata records in file order, and the one with a name and an ID. Assumes nothing.
+use Rattle.std.specs.Prelude.{None, Ok, Some}
 use Prim.Native.Nat.{ℕ, ◌+◌, ◌≤◌, ◌<◌}
 use mathlib.Core.Path.{◌≡◌, refl, sym, ap, ◌∙◌}
 use mathlib.Core.List.{List, [], ◌∷◌}
@@ -12,8 +13,6 @@ use Rattle.wire.specs.Tests.{◌≡?◌, is}
 use Rattle.wire.specs.Bytes.{byte_at, u16_at, u32_at, same_bytes, put}
 use Rattle.wire.specs.Lists.{select}
 use Rattle.wire.proofs.TestLaws.{no, either_way, not_both}
-use Rattle.answer.specs.declared.Lookup.TheVariants.{Number, Absent}
-use Rattle.record.specs.declared.Found.TheVariants.{At}
 use Rattle.record.specs.declared.Cursor.{Cursor}
 use Rattle.record.specs.declared.Step.{Step}
 use Rattle.record.specs.declared.Step.TheVariants.{Record}
@@ -157,7 +156,7 @@ module _ (s name : List ℕ) (id x i : ℕ) (p : i ≡ record_id s x) where
       (λ f y. not_both y.1.0 (sym (rw e at t) ∙ f))
 
 module _ (k : ℕ) (p : ℕ → Bool) (x : ℕ) (l : List ℕ) where
-  number_here : p x ≡ true → number_from k p (x ∷ l) ≡ At k
+  number_here : p x ≡ true → number_from k p (x ∷ l) ≡ Some k
   unfolding number_from
   number_here e = rw e
 
@@ -223,12 +222,12 @@ module _ {s name : List ℕ} {id at k kind st n : ℕ} {nx : Cursor} {x : Step} 
         few = omega (arith, z.next, z.is.long, i.few);
       }
 
-  pub key_here : (b : Bool) → kind ≡ 1 → b ≡ has_key s name id st → b ≡ true → Number k ≡ lookup_of (metadata_number s name id)
+  pub key_here : (b : Bool) → kind ≡ 1 → b ≡ has_key s name id st → b ≡ true → Ok (Some k) ≡ lookup_of (metadata_number s name id)
   key_here b f g h =
       let z = stepped u v in
       let a : has_key s name id at ≡ true = rw z.start at (sym g ∙ h) in
       ap lookup_of (sym (number_here k (has_key s name id) at (metadata_ahead s (at + length_at s at)) a)) ∙ ahead_is f
 
-pub key_over : {s name : List ℕ} {id at k : ℕ} {x : Step} → Keyed s name id at k → x ≡ step_at s at → (tag_of the_type x ≡ 1) ⊎ (tag_of the_type x ≡ 2) → Absent ≡ lookup_of (metadata_number s name id)
+pub key_over : {s name : List ℕ} {id at k : ℕ} {x : Step} → Keyed s name id at k → x ≡ step_at s at → (tag_of the_type x ≡ 1) ⊎ (tag_of the_type x ≡ 2) → Ok None ≡ lookup_of (metadata_number s name id)
 unfolding number_from
 key_over {s} {name} {id} {at} {k} {x} i v t = rw (ahead_none s at (over s at x v t)) at i.same

@@ -1,4 +1,5 @@
 -- What the lists and the look-up say of an accepted file. Assumes nothing.
+use Rattle.std.specs.Prelude.{Err, None, Ok, Option, Some}
 use Prim.Native.Nat.{ℕ, zero, suc, ◌+◌, ◌-◌, ◌*◌, ◌/◌, ◌≤◌, ◌<◌}
 use mathlib.Core.Path.{◌≡◌, refl, sym, ap, ◌∙◌}
 use mathlib.Core.List.{List, [], ◌∷◌, Memᴰ}
@@ -16,15 +17,11 @@ use Rattle.wire.proofs.ByteLaws.{same_is, is_same}
 use Rattle.wire.proofs.ListLaws.{Behind, behind_select, every_member, select_member, member_select, select_append}
 use Rattle.wire.proofs.RunLaws.{member_below, below_member, below_behind, place_member}
 use Rattle.wire.proofs.CountLaws.{count_same}
-use Rattle.answer.specs.declared.Verdict.TheVariants.{Accepted}
 use Rattle.answer.specs.declared.Refusal.TheVariants.{Compressed}
 use Rattle.answer.specs.declared.Location.{Location}
 use Rattle.answer.specs.declared.Cell.TheVariants as cell
-use Rattle.answer.specs.declared.Lookup.TheVariants.{Number}
 use Rattle.answer.specs.Refusals.{unless_refused}
 use Rattle.answer.specs.Answers.{cell_kind}
-use Rattle.record.specs.declared.Found.{Found}
-use Rattle.record.specs.declared.Found.TheVariants.{At, Nothing}
 use Rattle.record.specs.Chain.{records, records_of}
 use Rattle.record.proofs.FindLaws.{at_is, found_not, first_holds, records_behind}
 use Rattle.header.specs.Element.{entries_read}
@@ -95,7 +92,7 @@ module _ (s : List ℕ) where
   ascending i k h n =
       behind_order 0 (select (stored s) (below (tile_count s))) i k (behind_select (stored s) 0 (below (tile_count s)) (below_behind (tile_count s))) h n
 
-  module _ (a : check s ≡ Accepted) where
+  module _ (a : check s ≡ Ok tt) where
     one : OneToOne s
     one = obeys_one s (records s) (accepted_obeys s a)
 
@@ -176,8 +173,8 @@ stored_kind s w e place = refl
 
 -- a stored tile's record is the one meant
 
-module _ (s : List ℕ) (a : check s ≡ Accepted) (i : ℕ) (m : Memᴰ i (stored_tiles s)) where
-  found : meant s i ≡ At (tile_record_at s i)
+module _ (s : List ℕ) (a : check s ≡ Ok tt) (i : ℕ) (m : Memᴰ i (stored_tiles s)) where
+  found : meant s i ≡ Some (tile_record_at s i)
   unfolding referred_to tile_record_at
   found =
       let p = among s m in
@@ -192,7 +189,7 @@ module _ (s : List ℕ) (a : check s ≡ Accepted) (i : ℕ) (m : Memᴰ i (stor
     where
       go :
           (b : Bool) →
-          cell_kind (pick b (cell.Refused (Compressed (tile_record_at s i))) (stored_at s (location_of s row column) e (place_in s (tile_record_at s i) row column e))) ≡ pick b 11 32
+          cell_kind (pick b (Err (Compressed (tile_record_at s i))) (stored_at s (location_of s row column) e (place_in s (tile_record_at s i) row column e))) ≡ pick b 11 32
       go true = refl
       go false = stored_kind s (location_of s row column) e (place_in s (tile_record_at s i) row column e)
 
@@ -210,7 +207,7 @@ module _ (s : List ℕ) (a : check s ≡ Accepted) (i : ℕ) (m : Memᴰ i (stor
       go true = refl
       go false = refl
 
-  index_named : Bytes s → (e : ℕ) → first_packed s (tile_record_at s i) ≡ At e → unpackable s (compressor_of s (tile_record_at s i)) (tile_record_at s i) e ≡ true
+  index_named : Bytes s → (e : ℕ) → first_packed s (tile_record_at s i) ≡ Some e → unpackable s (compressor_of s (tile_record_at s i)) (tile_record_at s i) e ≡ true
   unfolding first_packed compressor_of unpackable packed_coded byte_at
   index_named b e f =
       let x : ℕ = tile_record_at s i in
@@ -223,17 +220,17 @@ packed_said s b a i m = record { told = told s a i m; named = index_named s a i 
 -- the look-up
 
 module _ (p : ℕ → Bool) where
-  number_holds : {C : Type 0} (j : ℕ) (l : List ℕ) (k : ℕ) → number_from j p l ≡ At k → ((d : ℕ) → k ≡ j + d → d < length l → p (get_or l d 0) ≡ true → C) → C
+  number_holds : {C : Type 0} (j : ℕ) (l : List ℕ) (k : ℕ) → number_from j p l ≡ Some k → ((d : ℕ) → k ≡ j + d → d < length l → p (get_or l d 0) ≡ true → C) → C
   unfolding number_from
   number_holds j [] k e f = found_not (sym e) refl
   number_holds {C} j (x ∷ l) k e f = go (p x) refl (number_holds {C = C} (j + 1) l k)
     where
-      go : (b : Bool) → p x ≡ b → (number_from (j + 1) p l ≡ At k → ((d : ℕ) → k ≡ j + 1 + d → d < length l → p (get_or l d 0) ≡ true → C) → C) → C
+      go : (b : Bool) → p x ≡ b → (number_from (j + 1) p l ≡ Some k → ((d : ℕ) → k ≡ j + 1 + d → d < length l → p (get_or l d 0) ≡ true → C) → C) → C
       go true h r = let z : j ≡ k = at_is (rw h at e) in f 0 (omega (arith, z)) (omega arith) h
       go false h r = r (rw h at e) (λ d u v w. f (suc d) (omega (arith, u)) (omega (arith, v)) w)
 
   holds_number :
-      (j : ℕ) (l : List ℕ) (d : ℕ) → d < length l → p (get_or l d 0) ≡ true → ((c : ℕ) → c < d → p (get_or l c 0) ≡ false) → number_from j p l ≡ At (j + d)
+      (j : ℕ) (l : List ℕ) (d : ℕ) → d < length l → p (get_or l d 0) ≡ true → ((c : ℕ) → c < d → p (get_or l c 0) ≡ false) → number_from j p l ≡ Some (j + d)
   unfolding number_from
   holds_number j [] d h e f = absurd (omega arith)
   holds_number j (x ∷ l) zero h e f = let z : j + 0 ≡ j = omega arith in rw (z, e)
@@ -241,9 +238,9 @@ module _ (p : ℕ → Bool) where
       let z : j + suc d ≡ j + 1 + d = omega arith in
       rw (z, f 0 (omega arith)) (holds_number (j + 1) l d (omega arith) e (λ c k. f (suc c) (omega arith)))
 
-number_found : (f : Found) (e : ℕ) → lookup_of f ≡ Number e → f ≡ At e
-number_found (At x) e p = let z : x ≡ e = cc in ap At z
-number_found Nothing e p = let z : ◌≡◌ {A = ℕ} 0 1 = cc in absurd (omega arith)
+number_found : (f : Option ℕ) (e : ℕ) → lookup_of f ≡ Ok (Some e) → f ≡ Some e
+number_found (Some x) e p = let z : x ≡ e = cc in ap Some z
+number_found None e p = let z : ◌≡◌ {A = ℕ} 0 1 = cc in absurd (omega arith)
 
 apart_key : (a b : Bool) → a ≡ false → b ≡ true → a || not b ≡ true → ⊥
 apart_key true b p q h = not_both refl p
@@ -254,7 +251,7 @@ increasing : (s : List ℕ) → Behind 0 (metadata_records s)
 unfolding metadata_records
 increasing s = records_behind s 1
 
-module _ (s : List ℕ) (a : check s ≡ Accepted) where
+module _ (s : List ℕ) (a : check s ≡ Ok tt) where
   keys : keys_distinct s ≡ true
   unfolding metadata_directory_right
   keys = (means _ (accepted_sound s a).metadata_directory_lem).1.1.1.1.1.0
@@ -264,7 +261,7 @@ module _ (s : List ℕ) (a : check s ≡ Accepted) where
   behind name id = rw a
 
   by_number :
-      (name : List ℕ) (id k : ℕ) → read_metadata s name id ≡ Number k →
+      (name : List ℕ) (id k : ℕ) → read_metadata s name id ≡ Ok (Some k) →
       (k < length (metadata_records s)) × ((metadata_name s (get_or (metadata_records s) k 0) ≡ name) × (record_id s (get_or (metadata_records s) k 0) ≡ id))
   unfolding metadata_number has_key
   by_number name id k e =
@@ -291,7 +288,7 @@ module _ (s : List ℕ) (a : check s ≡ Accepted) where
 
   by_own :
       (k : ℕ) → k < length (metadata_records s) →
-      read_metadata s (metadata_name s (get_or (metadata_records s) k 0)) (record_id s (get_or (metadata_records s) k 0)) ≡ Number k
+      read_metadata s (metadata_name s (get_or (metadata_records s) k 0)) (record_id s (get_or (metadata_records s) k 0)) ≡ Ok (Some k)
   unfolding metadata_number
   by_own k h =
       let l : List ℕ = metadata_records s in
@@ -301,7 +298,7 @@ module _ (s : List ℕ) (a : check s ≡ Accepted) where
       ∙ ap lookup_of
       (holds_number (has_key s (metadata_name s y) (record_id s y)) 0 l k h (own_key y y refl refl)
       (λ c n. other_key (get_or l c 0) y (place_member l c (omega arith)) (place_member l k h) (ordered c k n h)))
-      ∙ ap Number z
+      ∙ ap (λ (y : ℕ). Ok (Some y)) z
     where
       ordered : (c d : ℕ) → c < d → d < length (metadata_records s) → get_or (metadata_records s) c 0 < get_or (metadata_records s) d 0
       ordered c d n h = behind_order 0 (metadata_records s) c d (increasing s) n h

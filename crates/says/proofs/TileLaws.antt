@@ -1,4 +1,5 @@
 -- The stored tiles: the fields of a tile record on any bytes, the mask, the index, and the list under way. Assumes nothing.
+use Rattle.std.specs.Prelude.{None}
 use Prim.Native.Nat.{ℕ, zero, suc, ◌+◌, ◌-◌, ◌*◌, min, ◌≤◌, ◌<◌}
 use mathlib.Core.Path.{◌≡◌, refl, sym, ap, ◌∙◌}
 use mathlib.Core.List.{List, [], ◌∷◌}
@@ -12,7 +13,6 @@ use Rattle.wire.specs.Bytes.{byte_at, u32_at, put}
 use Rattle.wire.specs.Lists.{select, below}
 use Rattle.wire.proofs.TestLaws.{yes, no, either_way, not_both, sum_none, sum_more}
 use Rattle.wire.proofs.ByteLaws.{byte_out, number_out}
-use Rattle.record.specs.declared.Found.TheVariants.{Nothing}
 use Rattle.record.specs.Chain.{find}
 use Rattle.record.proofs.FindLaws.{first_start, first_on, first_at}
 use Rattle.header.specs.Element.{element, float_kind, entries_read}
@@ -127,7 +127,7 @@ mask_end s x m e n q h k c = let z : e ≡ entries_read s = omega arith in rw z 
 
 pub record Uncoded (s : List ℕ) (x n e : ℕ) : Type 0 where
   pub inside : e ≤ n
-  pub none : find (packed_coded s x) (below e) ≡ Nothing
+  pub none : find (packed_coded s x) (below e) ≡ None
 
 pub uncoded_begin : (s : List ℕ) (x n : ℕ) → Uncoded s x n 0
 uncoded_begin s x n = record { inside = omega arith; none = first_start _ }

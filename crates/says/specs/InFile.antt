@@ -1,10 +1,9 @@
 -- What of the places and texts that a page says lies in an accepted file, and what they are (document 01, stages 3 and 8; Req 06). The names
 -- of methods are any bytes.
-use Rattle.std.specs.Prelude.{ℕ, ◌+◌, ◌≤◌, ◌<◌, ◌≡◌, true, length}
+use Rattle.std.specs.Prelude.{ℕ, ◌+◌, ◌≤◌, ◌<◌, ◌≡◌, true, length, Ok}
 use mathlib.Core.List.{List, Memᴰ}
 use Rattle.wire.specs.Bytes.{u16_at, part}
 use Rattle.utf8.specs.Utf8.{utf8}
-use Rattle.answer.specs.declared.Verdict.TheVariants.{Accepted}
 use Rattle.header.specs.Names.{identifier, longest_name}
 use Rattle.header.specs.Texts.{text_right}
 use Rattle.header.specs.Fields.{element_count}
@@ -51,4 +50,4 @@ pub record TextsIn (s : List ℕ) : Type 0 where
   pub methods : (k : ℕ) → k < method_count s → method_at s k + 2 + u16_at s (method_at s k) ≤ length s
 
 abbrev pub SaidInFile : Type 0
-SaidInFile = (s : List ℕ) → check s ≡ Accepted → TextsIn s
+SaidInFile = (s : List ℕ) → check s ≡ Ok tt → TextsIn s

@@ -1,15 +1,11 @@
 -- G Table 14: the metadata records in file order, whatever the order of the metadata directory is, and the look-up of one by its name and
 -- record ID.
-use Rattle.std.specs.Prelude.{ℕ, ◌+◌, ◌<◌, ◌≡◌, List, [], ◌∷◌, Bool, length, get_or, eqb}
+use Rattle.std.specs.Prelude.{ℕ, ◌+◌, ◌<◌, ◌≡◌, List, [], ◌∷◌, Bool, length, get_or, eqb, Err, None, Ok, Option, Result, Some}
+use Rattle.answer.specs.declared.Refusal.{Refusal}
 use Rattle.wire.specs.Pick.{pick}
 use Rattle.wire.specs.Tests.{◌≡?◌, is, passes}
 use Rattle.wire.specs.Bytes.{u16_at, same_bytes}
-use Rattle.answer.specs.declared.Verdict.TheVariants.{Accepted}
-use Rattle.answer.specs.declared.Lookup.{Lookup}
-use Rattle.answer.specs.declared.Lookup.TheVariants.{Number, Refused}
 use Rattle.answer.specs.Refusals.{unless_refused}
-use Rattle.record.specs.declared.Found.{Found}
-use Rattle.record.specs.declared.Found.TheVariants.{At, Nothing}
 use Rattle.record.specs.Types.{metadata_type}
 use Rattle.record.specs.Record.{type_at}
 use Rattle.record.specs.Chain.{records_of}
@@ -37,28 +33,28 @@ unfoldable pub has_key : List ℕ → List ℕ → ℕ → ℕ → Bool
 has_key s name id x = passes ((record_id s x ≡? id) ∷ is (same_bytes (metadata_name s x) name) ∷ [])
 
 -- the number of the first of xs of which a rule holds, where the first of all has the number k
-unfoldable pub number_from : ℕ → (ℕ → Bool) → List ℕ → Found
-number_from k p [] = Nothing
-number_from k p (x ∷ xs) = pick (p x) (At k) (number_from (k + 1) p xs)
+unfoldable pub number_from : ℕ → (ℕ → Bool) → List ℕ → Option ℕ
+number_from k p [] = None
+number_from k p (x ∷ xs) = pick (p x) (Some k) (number_from (k + 1) p xs)
 
 -- the number of the record with that key among the metadata records; an accepted file has no second (stage 9)
-unfoldable pub metadata_number : List ℕ → List ℕ → ℕ → Found
+unfoldable pub metadata_number : List ℕ → List ℕ → ℕ → Option ℕ
 metadata_number s name id = number_from 0 (has_key s name id) (metadata_records s)
 
 -- behind the check; that there is none is no refusal
-unfoldable pub read_metadata : List ℕ → List ℕ → ℕ → Lookup
-read_metadata s name id = unless_refused Refused (check s) (lookup_of (metadata_number s name id))
+unfoldable pub read_metadata : List ℕ → List ℕ → ℕ → Result (Option ℕ) Refusal
+read_metadata s name id = unless_refused Err (check s) (lookup_of (metadata_number s name id))
 
 -- what the look-up says of an accepted file
 pub record ByKey (s : List ℕ) : Type 0 where
   -- a number is that of a record with the name and ID
   pub number :
-      (name : List ℕ) (id k : ℕ) → read_metadata s name id ≡ Number k →
+      (name : List ℕ) (id k : ℕ) → read_metadata s name id ≡ Ok (Some k) →
       (k < length (metadata_records s)) × ((metadata_name s (get_or (metadata_records s) k 0) ≡ name) × (record_id s (get_or (metadata_records s) k 0) ≡ id))
   -- and every record is found by its own
   pub found :
       (k : ℕ) → k < length (metadata_records s) →
-      read_metadata s (metadata_name s (get_or (metadata_records s) k 0)) (record_id s (get_or (metadata_records s) k 0)) ≡ Number k
+      read_metadata s (metadata_name s (get_or (metadata_records s) k 0)) (record_id s (get_or (metadata_records s) k 0)) ≡ Ok (Some k)
 
 abbrev pub MetadataSaid : Type 0
-MetadataSaid = (s : List ℕ) → check s ≡ Accepted → ByKey s
+MetadataSaid = (s : List ℕ) → check s ≡ Ok tt → ByKey s

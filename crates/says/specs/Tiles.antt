@@ -1,14 +1,11 @@
 -- The stored tiles, ascending by index: where each one's record starts, which of its elements are packed, and by what.
-use Rattle.std.specs.Prelude.{ℕ, zero, suc, ◌-◌, ◌*◌, ◌/◌, ◌%◌, ◌<◌, ◌≡◌, Bool, true, not, length, get_or, eqb}
+use Rattle.std.specs.Prelude.{ℕ, zero, suc, ◌-◌, ◌*◌, ◌/◌, ◌%◌, ◌<◌, ◌≡◌, Bool, true, not, length, get_or, eqb, None, Ok, Option, Some}
 use mathlib.Core.List.{List, [], ◌∷◌, Memᴰ}
 use Rattle.wire.specs.Pick.{pick}
 use Rattle.wire.specs.Tests.{◌≢?◌, is, passes, sum_below}
 use Rattle.wire.specs.Bytes.{Bytes, byte_at}
 use Rattle.wire.specs.Lists.{select, below, one_if}
-use Rattle.answer.specs.declared.Verdict.TheVariants.{Accepted}
 use Rattle.answer.specs.Answers.{cell_kind}
-use Rattle.record.specs.declared.Found.{Found}
-use Rattle.record.specs.declared.Found.TheVariants.{At, Nothing}
 use Rattle.record.specs.Types.{tile_type}
 use Rattle.record.specs.Chain.{find, records_of}
 use Rattle.header.specs.Element.{element, float_kind, entries_read}
@@ -50,13 +47,13 @@ packed_mask s x = mask_of (entries_read s) (packed s x)
 unfoldable pub packed_coded : List ℕ → ℕ → ℕ → Bool
 packed_coded s x e = passes (((element s e).kind ≢? float_kind) ∷ is (packed s x e) ∷ [])
 
-unfoldable pub first_packed : List ℕ → ℕ → Found
+unfoldable pub first_packed : List ℕ → ℕ → Option ℕ
 first_packed s x = find (packed_coded s x) (below (entries_read s))
 
 -- the compressor index of the first such: the first byte of its content (G 6); 256, which no content has, where there is none
-abbrev pub index_of : List ℕ → ℕ → Found → ℕ
-index_of s x (At e) = byte_at s (element_content_at s x e)
-index_of s x Nothing = 256
+abbrev pub index_of : List ℕ → ℕ → Option ℕ → ℕ
+index_of s x (Some e) = byte_at s (element_content_at s x e)
+index_of s x None = 256
 
 unfoldable pub compressor_of : List ℕ → ℕ → ℕ
 compressor_of s x = index_of s x (first_packed s x)
@@ -78,7 +75,7 @@ pub record Tiled (s : List ℕ) : Type 0 where
   pub as_many : length (stored_tiles s) ≡ length (records_of s tile_type)
 
 abbrev pub TilesSaid : Type 0
-TilesSaid = (s : List ℕ) → check s ≡ Accepted → Tiled s
+TilesSaid = (s : List ℕ) → check s ≡ Ok tt → Tiled s
 
 -- bit e of a number, 1 where it is set
 unfoldable pub bit_of : ℕ → ℕ → ℕ
@@ -92,7 +89,7 @@ pub record PackedTile (s : List ℕ) (i : ℕ) : Type 0 where
       (row column e : ℕ) → in_grid s row column e ≡ true → cell_tile s row column ≡ i →
       bit_of e (packed_mask s (tile_record_at s i)) ≡ one_if (eqb (cell_kind (meaning s 256 row column e)) 11)
   -- the index that is said is one by which the first packed element that is no Float can be unpacked
-  pub named : (e : ℕ) → first_packed s (tile_record_at s i) ≡ At e → unpackable s (compressor_of s (tile_record_at s i)) (tile_record_at s i) e ≡ true
+  pub named : (e : ℕ) → first_packed s (tile_record_at s i) ≡ Some e → unpackable s (compressor_of s (tile_record_at s i)) (tile_record_at s i) e ≡ true
 
 abbrev pub PackedSaid : Type 0
-PackedSaid = (s : List ℕ) → Bytes s → check s ≡ Accepted → (i : ℕ) → Memᴰ i (stored_tiles s) → PackedTile s i
+PackedSaid = (s : List ℕ) → Bytes s → check s ≡ Ok tt → (i : ℕ) → Memᴰ i (stored_tiles s) → PackedTile s i

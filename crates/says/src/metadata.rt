@@ -7,7 +7,7 @@ ghost use Rattle.says.specs.Metadata.{is_metadata, metadata_records, metadata_sa
 
 use crate::lists;
 use crate::lists::{Listed, Progress};
-use answer::{Lookup, Verdict};
+use answer::Refusal;
 use bodies::metadata_record;
 use record::{Cursor, Step, chain};
 
@@ -87,8 +87,8 @@ pub fn metadata(file: &[u8], from: u64, numbers: &mut [u64]) -> Listed
     ensures numbers { numbers.new ≡ put numbers.old 0 (listed_numbers file.now (metadata_says file.now) 9 from (metadata_records file.now) (length numbers.old)) }
 {
     match store::check(file) {
-        Verdict::Refused(r) => Listed::Refused(r),
-        Verdict::Accepted => list_records(file, from, numbers),
+        Err(r) => Listed::Refused(r),
+        Ok(()) => list_records(file, from, numbers),
     }
 }
 
@@ -103,7 +103,7 @@ fn has_key(s: &[u8], x: usize, name: &[u8], id: u32) -> bool
 }
 
 // The number of the first that has them, on any bytes.
-fn find_keyed(s: &[u8], name: &[u8], id: u32) -> Lookup
+fn find_keyed(s: &[u8], name: &[u8], id: u32) -> Result<Option<usize>, Refusal>
     ensures { result ≡ lookup_of (metadata_number s.now name.now id) }
 {
     let mut c = Cursor {
@@ -118,11 +118,11 @@ fn find_keyed(s: &[u8], name: &[u8], id: u32) -> Lookup
             next,
         } = c.step(s)
         else {
-            return Lookup::Absent;
+            return Ok(None);
         };
         if kind == record::METADATA {
             if has_key(s, start, name, id) {
-                return Lookup::Number(k);
+                return Ok(Some(k));
             }
             k += 1;
         }
@@ -131,11 +131,11 @@ fn find_keyed(s: &[u8], name: &[u8], id: u32) -> Lookup
 }
 
 // The number of the metadata record with a name and an ID, as `metadata` counts them. Its time is one check, and one pass over the records.
-pub fn find_metadata(file: &[u8], name: &[u8], id: u32) -> Lookup
+pub fn find_metadata(file: &[u8], name: &[u8], id: u32) -> Result<Option<usize>, Refusal>
     ensures { result ≡ read_metadata file.now name.now id }
 {
     match store::check(file) {
-        Verdict::Refused(r) => Lookup::Refused(r),
-        Verdict::Accepted => find_keyed(file, name, id),
+        Err(r) => Err(r),
+        Ok(()) => find_keyed(file, name, id),
     }
 }

@@ -7,7 +7,6 @@ ghost use Rattle.says.specs.Methods.{method_at, next_name, method_says, method_i
 
 use crate::lists;
 use crate::lists::{Listed, Progress};
-use answer::Verdict;
 use header::{entries, fields, tail};
 
 // Where the first name stands.
@@ -70,7 +69,7 @@ pub fn methods(file: &[u8], from: u64, numbers: &mut [u64]) -> Listed
     ensures numbers { numbers.new ≡ put numbers.old 0 (listed_numbers file.now (method_says file.now) 2 from (method_indexes file.now) (length numbers.old)) }
 {
     match store::check(file) {
-        Verdict::Refused(r) => Listed::Refused(r),
-        Verdict::Accepted => list_names(file, from, numbers),
+        Err(r) => Listed::Refused(r),
+        Ok(()) => list_names(file, from, numbers),
     }
 }

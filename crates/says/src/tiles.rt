@@ -1,7 +1,6 @@
 // The stored tiles, ascending by index.
-ghost use Rattle.std.specs.Prelude.{◌≡◌, ◌≤◌, ◌<◌, length};
+ghost use Rattle.std.specs.Prelude.{◌≡◌, ◌≤◌, ◌<◌, length, Ok};
 ghost use Rattle.wire.specs.Bytes.{byte_at, put};
-ghost use Rattle.answer.specs.declared.Verdict.TheVariants.{Accepted};
 ghost use Rattle.bodies.specs.TileRecord.{section_length, element_content_at};
 ghost use Rattle.page_check.specs.Stages.{check};
 ghost use Rattle.cells.specs.TileCells.{packed};
@@ -10,7 +9,6 @@ ghost use Rattle.says.specs.Tiles.{stored, stored_tiles, bit_if, packed_mask, pa
 
 use crate::lists;
 use crate::lists::{Listed, Progress};
-use answer::Verdict;
 use bodies::{tile_directory, tile_record};
 use geometry::sizes;
 use header::entries;
@@ -125,7 +123,7 @@ fn offer_tile(s: &[u8], i: u32, p: Progress, numbers: &mut [u64]) -> Progress
 
 // Those of an accepted file.
 fn list_tiles(s: &[u8], from: u64, numbers: &mut [u64]) -> Listed
-    requires { check s.now ≡ Accepted }
+    requires { check s.now ≡ Ok tt }
     ensures is { result ≡ items_of 4 from (stored_tiles s.now) (length numbers.old) }
     ensures numbers { numbers.new ≡ put numbers.old 0 (item_numbers (tile_says s.now) 4 from (stored_tiles s.now) (length numbers.old)) }
 {
@@ -154,7 +152,7 @@ pub fn tiles(file: &[u8], from: u64, numbers: &mut [u64]) -> Listed
     ensures numbers { numbers.new ≡ put numbers.old 0 (listed_numbers file.now (tile_says file.now) 4 from (stored_tiles file.now) (length numbers.old)) }
 {
     match store::check(file) {
-        Verdict::Refused(r) => Listed::Refused(r),
-        Verdict::Accepted => list_tiles(file, from, numbers),
+        Err(r) => Listed::Refused(r),
+        Ok(()) => list_tiles(file, from, numbers),
     }
 }

@@ -1,4 +1,5 @@
 -- What no record, one, or several with different IDs say as a rule. Assumes nothing.
+use Rattle.std.specs.Prelude.{Ok}
 use Prim.Native.Nat.{ℕ, ◌<◌}
 use mathlib.Core.Path.{◌≡◌, refl, sym, ap, ◌∙◌}
 use mathlib.Core.List.{List, [], ◌∷◌}
@@ -9,7 +10,6 @@ use lib.Dec.{eqb}
 use borrow.Author.Tests.{eqb-true, ne_eqb}
 use Rattle.wire.specs.Pick.{pick}
 use Rattle.wire.specs.Lists.{some}
-use Rattle.answer.specs.declared.Verdict.TheVariants.{Accepted}
 use Rattle.store.specs.Face.{check}
 use Rattle.store.specs.Named.{ids_named, as_named, name_said}
 use Rattle.store.specs.declared.named.NamedIds.{NamedIds}
@@ -95,7 +95,7 @@ rule_said_lem s name a = said_by_words (ids_named s name) (λ h. ids_differ s na
 
 pub page_said :
     (s name : List ℕ) (x : NamedIds) (r : Said) → name ≡ score_rule → x ≡ name_said s name → r ≡ said_by x →
-    (r ≡ said_by (name_said s score_rule)) × (check s ≡ Accepted → r ≡ page_says s)
+    (r ≡ said_by (name_said s score_rule)) × (check s ≡ Ok tt → r ≡ page_says s)
 unfolding page_says
 page_said s name x r n e f =
     let q : r ≡ said_by (name_said s score_rule) = f ∙ ap said_by (e ∙ rw n) in

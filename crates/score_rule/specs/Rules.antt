@@ -1,10 +1,9 @@
 -- Req 08: "New models count in ten-thousandths, certain from 9,500 to 10,000. A page says so by a metadata record named `score_rule` with
 -- record ID 2; ID 1 or no such record means the first rule; any other ID under that name, or both, is 12". Which scores each rule takes for
 -- certain is `deeds`' own.
-use Rattle.std.specs.Prelude.{ℕ, ◌≡◌, List, [], ◌∷◌, Bool, not, ◌||◌, ◌&&◌, eqb}
+use Rattle.std.specs.Prelude.{ℕ, ◌≡◌, List, [], ◌∷◌, Bool, not, ◌||◌, ◌&&◌, eqb, Ok}
 use Rattle.wire.specs.Pick.{pick}
 use Rattle.wire.specs.Lists.{some}
-use Rattle.answer.specs.declared.Verdict.TheVariants.{Accepted}
 use Rattle.store.specs.Face.{check, ids_named, name_said}
 use Rattle.store.specs.declared.named.NamedIds.{NamedIds}
 use Rattle.store.specs.declared.named.NamedIds.TheVariants.{Absent, One, Several}
@@ -38,4 +37,4 @@ said_by Several = Wrong
 
 -- in an accepted file that is what the words say: two records under one name have different IDs, so they are both, or one is any other
 abbrev pub RuleSaid : Type 0
-RuleSaid = (s name : List ℕ) → check s ≡ Accepted → said_by (name_said s name) ≡ rule_said (ids_named s name)
+RuleSaid = (s name : List ℕ) → check s ≡ Ok tt → said_by (name_said s name) ≡ rule_said (ids_named s name)

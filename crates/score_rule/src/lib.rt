@@ -1,8 +1,7 @@
 // The score rule that a page says, by its metadata records named `score_rule`.
 #![tactic(auto)]
 
-ghost use Rattle.std.specs.Prelude.{◌≡◌};
-ghost use Rattle.answer.specs.declared.Verdict.TheVariants.{Accepted};
+ghost use Rattle.std.specs.Prelude.{◌≡◌, Ok};
 ghost use Rattle.store.specs.Face.{check, name_said};
 ghost use Rattle.score_rule.specs.Rules.{score_rule, said_by, page_says};
 
@@ -39,7 +38,7 @@ pub fn rule_of(x: NamedIds) -> Said
 // The rule that a page says. It makes no check, and goes over the records once at most.
 pub fn page_says(file: &[u8]) -> Said
     ensures is { result ≡ said_by (name_said file.now score_rule) }
-    ensures accepted { check file.now ≡ Accepted → result ≡ page_says file.now }
+    ensures accepted { check file.now ≡ Ok tt → result ≡ page_says file.now }
 {
     rule_of(named::name_said(file, b"score_rule"))
 }

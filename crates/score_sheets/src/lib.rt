@@ -44,15 +44,7 @@ fn scores_right(sheet: &[u8], n: usize) -> bool
     requires { 9 + 2 * n ≤ length sheet.now }
     ensures { result ≡ all_below n (λ i. score_right (score_at sheet.now i)) }
 {
-    let mut i = 0;
-    while i < n {
-        if score_right(big::u16_at(sheet, 9 + 2 * i)) {
-            i += 1;
-        } else {
-            return false;
-        }
-    }
-    true
+    (0..n).all(|i| score_right(big::u16_at(sheet, 9 + 2 * i)))
 }
 
 // Whether a sheet has its first nine bytes, the length that it states, and version 1.

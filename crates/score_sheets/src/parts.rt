@@ -28,14 +28,7 @@ fn run_unread(sheet: &[u8], first: u64, n: u64) -> bool
     requires { first + n ≤ 4294967296 }
     ensures { result ≡ all_below n (λ i. eqb (score_at sheet.now (first + i)) 65535) }
 {
-    let mut i = 0;
-    while i < n {
-        if big::u16_at(sheet, (9 + 2 * (first + i)) as usize) != UNREAD {
-            return false;
-        }
-        i += 1;
-    }
-    true
+    (0..n).all(|i| big::u16_at(sheet, (9 + 2 * (first + i)) as usize) == UNREAD)
 }
 
 // Whether each score of the rectangle is -1.
@@ -48,16 +41,10 @@ pub fn part_unread(sheet: &[u8], row: u32, column: u32, m: u32, n: u32) -> bool
     }
     let high = places_left(row as u64, m as u64, sheet_rows(sheet) as u64);
     let wide = places_left(column as u64, n as u64, columns);
-    let mut r = 0;
-    while r < high {
+    (0..high).all(|r| {
         let first = (row as u64 + r) * columns + column as u64;
-        if run_unread(sheet, first, wide) {
-            r += 1;
-        } else {
-            return false;
-        }
-    }
-    true
+        run_unread(sheet, first, wide)
+    })
 }
 
 // Two bytes of a number, lowest first.
@@ -74,11 +61,9 @@ fn put_run(out: &mut [u8], at: usize, sheet: &[u8], first: u64, n: u64)
     requires { (first + n ≤ 4294967296) × (at + 2 * n ≤ length out.old) }
     ensures { out.new ≡ put out.old at (flat_map (bytes_of 2) (map (λ i. score_at sheet.now (first + i)) (below n))) }
 {
-    let mut i = 0;
-    while i < n {
+    for i in 0..n {
         let v = big::u16_at(sheet, (9 + 2 * (first + i)) as usize);
         put_two(out, at + 2 * (i as usize), v);
-        i += 1;
     }
 }
 
@@ -87,10 +72,8 @@ fn put_unread(out: &mut [u8], at: usize, n: u64)
     requires { at + 2 * n ≤ length out.old }
     ensures { out.new ≡ put out.old at (flat_map (bytes_of 2) (map (λ i. unread) (below n))) }
 {
-    let mut i = 0;
-    while i < n {
+    for i in 0..n {
         put_two(out, at + 2 * (i as usize), UNREAD);
-        i += 1;
     }
 }
 
@@ -119,8 +102,7 @@ fn put_rows(out: &mut [u8], at: usize, sheet: &[u8], row: u32, column: u32, m: u
     ensures { out.new ≡ put out.old at (flat_map (bytes_of 2) (part_scores sheet.now row column m n)) }
 {
     let mut p = at;
-    let mut r = 0;
-    while r < m {
+    for r in 0..m {
         put_row(
             out,
             p,
@@ -130,7 +112,6 @@ fn put_rows(out: &mut [u8], at: usize, sheet: &[u8], row: u32, column: u32, m: u
             n as u64,
         );
         p += 2 * (n as usize);
-        r += 1;
     }
 }
 

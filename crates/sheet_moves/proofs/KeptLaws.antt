@@ -1,4 +1,6 @@
 -- A sheet that is moved into a page: each grid cell has the bits of its score, in the kind of its tile. Assumes nothing.
+use Rattle.std.specs.Prelude.{Err, Ok, Result, ⊤}
+use Rattle.answer.specs.declared.Refusal.{Refusal}
 use Prim.Native.Nat.{ℕ, ◌+◌, ◌*◌, ◌/◌, ◌%◌, ◌<◌}
 use mathlib.Core.Path.{◌≡◌, refl, sym, ap, ◌∙◌}
 use mathlib.Core.List.Memᴰ
@@ -24,10 +26,7 @@ use Rattle.blocks.proofs.TableLaws.{tabled_long, tabled_at}
 use Rattle.score_sheets.specs.Sheet.{sheet_rows, sheet_columns, score_at, sheet_right}
 use Rattle.score_sheets.specs.Parts.{score_in, part_scores, part_unread}
 use Rattle.score_sheets.proofs.PartLaws.{score_past, score_there}
-use Rattle.answer.specs.declared.Verdict.{Verdict}
-use Rattle.answer.specs.declared.Verdict.TheVariants as verdict
 use Rattle.answer.specs.declared.Cell.{Cell}
-use Rattle.answer.specs.declared.Laid.TheVariants.{Length, Refused}
 use Rattle.answer.specs.Refusals.{unless_refused}
 use Rattle.answer.specs.Answers.{cell_kind, cell_bits, cell_verdict}
 use Rattle.answer.proofs.ValueLaws.{short_bits_kept}
@@ -61,17 +60,17 @@ use Rattle.read_back.proofs.ReadBackLaws.{read_back}
 -- what a move in that is not refused was given
 
 pub record Moved (f : List ℕ) (t : ℕ) (d : List ℕ) (room : ℕ) : Type 0 where
-  pub front : check_front f ≡ verdict.Accepted
+  pub front : check_front f ≡ Ok tt
   pub sheet : sheet_right d ≡ true
   pub fits : front_fits f d ≡ true
-  pub input : input_verdict f t (kept_tiles f d) (sheet_cells f d) room ≡ verdict.Accepted
+  pub input : input_verdict f t (kept_tiles f d) (sheet_cells f d) room ≡ Ok tt
 
-length_of : (v : Verdict) (n m : ℕ) → unless_refused Refused v (Length n) ≡ Length m → v ≡ verdict.Accepted
+length_of : (v : Result ⊤ Refusal) (n m : ℕ) → unless_refused Err v (Ok n) ≡ Ok m → v ≡ Ok tt
 unfolding unless_refused
-length_of verdict.Accepted n m e = refl
-length_of (verdict.Refused r) n m e = let z : ◌≡◌ {A = ℕ} 0 1 = cc in absurd (omega arith)
+length_of (Ok accepted) n m e = refl
+length_of (Err r) n m e = let z : ◌≡◌ {A = ℕ} 0 1 = cc in absurd (omega arith)
 
-pub moved_of : (f : List ℕ) (t : ℕ) (d : List ℕ) (room n : ℕ) → sheet_laid f t d room ≡ Length n → Moved f t d room
+pub moved_of : (f : List ℕ) (t : ℕ) (d : List ℕ) (room n : ℕ) → sheet_laid f t d room ≡ Ok n → Moved f t d room
 unfolding sheet_laid sheet_verdict
 moved_of f t d room n e =
     let a = behind_passed _ _ (length_of _ _ _ e) in
@@ -125,7 +124,7 @@ module _ (f : List ℕ) (t : ℕ) (d : List ℕ) (room : ℕ) (m : Moved f t d r
   abbrev out : List ℕ
   out = zeros room
 
-  laid_down : laid f t (kept_tiles f d) (sheet_cells f d) (length out) ≡ Length (file_length f (kept_tiles f d))
+  laid_down : laid f t (kept_tiles f d) (sheet_cells f d) (length out) ≡ Ok (file_length f (kept_tiles f d))
   unfolding laid lay_down_verdict unless_refused
   laid_down = rw (zeros_length room, m.front, m.input)
 
@@ -194,8 +193,8 @@ module _ (f : List ℕ) (t : ℕ) (d : List ℕ) (room : ℕ) (m : Moved f t d r
 
     -- in a tile that is kept
 
-    abbrev Said : Cell → ℕ → Type 0
-    Said x kind = (cell_bits x ≡ score) × (cell_verdict x ≡ verdict.Accepted) × (cell_kind x ≡ kind)
+    abbrev Said : Result Cell Refusal → ℕ → Type 0
+    Said x kind = (cell_bits x ≡ score) × (cell_verdict x ≡ Ok tt) × (cell_kind x ≡ kind)
 
     given_there : (i : ℕ) → i < length (kept_tiles f d) → get_or (kept_tiles f d) i 0 ≡ tile → number_at 2 (sheet_cells f d) (cell_given f i row column 0) ≡ score
     unfolding cell_given content_given offset_in cell_offset cell_size sheet_cells tile_cells number_at
@@ -235,7 +234,7 @@ module _ (f : List ℕ) (t : ℕ) (d : List ℕ) (room : ℕ) (m : Moved f t d r
         let p = member_place (kept_tiles f d) (member_select (λ x. not (tile_unread f d x)) (below (tile_count f)) (below_member (tile_count f) tile tile_there) (rw e)) in
         stored p.0 p.1 p.2
 
-    pub cell_said : (cell_bits (meaning (sheet_file f t d) k row column 0) ≡ score) × (cell_verdict (meaning (sheet_file f t d) k row column 0) ≡ verdict.Accepted)
+    pub cell_said : (cell_bits (meaning (sheet_file f t d) k row column 0) ≡ score) × (cell_verdict (meaning (sheet_file f t d) k row column 0) ≡ Ok tt)
     cell_said = let x = cell_kind_lem (tile_unread f d tile) refl in (x.0, x.1)
 
   -- a tile that holds a cell of the grid is all -1 where each grid cell of it is

@@ -1,4 +1,6 @@
 -- A sheet moved there and back has the same bytes. Assumes nothing.
+use Rattle.std.specs.Prelude.{Err, Ok, Result}
+use Rattle.answer.specs.declared.Refusal.{Refusal}
 use Prim.Native.Nat.{ℕ, zero, suc, ◌+◌, ◌*◌, ◌<◌}
 use mathlib.Core.Path.{◌≡◌, refl, sym, ap, ap₂, ◌∙◌}
 use mathlib.Core.List.{List, ◌++◌, flat_map}
@@ -17,10 +19,8 @@ use Rattle.blocks.proofs.TableLaws.{place_less}
 use Rattle.blocks.proofs.InsideLaws.{inside_none}
 use Rattle.score_sheets.specs.Sheet.{sheet_rows, sheet_columns, score_right, sheet_right, sheet_head, sheet_bytes}
 use Rattle.score_sheets.proofs.WholeLaws.{read}
-use Rattle.answer.specs.declared.Verdict.TheVariants as verdict
 use Rattle.answer.specs.declared.Cell.{Cell}
 use Rattle.answer.specs.declared.Refusal.TheVariants.{Room}
-use Rattle.answer.specs.declared.Laid.TheVariants.{Length, Refused}
 use Rattle.answer.specs.Refusals.{gate, unless_refused}
 use Rattle.answer.specs.Answers.{cell_bits, cell_verdict}
 use Rattle.header.specs.Fields.{grid_rows, grid_columns}
@@ -44,7 +44,7 @@ unfolding sheet_bytes
 sheet_alike m n f g e = ap (λ (l : List ℕ). sheet_head m n ++ flat_map (big_of 2) l) (table_alike m n f g e)
 
 -- a cell that is not refused and has a score's bits is no fault
-no_fault : (x : Cell) → cell_verdict x ≡ verdict.Accepted → score_right (cell_bits x) ≡ true → fault x ≡ verdict.Accepted
+no_fault : (x : Result Cell Refusal) → cell_verdict x ≡ Ok tt → score_right (cell_bits x) ≡ true → fault x ≡ Ok tt
 unfolding fault unless_refused gate
 no_fault x p q = rw (p, q)
 
@@ -94,23 +94,23 @@ module _ (f : List ℕ) (t : ℕ) (d : List ℕ) (room k : ℕ) (m : Moved f t d
       let w = (read d bd m.sheet).0 in
       rw (page_rows, page_columns) (sym (yes _ (element_kept, (first, (w.rows.1, (w.columns.1, (w.long, tt)))))))
 
-  faultless : fault_in 0 (grid_rows s) 0 (grid_columns s) (score_cell s k) ≡ verdict.Accepted
+  faultless : fault_in 0 (grid_rows s) 0 (grid_columns s) (score_cell s k) ≡ Ok tt
   unfolding fault_in score_cell sheet_right
   faultless =
       rw (page_rows, page_columns)
-      (inside_none (unless_refused verdict.Refused) verdict.Accepted verdicts 0 (sheet_rows d) 0 (sheet_columns d) _
+      (inside_none (unless_refused Err) (Ok tt) verdicts 0 (sheet_rows d) 0 (sheet_columns d) _
       (λ r c h.
       let x = cell_said f t d room m bf bd r c k h.to_bottom h.to_right in
       let i = below_each (sheet_rows d * sheet_columns d) _ (means _ m.sheet).1.1.1.1.1.1.0 (r * sheet_columns d + c) (place_less (sheet_rows d) (sheet_columns d) r c h.to_bottom h.to_right) in
       no_fault (meaning (sheet_file f t d) k r c 0) x.1 (ap score_right x.0 ∙ i)))
 
-  pub back_done : (room2 : ℕ) → sheet_back s k room2 ≡ pick (leb (length d) room2) (Length (length d)) (Refused Room)
+  pub back_done : (room2 : ℕ) → sheet_back s k room2 ≡ pick (leb (length d) room2) (Ok (length d)) (Err Room)
   unfolding sheet_back judged_out unless_refused gate passes sheet_file
   back_done room2 = rw ((reads f t d room m bf bd).accepted, able, faultless, long) (go (leb (length d) room2))
     where
       go :
           (b : Bool) →
-          unless_refused Refused (gate (both b true) Room verdict.Accepted) (Length (length d)) ≡ pick b (Length (length d)) (Refused Room)
+          unless_refused Err (gate (both b true) Room (Ok tt)) (Ok (length d)) ≡ pick b (Ok (length d)) (Err Room)
       go true = refl
       go false = refl
 

@@ -1,4 +1,6 @@
 -- A page moved out and back, with its own front: what it keeps, and what alone refuses the way back in. Assumes nothing.
+use Rattle.std.specs.Prelude.{Err, Ok, Result, ⊤}
+use Rattle.answer.specs.declared.Refusal.{Refusal}
 use Prim.Native.Nat.{ℕ, ◌+◌, ◌*◌, ◌-◌, ◌≤◌, ◌<◌}
 use mathlib.Core.Path.{◌≡◌, refl, sym, ap, ◌∙◌}
 use mathlib.Core.List.{List, [], ◌∷◌}
@@ -18,11 +20,7 @@ use Rattle.blocks.specs.Tables.{tabled}
 use Rattle.blocks.proofs.InsideLaws.{inside_each}
 use Rattle.score_sheets.specs.Sheet.{sheet_rows, sheet_columns, score_at, score_right, sheet_head, sheet_bytes, Fits, Says}
 use Rattle.score_sheets.proofs.WholeLaws.{written}
-use Rattle.answer.specs.declared.Verdict.{Verdict}
-use Rattle.answer.specs.declared.Verdict.TheVariants as verdict
 use Rattle.answer.specs.declared.Cell.{Cell}
-use Rattle.answer.specs.declared.Laid.{Laid}
-use Rattle.answer.specs.declared.Laid.TheVariants.{Length, Refused}
 use Rattle.answer.specs.Refusals.{gate, unless_refused}
 use Rattle.answer.specs.Answers.{cell_kind, cell_bits}
 use Rattle.answer.proofs.VerdictLaws.{gate_passed, behind_passed}
@@ -50,12 +48,12 @@ use Rattle.sheet_moves.proofs.KeptLaws.{Moved, moved_of, cell_said, cell_kind_le
 
 -- what a move out that is not refused says
 
-behind_length : (v : Verdict) (x : Laid) (n : ℕ) → unless_refused Refused v x ≡ Length n → (v ≡ verdict.Accepted) × (x ≡ Length n)
+behind_length : (v : Result ⊤ Refusal) (x : Result ℕ Refusal) (n : ℕ) → unless_refused Err v x ≡ Ok n → (v ≡ Ok tt) × (x ≡ Ok n)
 unfolding unless_refused
-behind_length verdict.Accepted x n e = (refl, e)
-behind_length (verdict.Refused r) x n e = let z : ◌≡◌ {A = ℕ} 0 1 = cc in absurd (omega arith)
+behind_length (Ok accepted) x n e = (refl, e)
+behind_length (Err r) x n e = let z : ◌≡◌ {A = ℕ} 0 1 = cc in absurd (omega arith)
 
-score_right_lem : (x : Cell) → fault x ≡ verdict.Accepted → score_right (cell_bits x) ≡ true
+score_right_lem : (x : Result Cell Refusal) → fault x ≡ Ok tt → score_right (cell_bits x) ≡ true
 unfolding fault
 score_right_lem x e = (gate_passed _ _ _ (behind_passed _ _ e).1).0
 
@@ -110,7 +108,7 @@ module _ (s : List ℕ) (headed : Headed s (length s)) where
       let m = means _ (sym (identified_same front_judged.block (length s)) ∙ headed.block) in
       sym (yes _ (omega (arith, front_long, in_range_lem.header_least), (m.1.0, tt)))
 
-  pub front_accepted : check_front g ≡ verdict.Accepted
+  pub front_accepted : check_front g ≡ Ok tt
   unfolding check_front stages first_two next_two gate front_right
   front_accepted =
       let r = in_range_lem in
@@ -144,7 +142,7 @@ module _ (s : List ℕ) (headed : Headed s (length s)) where
       let x = sym (element_same s g (judged.same_rest s g j) 0 (entries_read s) (omega (arith, r.all, o.one)) f.last) in
       sym (yes _ (sym f.count ∙ o.one, (rw x o.short, (rw x o.unread, tt))))
 
-module _ (s : List ℕ) (k room n : ℕ) (b : Bytes s) (e : sheet_back s k room ≡ Length n) where
+module _ (s : List ℕ) (k room n : ℕ) (b : Bytes s) (e : sheet_back s k room ≡ Ok n) where
   abbrev rows : ℕ
   rows = grid_rows s
 
@@ -162,7 +160,7 @@ module _ (s : List ℕ) (k room n : ℕ) (b : Bytes s) (e : sheet_back s k room 
   unfolding sheet_back judged_out
   able = (gate_passed _ _ _ (behind_length _ _ _ (behind_length _ _ _ e).1).0).0
 
-  faultless : fault_in 0 rows 0 columns (score_cell s k) ≡ verdict.Accepted
+  faultless : fault_in 0 rows 0 columns (score_cell s k) ≡ Ok tt
   unfolding sheet_back judged_out
   faultless = (gate_passed _ _ _ (behind_length _ _ _ (behind_length _ _ _ e).1).0).1
 
@@ -177,7 +175,7 @@ module _ (s : List ℕ) (k room n : ℕ) (b : Bytes s) (e : sheet_back s k room 
   unfolding fault_in
   right r c h l =
       score_right_lem (score_cell s k r c)
-      (inside_each (unless_refused verdict.Refused) verdict.Accepted (λ x y. behind_passed x y) 0 rows 0 columns (λ i j. fault (score_cell s k i j)) faultless r c
+      (inside_each (unless_refused Err) (Ok tt) (λ x y. behind_passed x y) 0 rows 0 columns (λ i j. fault (score_cell s k i j)) faultless r c
       (record { from_top = omega arith; to_bottom = h; from_left = omega arith; to_right = l }))
 
   says : Says d rows columns (λ r c. cell_bits (score_cell s k r c))
@@ -203,7 +201,7 @@ module _ (s : List ℕ) (k room n : ℕ) (b : Bytes s) (e : sheet_back s k room 
 
   -- the page again
 
-  module _ (t room2 m j : ℕ) (f : sheet_laid front t d room2 ≡ Length m) where
+  module _ (t room2 m j : ℕ) (f : sheet_laid front t d room2 ≡ Ok m) where
     abbrev w : Moved front t d room2
     w = moved_of front t d room2 m f
 

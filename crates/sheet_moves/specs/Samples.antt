@@ -1,12 +1,13 @@
 -- Req 13's sample sums, as three tables: bytes, and whether they are a sheet; a rectangle of the sample sheet, and its scores; cells by rows,
 -- and the number and place of the first fault.
-use Rattle.std.specs.Prelude.{ℕ, ◌≡◌, List, [], ◌∷◌, Bool, true, false, length, get_or, set, ℤ, pos, negsuc}
+use Rattle.std.specs.Prelude.{ℕ, ◌≡◌, List, [], ◌∷◌, Bool, true, false, length, get_or, set, ℤ, pos, negsuc, Err, Ok, Result}
+use Rattle.answer.specs.declared.Refusal.{Refusal}
 use Rattle.score_sheets.specs.Sheet.{sheet_right, sheet_bytes}
 use Rattle.score_sheets.specs.Parts.{part_scores}
 use Rattle.answer.specs.declared.Refusal.TheVariants.{Compressed, Malformed}
 use Rattle.answer.specs.declared.Value.TheVariants.{Short}
 use Rattle.answer.specs.declared.Cell.{Cell}
-use Rattle.answer.specs.declared.Cell.TheVariants.{Stored, Fill, Unpacked, Refused}
+use Rattle.answer.specs.declared.Cell.TheVariants.{Stored, Fill, Unpacked}
 use Rattle.answer.specs.Refusals.{verdict_number, verdict_place}
 use Rattle.sheets.specs.Back.{fault_in}
 
@@ -36,17 +37,17 @@ rights =
 abbrev pub tiles : List (List ℕ)
 tiles = part_scores sheet 0 0 2 2 ∷ part_scores sheet 0 2 2 2 ∷ []
 
-abbrev score : ℤ → Cell
-score z = Stored (Short z) 0 (record { tile = 0; inside = 0 })
+abbrev score : ℤ → Result Cell Refusal
+score z = Ok (Stored (Short z) 0 (record { tile = 0; inside = 0 }))
 
-abbrev unpacked_score : ℤ → Cell
-unpacked_score z = Unpacked (Short z) 0 (record { tile = 0; inside = 0 })
+abbrev unpacked_score : ℤ → Result Cell Refusal
+unpacked_score z = Ok (Unpacked (Short z) 0 (record { tile = 0; inside = 0 }))
 
-abbrev fill : Cell
-fill = Fill (Short (negsuc 0)) (record { tile = 0; inside = 0 })
+abbrev fill : Result Cell Refusal
+fill = Ok (Fill (Short (negsuc 0)) (record { tile = 0; inside = 0 }))
 
 -- the first fault of rows of cells: its number and its place
-abbrev first_fault : List (List Cell) → ℕ → List ℕ
+abbrev first_fault : List (List (Result Cell Refusal)) → ℕ → List ℕ
 first_fault rows n =
     let v = fault_in 0 (length rows) 0 n (λ r c. get_or (get_or rows r []) c fill) in
     verdict_number v ∷ verdict_place v ∷ []
@@ -55,9 +56,9 @@ first_fault rows n =
 -- 1, 1001 before a compressed one, and behind a malformed one; -2; no fault in fills, -1, 0 and 1000, stored and unpacked
 abbrev pub faults : List (List ℕ)
 faults =
-    first_fault ((score (pos 1) ∷ Refused (Compressed 456) ∷ []) ∷ (score (pos 1001) ∷ Refused (Compressed 456) ∷ []) ∷ []) 2
-    ∷ first_fault ((score (pos 1001) ∷ Refused (Compressed 456) ∷ []) ∷ []) 2
-    ∷ first_fault ((Refused (Malformed 432) ∷ unpacked_score (pos 1001) ∷ []) ∷ []) 2
+    first_fault ((score (pos 1) ∷ Err (Compressed 456) ∷ []) ∷ (score (pos 1001) ∷ Err (Compressed 456) ∷ []) ∷ []) 2
+    ∷ first_fault ((score (pos 1001) ∷ Err (Compressed 456) ∷ []) ∷ []) 2
+    ∷ first_fault ((Err (Malformed 432) ∷ unpacked_score (pos 1001) ∷ []) ∷ []) 2
     ∷ first_fault ((fill ∷ score (negsuc 1) ∷ []) ∷ []) 2
     ∷ first_fault ((fill ∷ score (negsuc 0) ∷ []) ∷ (unpacked_score (pos 0) ∷ score (pos 1000) ∷ []) ∷ []) 2
     ∷ []

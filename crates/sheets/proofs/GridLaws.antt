@@ -1,4 +1,6 @@
 -- The whole grid as a rectangle, whether a page can be a sheet, and the first fault. Assumes nothing.
+use Rattle.std.specs.Prelude.{Err, Ok, Result, ⊤}
+use Rattle.answer.specs.declared.Refusal.{Refusal}
 use Prim.Native.Nat.{ℕ, max, ◌+◌, ◌-◌, ◌*◌, ◌/◌, ◌%◌, ◌≤◌, ◌<◌}
 use mathlib.Core.Path.{◌≡◌, refl, sym, ap, ◌∙◌}
 use mathlib.Core.List.{List}
@@ -15,8 +17,6 @@ use Rattle.blocks.specs.Tables.{Inside}
 use Rattle.blocks.proofs.TableLaws.{place_row}
 use Rattle.blocks.proofs.InsideLaws.{inside_found}
 use Rattle.answer.specs.declared.Refusal.TheVariants.{Input}
-use Rattle.answer.specs.declared.Verdict.{Verdict}
-use Rattle.answer.specs.declared.Verdict.TheVariants as verdict
 use Rattle.answer.specs.declared.Cell.{Cell}
 use Rattle.answer.specs.declared.Held.{Held}
 use Rattle.answer.specs.Refusals.{gate}
@@ -105,14 +105,14 @@ module _ (s : List ℕ) (a : Rectangle) (e : a ≡ whole_grid s) where
     pub one_there : 1 ≤ element_count s
     one_there = omega (arith, (score_of_lem s scores_there).one)
 
-    pub whole_accepts : check s ≡ verdict.Accepted → Accepts s a × AtOrigin a
+    pub whole_accepts : check s ≡ Ok tt → Accepts s a × AtOrigin a
     whole_accepts c =
         let i = sym (means_inside s 0 0 0 (grid_rows s) (grid_columns s) (omega (arith, one_there)) (omega arith) (omega arith)) in
         rw e (record { accepted = c; inside = i }, (refl, (refl, refl)))
 
 -- one cell of it
 
-module _ (s : List ℕ) (k r c : ℕ) (g : (check s ≡ verdict.Accepted) × ((r < grid_rows s) × ((c < grid_columns s) × (1 ≤ element_count s)))) where
+module _ (s : List ℕ) (k r c : ℕ) (g : (check s ≡ Ok tt) × ((r < grid_rows s) × ((c < grid_columns s) × (1 ≤ element_count s)))) where
   abbrev here : Rectangle
   here = record { e = 0; row = r; column = c; rows = 1; columns = 1 }
 
@@ -121,8 +121,8 @@ module _ (s : List ℕ) (k r c : ℕ) (g : (check s ≡ verdict.Accepted) × ((r
       record { accepted = g.0; inside = sym (means_inside s 0 r c 1 1 (omega (arith, g.1.1.1)) (omega (arith, g.1.0)) (omega (arith, g.1.1.0))) }
 
   pub cell_asked :
-      (p : Piece) (x : Held) (m : List ℕ) (y : Cell) → p ≡ first_piece s here 0 →
-      (check s ≡ verdict.Accepted → p.tile < tile_count s → 0 < element_count s → Holds s k p.tile 0 x m) → y ≡ held_cell s k x m r c 0 → y ≡ score_cell s k r c
+      (p : Piece) (x : Result Held Refusal) (m : List ℕ) (y : Result Cell Refusal) → p ≡ first_piece s here 0 →
+      (check s ≡ Ok tt → p.tile < tile_count s → 0 < element_count s → Holds s k p.tile 0 x m) → y ≡ held_cell s k x m r c 0 → y ≡ score_cell s k r c
   unfolding score_cell
   cell_asked p x m y e h f =
       let w = walk_first s here cell_accepts 0 p e (omega arith) in
@@ -140,12 +140,12 @@ module _ (s : List ℕ) (k r c : ℕ) (g : (check s ≡ verdict.Accepted) × ((r
 -- the fault of a weight
 
 module _ (s : List ℕ) (k : ℕ) (a : Rectangle) (w : ℕ) where
-  pub no_fault : w ≡ 0 → verdict.Accepted ≡ fault_at a.rows a.columns (grid_fault s k) w
+  pub no_fault : w ≡ 0 → Ok tt ≡ fault_at a.rows a.columns (grid_fault s k) w
   unfolding fault_at
   no_fault e = rw e
 
   pub fault_there :
-      (n : ℕ) → n ≡ a.rows * a.columns - w → (w ≡ 0 → ⊥) → (x : Cell) (v : Verdict) → x ≡ score_cell s k (n / a.columns) (n % a.columns) → v ≡ fault x →
+      (n : ℕ) → n ≡ a.rows * a.columns - w → (w ≡ 0 → ⊥) → (x : Result Cell Refusal) (v : Result ⊤ Refusal) → x ≡ score_cell s k (n / a.columns) (n % a.columns) → v ≡ fault x →
       v ≡ fault_at a.rows a.columns (grid_fault s k) w
   unfolding fault_at grid_fault
   fault_there n f h x v p q = let z : eqb w 0 ≡ false = ne_eqb w 0 h in q ∙ rw (p, f, z)
@@ -160,8 +160,8 @@ module _ (a : Rectangle) (w n : ℕ) (f : n ≡ a.rows * a.columns - w) (h : w �
       (p.0, p.1)
 
   pub fault_asks :
-      (s : List ℕ) → (check s ≡ verdict.Accepted) × ((a ≡ whole_grid s) × (1 ≤ element_count s)) →
-      (check s ≡ verdict.Accepted) × ((n / a.columns < grid_rows s) × ((n % a.columns < grid_columns s) × (1 ≤ element_count s)))
+      (s : List ℕ) → (check s ≡ Ok tt) × ((a ≡ whole_grid s) × (1 ≤ element_count s)) →
+      (check s ≡ Ok tt) × ((n / a.columns < grid_rows s) × ((n % a.columns < grid_columns s) × (1 ≤ element_count s)))
   fault_asks s g =
       let r : a.rows ≡ grid_rows s = ap (λ (b : Rectangle). b.rows) g.1.0 in
       let c : a.columns ≡ grid_columns s = ap (λ (b : Rectangle). b.columns) g.1.0 in
@@ -169,7 +169,7 @@ module _ (a : Rectangle) (w n : ℕ) (f : n ≡ a.rows * a.columns - w) (h : w �
       (g.0, (rw (← r) p.0, (rw (← c) p.1, g.1.1)))
 
 -- no weight is more than all cells
-module _ (rows columns : ℕ) (g : ℕ → ℕ → Verdict) where
+module _ (rows columns : ℕ) (g : ℕ → ℕ → Result ⊤ Refusal) where
   weight_small : (r c : ℕ) → weight rows columns g r c ≤ rows * columns
   unfolding weight
   weight_small r c = go (is_fault (g r c))
@@ -192,30 +192,30 @@ module _ (rows columns : ℕ) (g : ℕ → ℕ → Verdict) where
 -- what is judged behind the check
 
 module _ (s : List ℕ) (k : ℕ) (b : Bool) (e : b ≡ sheetable s) where
-  pub judged_not : b ≡ false → verdict.Refused Input ≡ judged_out s k
+  pub judged_not : b ≡ false → Err Input ≡ judged_out s k
   unfolding judged_out gate
   judged_not f = rw (← e, f)
 
   pub judged_by_lem :
-      b ≡ true → (a : Rectangle) (w : ℕ) (v : Verdict) → a ≡ whole_grid s → w ≡ heaviest a.rows a.columns (grid_fault s k) 0 a.rows 0 a.columns →
+      b ≡ true → (a : Rectangle) (w : ℕ) (v : Result ⊤ Refusal) → a ≡ whole_grid s → w ≡ heaviest a.rows a.columns (grid_fault s k) 0 a.rows 0 a.columns →
       v ≡ fault_at a.rows a.columns (grid_fault s k) w → v ≡ judged_out s k
   unfolding judged_out gate fault_in grid_fault
   judged_by_lem f a w v p q g = let z : sheetable s ≡ true = sym e ∙ f in rw z (g ∙ (rw (q, p)) ∙ sym (first_by_rows (grid_rows s) (grid_columns s) (grid_fault s k)))
 
-pub judged_able : (s : List ℕ) (k : ℕ) → judged_out s k ≡ verdict.Accepted → sheetable s ≡ true
+pub judged_able : (s : List ℕ) (k : ℕ) → judged_out s k ≡ Ok tt → sheetable s ≡ true
 unfolding judged_out
 judged_able s k e = (gate_passed (sheetable s) Input _ e).0
 
 -- of a page that nothing refuses behind the check, the sides and the number of cells
 
-module _ (s : List ℕ) (k : ℕ) (j : judged_out s k ≡ verdict.Accepted) (a : Rectangle) (e : a ≡ whole_grid s) where
+module _ (s : List ℕ) (k : ℕ) (j : judged_out s k ≡ Ok tt) (a : Rectangle) (e : a ≡ whole_grid s) where
   pub out_sides : Sides a.rows a.columns
   out_sides = sides_few s a e (judged_able s k j)
 
   pub out_cells : a.rows * a.columns ≤ 4294836225
   out_cells = sides_small a.rows a.columns out_sides.rows_few out_sides.columns_few
 
-  pub out_accepts : check s ≡ verdict.Accepted → Accepts s a × (AtOrigin a × (score_element s ≡ true))
+  pub out_accepts : check s ≡ Ok tt → Accepts s a × (AtOrigin a × (score_element s ≡ true))
   out_accepts c =
       let t = judged_able s k j in
       let w = whole_accepts s a e t c in

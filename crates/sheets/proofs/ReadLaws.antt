@@ -1,5 +1,6 @@
 -- The cells of a piece as they are read, and those of a tile that is absent. Assumes nothing.
-use Prim.Native.Nat.{ℕ, max, ◌+◌, ◌-◌, ◌*◌, ◌%◌, ◌≤◌, ◌<◌}
+use Rattle.std.specs.Prelude.{Err, Ok, Result, ⊤}
+use Prim.Native.Nat.{ℕ, ◌+◌, ◌-◌, ◌*◌, ◌%◌, ◌≤◌, ◌<◌}
 use mathlib.Core.Path.{◌≡◌, refl, sym, ap, ◌∙◌}
 use mathlib.Core.List.{List}
 use mathlib.Core.Bool.{Bool, true, false}
@@ -16,8 +17,6 @@ use Rattle.blocks.specs.Tables.{Inside}
 use Rattle.score_sheets.specs.Sheet.{score_right}
 use Rattle.answer.specs.declared.Refusal.{Refusal}
 use Rattle.answer.specs.declared.Refusal.TheVariants.{Input}
-use Rattle.answer.specs.declared.Verdict.{Verdict}
-use Rattle.answer.specs.declared.Verdict.TheVariants as verdict
 use Rattle.answer.specs.declared.Cell.{Cell}
 use Rattle.answer.specs.declared.Held.{Held}
 use Rattle.answer.specs.declared.Held.TheVariants as held
@@ -37,64 +36,58 @@ use Rattle.sheets.specs.Rows.{AtOrigin, is_absent, grid_fault, Reads, StoredRun,
 
 -- a cell told
 
-pub told_alone : (x : Held) (n : ℕ) (y z : Cell) → n ≡ held_kind x → n ≡ 0 → y ≡ pick (eqb (held_kind x) 0) y z
+pub told_alone : (x : Result Held Refusal) (n : ℕ) (y z : Result Cell Refusal) → n ≡ held_kind x → n ≡ 0 → y ≡ pick (eqb (held_kind x) 0) y z
 told_alone x n y z e f = let g : held_kind x ≡ 0 = sym e ∙ f in rw g
 
-pub told_numbered : (x : Held) (n : ℕ) (y z : Cell) → n ≡ held_kind x → (n ≡ 0 → ⊥) → z ≡ pick (eqb (held_kind x) 0) y z
+pub told_numbered : (x : Result Held Refusal) (n : ℕ) (y z : Result Cell Refusal) → n ≡ held_kind x → (n ≡ 0 → ⊥) → z ≡ pick (eqb (held_kind x) 0) y z
 told_numbered x n y z e f = let g : eqb (held_kind x) 0 ≡ false = ne_eqb (held_kind x) 0 (λ h. f (e ∙ h)) in rw g
 
 -- a fault
 
-module _ (x : Cell) (v : Verdict) (p : v ≡ cell_verdict x) where
-  pub fault_refused : (r : Refusal) → v ≡ verdict.Refused r → verdict.Refused r ≡ fault x
+module _ (x : Result Cell Refusal) (v : Result ⊤ Refusal) (p : v ≡ cell_verdict x) where
+  pub fault_refused : (r : Refusal) → v ≡ Err r → Err r ≡ fault x
   unfolding fault unless_refused
   fault_refused r e = rw (← p, e)
 
-  module _ (q : v ≡ verdict.Accepted) (n : ℕ) (b : Bool) (i : n ≡ cell_bits x) (j : b ≡ score_right n) where
-    pub fault_none : b ≡ true → verdict.Accepted ≡ fault x
+  module _ (q : v ≡ Ok tt) (n : ℕ) (b : Bool) (i : n ≡ cell_bits x) (j : b ≡ score_right n) where
+    pub fault_none : b ≡ true → Ok tt ≡ fault x
     unfolding fault unless_refused gate
     fault_none e = rw (← p, q, ← i, ← j, e)
 
-    pub fault_score : b ≡ false → verdict.Refused Input ≡ fault x
+    pub fault_score : b ≡ false → Err Input ≡ fault x
     unfolding fault unless_refused gate
     fault_score e = rw (← p, q, ← i, ← j, e)
 
-pub no_weight : (v : Verdict) (n : ℕ) → v ≡ verdict.Accepted → 0 ≡ pick (is_fault v) n 0
+pub no_weight : (v : Result ⊤ Refusal) (n : ℕ) → v ≡ Ok tt → 0 ≡ pick (is_fault v) n 0
 unfolding is_fault
 no_weight v n e = rw e
 
-pub some_weight : (v : Verdict) (n : ℕ) (r : Refusal) → v ≡ verdict.Refused r → n ≡ pick (is_fault v) n 0
+pub some_weight : (v : Result ⊤ Refusal) (n : ℕ) (r : Refusal) → v ≡ Err r → n ≡ pick (is_fault v) n 0
 unfolding is_fault
 some_weight v n r e = rw e
 
-pub greater_second : (a b : ℕ) → a < b → b ≡ max a b
-greater_second a b h = omega arith
-
-pub greater_first : (a b : ℕ) → b ≤ a → a ≡ max a b
-greater_first a b h = omega arith
-
 -- a fill of -1
 filled :
-    (x : Cell) (h : Held) → h ≡ held.Absent → (kind fill : ℕ) → kind ≡ 3 → fill ≡ 65535 → (t i : ℕ) (m s : List ℕ) → numbered_cell s kind fill m t i h ≡ x →
-    (cell_bits x ≡ 65535) × (fault x ≡ verdict.Accepted)
+    (x : Result Cell Refusal) (h : Result Held Refusal) → h ≡ Ok held.Absent → (kind fill : ℕ) → kind ≡ 3 → fill ≡ 65535 → (t i : ℕ) (m s : List ℕ) → numbered_cell s kind fill m t i h ≡ x →
+    (cell_bits x ≡ 65535) × (fault x ≡ Ok tt)
 unfolding fault unless_refused gate score_right
 filled x h e kind fill p q t i m s d =
     let b : value_bits (value_of 3 65535) ≡ 65535 = short_bits_kept 3 65535 refl (omega arith) in
-    let z : numbered_cell s 3 65535 m t i held.Absent ≡ x = rw (e, p, q) at d in
+    let z : numbered_cell s 3 65535 m t i (Ok held.Absent) ≡ x = rw (e, p, q) at d in
     let y = numbered_absent s 3 65535 m t i in
     let u : cell_bits x ≡ 65535 = ap cell_bits (sym z) ∙ y.0 ∙ b in
-    let v : cell_verdict x ≡ verdict.Accepted = ap cell_verdict (sym z) ∙ y.1 in
+    let v : cell_verdict x ≡ Ok tt = ap cell_verdict (sym z) ∙ y.1 in
     (u, rw (v, u))
 
 -- what is held of the tile of a piece answers for it
 pub answered_here :
-    (s : List ℕ) (k : ℕ) (a : Rectangle) (p : Piece) (x : Held) (m : List ℕ) → AtOrigin a →
-    (check s ≡ verdict.Accepted → p.tile < tile_count s → 0 < element_count s → Holds s k p.tile 0 x m) → Accepts s a → AtPiece s a p → Answered s k a p x m
+    (s : List ℕ) (k : ℕ) (a : Rectangle) (p : Piece) (x : Result Held Refusal) (m : List ℕ) → AtOrigin a →
+    (check s ≡ Ok tt → p.tile < tile_count s → 0 < element_count s → Holds s k p.tile 0 x m) → Accepts s a → AtPiece s a p → Answered s k a p x m
 answered_here s k a p x m o h g at = answered_piece s k a p x m (rw o.0 h) g at
 
 -- a row of a piece of the grid
 
-module _ (s : List ℕ) (k : ℕ) (a : Rectangle) (p : Piece) (x : Held) (m : List ℕ) (g : Accepts s a) (o : AtOrigin a) (at : AtPiece s a p) (w : Answered s k a p x m) where
+module _ (s : List ℕ) (k : ℕ) (a : Rectangle) (p : Piece) (x : Result Held Refusal) (m : List ℕ) (g : Accepts s a) (o : AtOrigin a) (at : AtPiece s a p) (w : Answered s k a p x m) where
   cell_at : (r c : ℕ) → meaning s k (a.row + r) (a.column + c) a.e ≡ score_cell s k r c
   unfolding score_cell
   cell_at r c = let y : 0 + r ≡ r = omega arith in let z : 0 + c ≡ c = omega arith in rw (o.0, o.1.0, o.1.1, y, z)
@@ -127,19 +120,19 @@ module _ (s : List ℕ) (k : ℕ) (a : Rectangle) (p : Piece) (x : Held) (m : Li
 
   -- in an absent tile each cell is -1
 
-  absent_is : is_absent x ≡ true → x ≡ held.Absent
+  absent_is : is_absent x ≡ true → x ≡ Ok held.Absent
   absent_is e = which x e
     where
-      which : (y : Held) → is_absent y ≡ true → y ≡ held.Absent
-      which (held.Stored n) z = not_both z refl
-      which (held.Unpacked n) z = not_both z refl
-      which held.Absent z = refl
-      which held.Alone z = not_both z refl
-      which (held.Refused r) z = not_both z refl
+      which : (y : Result Held Refusal) → is_absent y ≡ true → y ≡ Ok held.Absent
+      which (Ok (held.Stored n)) z = not_both z refl
+      which (Ok (held.Unpacked n)) z = not_both z refl
+      which (Ok held.Absent) z = refl
+      which (Ok held.Alone) z = not_both z refl
+      which (Err r) z = not_both z refl
 
   pub absent_cell :
       is_absent x ≡ true → score_element s ≡ true → (r c : ℕ) → Inside p.top p.bottom p.left p.right r c →
-      (cell_bits (score_cell s k r c) ≡ 65535) × (grid_fault s k r c ≡ verdict.Accepted)
+      (cell_bits (score_cell s k r c) ≡ 65535) × (grid_fault s k r c ≡ Ok tt)
   unfolding grid_fault
   absent_cell b e r c i =
       let y = absent_is b in
@@ -189,19 +182,19 @@ module _ (s : List ℕ) (from : ℕ) where
   run_each n i e h = below_each n (λ j. score_right (number_at 2 s (from + 2 * j) % 65536)) e i h
 
 pub stored_here :
-    (s : List ℕ) (x : Held) (kind start n from content : ℕ) → x ≡ held.Stored content → kind ≡ 3 →
+    (s : List ℕ) (x : Result Held Refusal) (kind start n from content : ℕ) → x ≡ Ok (held.Stored content) → kind ≡ 3 →
     (1 ≤ from → (content + 1 ≤ length s) × ((from ≡ content + 2 * start) × (from + 2 * n ≤ length s))) → 1 ≤ from → StoredRun s x kind start n from
 stored_here s x kind start n from content e k w h =
     let y = w h in
     record { content = content; stored = e; short = k; there = y.0; begins = y.1.0; whole = y.1.1 }
 
-module _ (s : List ℕ) (k : ℕ) (x : Held) (m : List ℕ) (kind fill tile start r left right : ℕ) (t : Reads s k x m kind fill tile start r left right) where
+module _ (s : List ℕ) (k : ℕ) (x : Result Held Refusal) (m : List ℕ) (kind fill tile start r left right : ℕ) (t : Reads s k x m kind fill tile start r left right) where
   run_cell :
       (from : ℕ) → StoredRun s x kind start (right - left) from → (c : ℕ) → left ≤ c → c < right →
-      (number_at 2 s (from + 2 * (c - left)) % 65536 ≡ cell_bits (score_cell s k r c)) × (cell_verdict (score_cell s k r c) ≡ verdict.Accepted)
+      (number_at 2 s (from + 2 * (c - left)) % 65536 ≡ cell_bits (score_cell s k r c)) × (cell_verdict (score_cell s k r c) ≡ Ok tt)
   run_cell from w c l n =
       let d = t.each c l n in
-      let e : numbered_cell s 3 fill m tile (start + (c - left)) (held.Stored w.content) ≡ score_cell s k r c = rw (w.stored, w.short) at d in
+      let e : numbered_cell s 3 fill m tile (start + (c - left)) (Ok (held.Stored w.content)) ≡ score_cell s k r c = rw (w.stored, w.short) at d in
       let y = numbered_stored s fill m tile (start + (c - left)) w.content w.there in
       let z : from + 2 * (c - left) ≡ w.content + 2 * (start + (c - left)) = omega (arith, w.begins) in
       (ap (λ (p : ℕ). number_at 2 s p % 65536) z ∙ sym y.0 ∙ ap cell_bits e, sym (ap cell_verdict e) ∙ y.1)
@@ -209,11 +202,11 @@ module _ (s : List ℕ) (k : ℕ) (x : Held) (m : List ℕ) (kind fill tile star
   pub run_row : (from : ℕ) → StoredRun s x kind start (right - left) from → StoredRow s k from r left right
   run_row from w = record { whole = w.whole; each = λ c l n. (run_cell from w c l n).0 }
 
-  pub clean_row : CleanRun s x kind start (right - left) → (i c : ℕ) → Inside r (r + 1) left right i c → grid_fault s k i c ≡ verdict.Accepted
+  pub clean_row : CleanRun s x kind start (right - left) → (i c : ℕ) → Inside r (r + 1) left right i c → grid_fault s k i c ≡ Ok tt
   unfolding grid_fault
   clean_row w i c h =
       let e : i ≡ r = omega (arith, h.from_top, h.to_bottom) in
       let y = run_cell w.from w.run c h.from_left h.to_right in
       let b = run_each s w.from (right - left) (c - left) w.right (omega (arith, h.from_left, h.to_right)) in
       let u : score_right (cell_bits (score_cell s k r c)) ≡ true = ap score_right (sym y.0) ∙ b in
-      ap (λ (j : ℕ). fault (score_cell s k j c)) e ∙ sym (fault_none (score_cell s k r c) verdict.Accepted (sym y.1) refl (cell_bits (score_cell s k r c)) true refl (sym u) refl)
+      ap (λ (j : ℕ). fault (score_cell s k j c)) e ∙ sym (fault_none (score_cell s k r c) (Ok tt) (sym y.1) refl (cell_bits (score_cell s k r c)) true refl (sym u) refl)

@@ -1,4 +1,5 @@
 -- The sheet's bytes, and what the call answers. Assumes nothing.
+use Rattle.std.specs.Prelude.{Err, Ok}
 use Prim.Native.Nat.{ℕ, ◌+◌, ◌-◌, ◌*◌, ◌≤◌, ◌<◌}
 use mathlib.Core.Path.{◌≡◌, sym, ap, ◌∙◌}
 use mathlib.Core.List.{List, [], ◌∷◌, ◌++◌, append_assoc, append-nil, flat_map}
@@ -18,8 +19,6 @@ use Rattle.score_sheets.specs.Sheet.{sheet_head, sheet_bytes}
 use Rattle.score_sheets.proofs.SheetLaws.{head_long}
 use Rattle.answer.specs.declared.Refusal.{Refusal}
 use Rattle.answer.specs.declared.Refusal.TheVariants.{Room}
-use Rattle.answer.specs.declared.Verdict.TheVariants as verdict
-use Rattle.answer.specs.declared.Laid.TheVariants.{Length, Refused}
 use Rattle.answer.specs.Refusals.{gate, unless_refused}
 use Rattle.answer.specs.Answers.{cell_bits, written}
 use Rattle.store.specs.declared.many.Rectangle.{Rectangle}
@@ -70,7 +69,7 @@ module _ (s l m n o : List ℕ) (k : ℕ) (a : Rectangle) (e : a ≡ whole_grid 
 
   pub sheet_put :
       m ≡ put l 0 (sheet_head a.rows a.columns) → Filled (2 * a.columns) (score_byte s k) (Inside 0 a.rows 0 (2 * a.columns)) (take (length m - 9) (drop 9 m)) n →
-      o ≡ take 9 m ++ (n ++ drop (length m - 9) (drop 9 m)) → o ≡ written (Length (9 + 2 * (a.rows * a.columns))) (sheet_of s k) l
+      o ≡ take 9 m ++ (n ++ drop (length m - 9) (drop 9 m)) → o ≡ written (Ok (9 + 2 * (a.rows * a.columns))) (sheet_of s k) l
   unfolding sheet_of sheet_bytes score_byte
   sheet_put p f q =
       let head = sheet_head a.rows a.columns in
@@ -93,24 +92,24 @@ module _ (s l m n o : List ℕ) (k : ℕ) (a : Rectangle) (e : a ≡ whole_grid 
 
 -- the answers
 
-module _ (s : List ℕ) (room k : ℕ) (c : check s ≡ verdict.Accepted) where
-  pub out_refused : (r : Refusal) → judged_out s k ≡ verdict.Refused r → Refused r ≡ sheet_back s k room
+module _ (s : List ℕ) (room k : ℕ) (c : check s ≡ Ok tt) where
+  pub out_refused : (r : Refusal) → judged_out s k ≡ Err r → Err r ≡ sheet_back s k room
   unfolding sheet_back unless_refused
   out_refused r e = rw (c, e)
 
-  module _ (j : judged_out s k ≡ verdict.Accepted) (a : Rectangle) (e : a ≡ whole_grid s) where
-    pub out_room : room < 9 + 2 * (a.rows * a.columns) → Refused Room ≡ sheet_back s k room
+  module _ (j : judged_out s k ≡ Ok tt) (a : Rectangle) (e : a ≡ whole_grid s) where
+    pub out_room : room < 9 + 2 * (a.rows * a.columns) → Err Room ≡ sheet_back s k room
     unfolding sheet_back sheet_length unless_refused gate
     out_room h =
         let z : room < 9 + 2 * (grid_rows s * grid_columns s) = rw e at h in
         rw (c, j, ← no ((9 + 2 * (grid_rows s * grid_columns s) ≤? room) ∷ []) (λ y. omega (arith, y.0)))
 
-    pub out_long : 9 + 2 * (a.rows * a.columns) ≤ room → Length (9 + 2 * (a.rows * a.columns)) ≡ sheet_back s k room
+    pub out_long : 9 + 2 * (a.rows * a.columns) ≤ room → Ok (9 + 2 * (a.rows * a.columns)) ≡ sheet_back s k room
     unfolding sheet_back sheet_length unless_refused gate
     out_long h =
         let z : 9 + 2 * (grid_rows s * grid_columns s) ≤ room = rw e at h in
         rw (e, c, j, ← yes ((9 + 2 * (grid_rows s * grid_columns s) ≤? room) ∷ []) (z, tt))
 
-pub out_unchecked : (s : List ℕ) (room k : ℕ) (r : Refusal) → check s ≡ verdict.Refused r → Refused r ≡ sheet_back s k room
+pub out_unchecked : (s : List ℕ) (room k : ℕ) (r : Refusal) → check s ≡ Err r → Err r ≡ sheet_back s k room
 unfolding sheet_back unless_refused
 out_unchecked s room k r c = rw c

@@ -1,4 +1,6 @@
 -- Scores of two bytes as a table of bytes, twice as wide: a score, a row and a piece at a time; the walk over it; the sheet. Assumes nothing.
+use Rattle.std.specs.Prelude.{Result}
+use Rattle.answer.specs.declared.Refusal.{Refusal}
 use Prim.Native.Nat.{ℕ, zero, suc, ◌+◌, ◌*◌, ◌/◌, ◌%◌, ◌≤◌, ◌<◌}
 use mathlib.Core.Path.{◌≡◌, refl, sym, ap, ap₂, ◌∙◌}
 use mathlib.Core.List.{List, [], ◌∷◌, ◌++◌, map, map-append, flat_map}
@@ -59,7 +61,7 @@ room_still t f = record { sides = f.sides; room = omega (arith, t.long, f.room) 
 -- one score more in a row
 module _ (s : List ℕ) (k : ℕ) (a : Rectangle) (r left c : ℕ) where
   pub scores_more :
-      (x y : Cell) (v at : ℕ) (l m n : List ℕ) → Filled (2 * a.columns) (score_byte s k) (Inside r (r + 1) (2 * left) (2 * c)) l m → x ≡ y → y ≡ score_cell s k r c →
+      (x y : Result Cell Refusal) (v at : ℕ) (l m n : List ℕ) → Filled (2 * a.columns) (score_byte s k) (Inside r (r + 1) (2 * left) (2 * c)) l m → x ≡ y → y ≡ score_cell s k r c →
       v ≡ cell_bits x → at ≡ 2 * (r * a.columns + c) → n ≡ set (set m at (v / 256 % 256)) (at + 1) (v % 256) → HasRoom a l → r < a.rows → left ≤ c → c < a.columns →
       Filled (2 * a.columns) (score_byte s k) (Inside r (r + 1) (2 * left) (2 * (c + 1))) l n
   scores_more x y v at l m n t p q b i e f h g w =

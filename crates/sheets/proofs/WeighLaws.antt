@@ -1,4 +1,6 @@
 -- The greatest weight, a cell, a row and a piece at a time. Assumes nothing.
+use Rattle.std.specs.Prelude.{Ok, Result, ⊤}
+use Rattle.answer.specs.declared.Refusal.{Refusal}
 use Prim.Native.Nat.{ℕ, max, ◌+◌, ◌-◌, ◌*◌, ◌≤◌, ◌<◌}
 use mathlib.Core.Path.{◌≡◌, sym, ap₂, ◌∙◌}
 use mathlib.Core.List.{List}
@@ -9,8 +11,6 @@ use Rattle.blocks.specs.Tables.{Inside}
 use Rattle.blocks.specs.Walks.{Begins, Follows, fold_passed}
 use Rattle.blocks.proofs.InsideLaws.{inside_one, inside_none, inside_under, inside_beside}
 use Rattle.blocks.proofs.WalkLaws.{passed_none, passed_more, passed_all}
-use Rattle.answer.specs.declared.Verdict.{Verdict}
-use Rattle.answer.specs.declared.Verdict.TheVariants as verdict
 use Rattle.answer.specs.declared.Cell.{Cell}
 use Rattle.sheets.specs.Back.{fault, score_cell}
 use Rattle.sheets.specs.First.{is_fault, weight, heaviest}
@@ -30,8 +30,8 @@ behind_small rows columns r s = let p : rows - r ≤ 65535 = omega (arith, s.row
 pub behind_holds : (rows columns r c : ℕ) → r < rows → c < columns → c ≤ (rows - r) * columns
 behind_holds rows columns r c h k = let e : 1 * columns ≤ (rows - r) * columns = mul-le-mul (omega arith) (omega arith) in omega arith
 
-module _ (rows columns : ℕ) (g : ℕ → ℕ → Verdict) where
-  pub heavy_none : (top bottom left right : ℕ) → ((r c : ℕ) → Inside top bottom left right r c → g r c ≡ verdict.Accepted) → 0 ≡ heaviest rows columns g top bottom left right
+module _ (rows columns : ℕ) (g : ℕ → ℕ → Result ⊤ Refusal) where
+  pub heavy_none : (top bottom left right : ℕ) → ((r c : ℕ) → Inside top bottom left right r c → g r c ≡ Ok tt) → 0 ≡ heaviest rows columns g top bottom left right
   unfolding heaviest weight is_fault
   heavy_none top bottom left right f = sym (inside_none max 0 greatest top bottom left right (weight rows columns g) (λ r c h. rw (f r c h)))
 
@@ -74,7 +74,7 @@ module _ (rows columns : ℕ) (g : ℕ → ℕ → Verdict) where
 
 -- a cell that is read weighs as the grid's
 pub cell_weighs :
-    (s : List ℕ) (k rows columns r c : ℕ) (x y : Cell) (v n : ℕ) → x ≡ y → y ≡ score_cell s k r c → v ≡ pick (is_fault (fault x)) n 0 → n ≡ rows * columns - (r * columns + c) →
+    (s : List ℕ) (k rows columns r c : ℕ) (x y : Result Cell Refusal) (v n : ℕ) → x ≡ y → y ≡ score_cell s k r c → v ≡ pick (is_fault (fault x)) n 0 → n ≡ rows * columns - (r * columns + c) →
     v ≡ pick (is_fault (grid_fault s k r c)) (rows * columns - (r * columns + c)) 0
 unfolding grid_fault
 cell_weighs s k rows columns r c x y v n p q e f = e ∙ rw (p, q, f)

@@ -1,14 +1,11 @@
 -- Req 13, the way out: a page s with its compressor index k, and the score sheet that it becomes.
-use Rattle.std.specs.Prelude.{ℕ, ◌+◌, ◌*◌, List, [], ◌∷◌, Bool, true, false}
+use Rattle.std.specs.Prelude.{ℕ, ◌+◌, ◌*◌, List, [], ◌∷◌, Bool, true, false, Err, Ok, Result, ⊤}
+use Rattle.answer.specs.declared.Refusal.{Refusal}
 use Rattle.wire.specs.Tests.{◌≤?◌, is, passes}
 use Rattle.blocks.specs.Folds.{fold_inside}
 use Rattle.score_sheets.specs.Sheet.{score_right, sheet_bytes}
 use Rattle.answer.specs.declared.Refusal.TheVariants.{Input, Room}
-use Rattle.answer.specs.declared.Verdict.{Verdict}
-use Rattle.answer.specs.declared.Verdict.TheVariants as verdict
 use Rattle.answer.specs.declared.Cell.{Cell}
-use Rattle.answer.specs.declared.Laid.{Laid}
-use Rattle.answer.specs.declared.Laid.TheVariants.{Length, Refused}
 use Rattle.answer.specs.Refusals.{gate, unless_refused}
 use Rattle.answer.specs.Answers.{cell_bits, cell_verdict}
 use Rattle.store.specs.Face.{grid_rows, grid_columns, check, meaning}
@@ -32,14 +29,14 @@ sheetable s =
     ∷ (5 + 2 * (grid_rows s * grid_columns s) ≤? 4294967295) ∷ [])
 
 -- "the first grid cell by rows that is 11, 14 or, outside -1 to 1000, 12": of one cell, and of cells by rows
-unfoldable pub fault : Cell → Verdict
-fault x = unless_refused verdict.Refused (cell_verdict x) (gate (score_right (cell_bits x)) Input verdict.Accepted)
+unfoldable pub fault : Result Cell Refusal → Result ⊤ Refusal
+fault x = unless_refused Err (cell_verdict x) (gate (score_right (cell_bits x)) Input (Ok tt))
 
-unfoldable pub fault_in : ℕ → ℕ → ℕ → ℕ → (ℕ → ℕ → Cell) → Verdict
-fault_in top bottom left right f = fold_inside (unless_refused verdict.Refused) verdict.Accepted top bottom left right (λ r c. fault (f r c))
+unfoldable pub fault_in : ℕ → ℕ → ℕ → ℕ → (ℕ → ℕ → Result Cell Refusal) → Result ⊤ Refusal
+fault_in top bottom left right f = fold_inside (unless_refused Err) (Ok tt) top bottom left right (λ r c. fault (f r c))
 
 -- the grid's cells, by their meaning
-unfoldable pub score_cell : List ℕ → ℕ → ℕ → ℕ → Cell
+unfoldable pub score_cell : List ℕ → ℕ → ℕ → ℕ → Result Cell Refusal
 score_cell s k r c = meaning s k r c 0
 
 -- the sheet, and its length
@@ -50,13 +47,13 @@ unfoldable pub sheet_length : List ℕ → ℕ
 sheet_length s = 9 + 2 * (grid_rows s * grid_columns s)
 
 -- what is judged behind the check
-unfoldable pub judged_out : List ℕ → ℕ → Verdict
+unfoldable pub judged_out : List ℕ → ℕ → Result ⊤ Refusal
 judged_out s k = gate (sheetable s) Input (fault_in 0 (grid_rows s) 0 (grid_columns s) (score_cell s k))
 
 -- "the check's refusals, then 12 if ..; then the first grid cell by rows ..; then 13 exactly if the sheet's buffer is too short"; the answer
 -- is the sheet's length
-unfoldable pub sheet_back : List ℕ → ℕ → ℕ → Laid
+unfoldable pub sheet_back : List ℕ → ℕ → ℕ → Result ℕ Refusal
 sheet_back s k room =
-    unless_refused Refused (check s)
-    (unless_refused Refused (judged_out s k)
-    (unless_refused Refused (gate (passes ((sheet_length s ≤? room) ∷ [])) Room verdict.Accepted) (Length (sheet_length s))))
+    unless_refused Err (check s)
+    (unless_refused Err (judged_out s k)
+    (unless_refused Err (gate (passes ((sheet_length s ≤? room) ∷ [])) Room (Ok tt)) (Ok (sheet_length s))))

@@ -9,8 +9,7 @@ mod put;
 mod read;
 mod weigh;
 
-ghost use Rattle.std.specs.Prelude.{◌≡◌, ◌*◌, ◌≤◌, ◌<◌, length};
-ghost use Rattle.answer.specs.declared.Verdict.TheVariants.{Accepted};
+ghost use Rattle.std.specs.Prelude.{◌≡◌, ◌*◌, ◌≤◌, ◌<◌, length, Ok};
 ghost use Rattle.answer.specs.Answers.{written};
 ghost use Rattle.store.specs.Face.{grid_rows, grid_columns, element_count, check};
 ghost use Rattle.sheets.specs.Back as back;
@@ -18,7 +17,7 @@ ghost use Rattle.sheets.specs.Back.{is_first, score_cell, judged_out, sheet_of, 
 ghost use Rattle.sheets.specs.First.{fault_at};
 ghost use Rattle.sheets.specs.Rows.{whole_grid, grid_fault, Sides};
 
-use answer::{Cell, Laid, Refusal, Verdict};
+use answer::{Cell, Refusal};
 use lay_down::sheet;
 use score_rule::Said;
 use store::many::Rectangle;
@@ -51,7 +50,7 @@ fn whole(file: &[u8]) -> Rectangle
 
 // Whether an accepted page has scores as a sheet has them, by the first rule, and a grid that a sheet can state.
 fn sheetable(file: &[u8]) -> bool
-    requires { check file.now ≡ Accepted }
+    requires { check file.now ≡ Ok tt }
     ensures { result ≡ back.sheetable file.now }
 {
     let a = whole(file);
@@ -71,8 +70,14 @@ fn sheetable(file: &[u8]) -> bool
 }
 
 // A cell of the grid of an accepted page.
-fn cell_at(file: &[u8], compressor: u32, memory: &mut [u32], row: u64, column: u64) -> Cell
-    requires { (check file.now ≡ Accepted) × ((row < grid_rows file.now) × ((column < grid_columns file.now) × (1 ≤ element_count file.now))) }
+fn cell_at(
+    file: &[u8],
+    compressor: u32,
+    memory: &mut [u32],
+    row: u64,
+    column: u64,
+) -> Result<Cell, Refusal>
+    requires { (check file.now ≡ Ok tt) × ((row < grid_rows file.now) × ((column < grid_columns file.now) × (1 ≤ element_count file.now))) }
     ensures { result ≡ score_cell file.now compressor row column }
 {
     let a = Rectangle {
@@ -88,13 +93,19 @@ fn cell_at(file: &[u8], compressor: u32, memory: &mut [u32], row: u64, column: u
 }
 
 // The fault of the cell with a weight; none of weight 0.
-fn fault_at(file: &[u8], compressor: u32, memory: &mut [u32], a: Rectangle, w: u64) -> Verdict
-    requires accepts { (check file.now ≡ Accepted) × ((a ≡ whole_grid file.now) × (1 ≤ element_count file.now)) }
+fn fault_at(
+    file: &[u8],
+    compressor: u32,
+    memory: &mut [u32],
+    a: Rectangle,
+    w: u64,
+) -> Result<(), Refusal>
+    requires accepts { (check file.now ≡ Ok tt) × ((a ≡ whole_grid file.now) × (1 ≤ element_count file.now)) }
     requires weight { Sides a.rows a.columns × (w ≤ a.rows * a.columns) }
     ensures { result ≡ fault_at a.rows a.columns (grid_fault file.now compressor) w }
 {
     if w == 0 {
-        return Verdict::Accepted;
+        return Ok(());
     }
     let n = a.rows * a.columns - w;
     let row = n / a.columns;
@@ -103,8 +114,8 @@ fn fault_at(file: &[u8], compressor: u32, memory: &mut [u32], a: Rectangle, w: u
 }
 
 // What is judged behind the check.
-fn judged(file: &[u8], compressor: u32, memory: &mut [u32]) -> Verdict
-    requires { check file.now ≡ Accepted }
+fn judged(file: &[u8], compressor: u32, memory: &mut [u32]) -> Result<(), Refusal>
+    requires { check file.now ≡ Ok tt }
     ensures { result ≡ judged_out file.now compressor }
 {
     if sheetable(file) {
@@ -112,45 +123,60 @@ fn judged(file: &[u8], compressor: u32, memory: &mut [u32]) -> Verdict
         let w = weigh::weigh_all(file, compressor, memory, a);
         return fault_at(file, compressor, memory, a, w);
     }
-    Verdict::Refused(Refusal::Input)
+    Err(Refusal::Input)
 }
 
 // The sheet of a page that nothing refuses but a short buffer.
-fn put_sheet(file: &[u8], compressor: u32, memory: &mut [u32], sheet: &mut [u8]) -> Laid
-    requires { (check file.now ≡ Accepted) × (judged_out file.now compressor ≡ Accepted) }
+fn put_sheet(
+    file: &[u8],
+    compressor: u32,
+    memory: &mut [u32],
+    sheet: &mut [u8],
+) -> Result<usize, Refusal>
+    requires { (check file.now ≡ Ok tt) × (judged_out file.now compressor ≡ Ok tt) }
     ensures answer { result ≡ sheet_back file.now compressor (length sheet.old) }
     ensures buffer { sheet.new ≡ written result (sheet_of file.now compressor) sheet.old }
 {
     let a = whole(file);
     let n = 9 + 2 * (a.rows * a.columns);
     if (sheet.len() as u64) < n {
-        return Laid::Refused(Refusal::Room);
+        return Err(Refusal::Room);
     }
     score_sheets::put_head(sheet, a.rows as u16, a.columns as u16);
     put::put_all(file, compressor, memory, a, &mut sheet[9..]);
-    Laid::Length(n as usize)
+    Ok(n as usize)
 }
 
 // The sheet of an accepted page.
-fn sheet_accepted(file: &[u8], compressor: u32, memory: &mut [u32], sheet: &mut [u8]) -> Laid
-    requires { check file.now ≡ Accepted }
+fn sheet_accepted(
+    file: &[u8],
+    compressor: u32,
+    memory: &mut [u32],
+    sheet: &mut [u8],
+) -> Result<usize, Refusal>
+    requires { check file.now ≡ Ok tt }
     ensures answer { result ≡ sheet_back file.now compressor (length sheet.old) }
     ensures buffer { sheet.new ≡ written result (sheet_of file.now compressor) sheet.old }
 {
     match judged(file, compressor, memory) {
-        Verdict::Refused(r) => Laid::Refused(r),
-        Verdict::Accepted => put_sheet(file, compressor, memory, sheet),
+        Err(r) => Err(r),
+        Ok(()) => put_sheet(file, compressor, memory, sheet),
     }
 }
 
 // Moves a page out to a sheet, with the compressor index of its packed tiles. `memory` may have any length, and what it holds afterwards is
 // free: where it has as many numbers as a tile has cells, a packed tile is unpacked twice.
-pub fn sheet_of(file: &[u8], compressor: u32, memory: &mut [u32], sheet: &mut [u8]) -> Laid
+pub fn sheet_of(
+    file: &[u8],
+    compressor: u32,
+    memory: &mut [u32],
+    sheet: &mut [u8],
+) -> Result<usize, Refusal>
     ensures answer { result ≡ sheet_back file.now compressor (length sheet.old) }
     ensures buffer { sheet.new ≡ written result (sheet_of file.now compressor) sheet.old }
 {
     match store::check(file) {
-        Verdict::Refused(r) => Laid::Refused(r),
-        Verdict::Accepted => sheet_accepted(file, compressor, memory, sheet),
+        Err(r) => Err(r),
+        Ok(()) => sheet_accepted(file, compressor, memory, sheet),
     }
 }

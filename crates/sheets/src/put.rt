@@ -4,13 +4,14 @@ ghost use Rattle.std.specs.Prelude.{◌≡◌, true, ◌+◌, ◌*◌, ◌/◌, 
 ghost use Rattle.blocks.specs.Tables.{Inside, Filled};
 ghost use Rattle.store.specs.Face.{Accepts, AtPiece, Answered};
 ghost use Rattle.lay_down.specs.Sheet.{score_element};
-ghost use Rattle.sheets.specs.Rows.{AtOrigin, Known, Reads, StoredRow, HasRoom, score_byte};
+ghost use Rattle.sheets.specs.Rows.{AtOrigin, KnownBy, ReadsBy, StoredRow, HasRoom, score_byte};
 
 use crate::read;
-use answer::Held;
+use crate::read::{Reading, Run};
+use answer::{Held, Refusal};
 use store::many::Rectangle;
 use store::pieces::Piece;
-use store::{description, many, pieces};
+use store::{many, pieces};
 
 // The two bytes of a score in their places.
 fn put_score(out: &mut [u8], at: usize, v: u32)
@@ -24,129 +25,90 @@ fn put_score(out: &mut [u8], at: usize, v: u32)
 // The cells of one row of a piece.
 fn put_row(
     file: &[u8],
-    compressor: u32,
-    held: Held,
+    x: Reading,
+    held: Result<Held, Refusal>,
     memory: &[u32],
-    kind: u32,
-    fill: u32,
     a: Rectangle,
-    tile: u64,
-    start: u64,
-    r: u64,
-    left: u64,
-    right: u64,
+    run: Run,
     out: &mut [u8],
 )
     requires room { HasRoom a out.old }
-    requires inside { (r < a.rows) × ((left ≤ right) × (right ≤ a.columns)) }
-    requires reads { Reads file.now compressor held memory.now kind fill tile start r left right }
-    ensures { Filled (2 * a.columns) (score_byte file.now compressor) (Inside r (r + 1) (2 * left) (2 * right)) out.old out.new }
+    requires inside { (run.row < a.rows) × ((run.left ≤ run.right) × (run.right ≤ a.columns)) }
+    requires reads { ReadsBy file.now x held memory.now run }
+    ensures { Filled (2 * a.columns) (score_byte file.now x.compressor) (Inside run.row (run.row + 1) (2 * run.left) (2 * run.right)) out.old out.new }
 {
-    let mut c = left;
-    while c < right {
-        let x = read::score_cell(
-            file,
-            compressor,
-            held,
-            memory,
-            kind,
-            fill,
-            tile,
-            r,
-            c,
-            start + (c - left),
-        );
+    for c in run.left..run.right {
+        let cell = read::score_cell(file, x, held, memory, run, c);
         put_score(
             out,
-            (2 * (r * a.columns + c)) as usize,
-            answer::cell_bits(x),
+            (2 * (run.row * a.columns + c)) as usize,
+            answer::cell_bits(cell),
         );
-        c += 1;
     }
 }
 
 // The same of cells whose two bytes stand one behind the other in the file.
-fn put_stored(
-    file: &[u8],
-    compressor: u32,
-    a: Rectangle,
-    from: usize,
-    r: u64,
-    left: u64,
-    right: u64,
-    out: &mut [u8],
-)
+fn put_stored(file: &[u8], compressor: u32, a: Rectangle, from: usize, run: Run, out: &mut [u8])
     requires room { HasRoom a out.old }
-    requires inside { (r < a.rows) × ((left ≤ right) × (right ≤ a.columns)) }
-    requires stored { StoredRow file.now compressor from r left right }
-    ensures { Filled (2 * a.columns) (score_byte file.now compressor) (Inside r (r + 1) (2 * left) (2 * right)) out.old out.new }
+    requires inside { (run.row < a.rows) × ((run.left ≤ run.right) × (run.right ≤ a.columns)) }
+    requires stored { StoredRow file.now compressor from run.row run.left run.right }
+    ensures { Filled (2 * a.columns) (score_byte file.now compressor) (Inside run.row (run.row + 1) (2 * run.left) (2 * run.right)) out.old out.new }
 {
-    let mut c = left;
-    while c < right {
-        let v = read::short_at(file, from + (2 * (c - left)) as usize);
-        put_score(out, (2 * (r * a.columns + c)) as usize, v);
-        c += 1;
+    for c in run.left..run.right {
+        let v = read::short_at(file, from + (2 * (c - run.left)) as usize);
+        put_score(out, (2 * (run.row * a.columns + c)) as usize, v);
     }
 }
 
 // The cells of one row of a piece, however they are held.
 fn put_run(
     file: &[u8],
-    compressor: u32,
-    held: Held,
+    x: Reading,
+    held: Result<Held, Refusal>,
     memory: &[u32],
-    kind: u32,
-    fill: u32,
     a: Rectangle,
-    tile: u64,
-    start: u64,
-    r: u64,
-    left: u64,
-    right: u64,
+    run: Run,
     out: &mut [u8],
 )
     requires room { HasRoom a out.old }
-    requires inside { (r < a.rows) × ((left ≤ right) × (right ≤ a.columns)) }
-    requires reads { Reads file.now compressor held memory.now kind fill tile start r left right }
-    ensures { Filled (2 * a.columns) (score_byte file.now compressor) (Inside r (r + 1) (2 * left) (2 * right)) out.old out.new }
+    requires inside { (run.row < a.rows) × ((run.left ≤ run.right) × (run.right ≤ a.columns)) }
+    requires reads { ReadsBy file.now x held memory.now run }
+    ensures { Filled (2 * a.columns) (score_byte file.now x.compressor) (Inside run.row (run.row + 1) (2 * run.left) (2 * run.right)) out.old out.new }
 {
-    let from = read::stored_run(file, held, kind, start, right - left);
+    let from = read::stored_run(file, held, x.kind, run.start, run.right - run.left);
     if from == 0 {
-        put_row(
-            file, compressor, held, memory, kind, fill, a, tile, start, r, left, right, out,
-        );
+        put_row(file, x, held, memory, a, run, out);
         return;
     }
-    put_stored(file, compressor, a, from, r, left, right, out);
+    put_stored(file, x.compressor, a, from, run, out);
 }
 
 // The rows of a piece.
 fn put_piece(
     file: &[u8],
-    compressor: u32,
-    held: Held,
+    x: Reading,
+    held: Result<Held, Refusal>,
     memory: &[u32],
-    kind: u32,
-    fill: u32,
-    across: u64,
     a: Rectangle,
     p: Piece,
     out: &mut [u8],
 )
-    requires known { Known file.now kind fill across }
+    requires known { KnownBy file.now x }
     requires accepts { Accepts file.now a × AtOrigin a }
     requires room { HasRoom a out.old }
     requires at { AtPiece file.now a p }
-    requires answered { Answered file.now compressor a p held memory.now }
-    ensures { Filled (2 * a.columns) (score_byte file.now compressor) (Inside p.top p.bottom (2 * p.left) (2 * p.right)) out.old out.new }
+    requires answered { Answered file.now x.compressor a p held memory.now }
+    ensures { Filled (2 * a.columns) (score_byte file.now x.compressor) (Inside p.top p.bottom (2 * p.left) (2 * p.right)) out.old out.new }
 {
-    let mut r = p.top;
-    while r < p.bottom {
-        let start = p.inside + (r - p.top) * across;
-        put_run(
-            file, compressor, held, memory, kind, fill, a, p.tile, start, r, p.left, p.right, out,
-        );
-        r += 1;
+    for r in p.top..p.bottom {
+        let run = Run {
+            tile: p.tile,
+            start: p.inside + (r - p.top) * x.across,
+            row: r,
+            left: p.left,
+            right: p.right,
+        };
+        put_run(file, x, held, memory, a, run, out);
     }
 }
 
@@ -156,10 +118,8 @@ fn put_unread(a: Rectangle, r: u64, left: u64, right: u64, out: &mut [u8])
     requires inside { (r < a.rows) × ((left ≤ right) × (right ≤ a.columns)) }
     ensures { Filled (2 * a.columns) (λ _ _. 255) (Inside r (r + 1) (2 * left) (2 * right)) out.old out.new }
 {
-    let mut j = 2 * left;
-    while j < 2 * right {
+    for j in 2 * left..2 * right {
         out[(r * (2 * a.columns) + j) as usize] = 255;
-        j += 1;
     }
 }
 
@@ -169,39 +129,25 @@ fn put_absent(a: Rectangle, p: Piece, out: &mut [u8])
     requires inside { (p.top ≤ p.bottom) × ((p.bottom ≤ a.rows) × ((p.left ≤ p.right) × (p.right ≤ a.columns))) }
     ensures { Filled (2 * a.columns) (λ _ _. 255) (Inside p.top p.bottom (2 * p.left) (2 * p.right)) out.old out.new }
 {
-    let mut r = p.top;
-    while r < p.bottom {
+    for r in p.top..p.bottom {
         put_unread(a, r, p.left, p.right, out);
-        r += 1;
     }
 }
 
 // A piece, by what is held of its tile.
-fn put_held(
-    file: &[u8],
-    compressor: u32,
-    memory: &mut [u32],
-    kind: u32,
-    fill: u32,
-    across: u64,
-    a: Rectangle,
-    p: Piece,
-    out: &mut [u8],
-)
-    requires known { Known file.now kind fill across }
+fn put_held(file: &[u8], x: Reading, memory: &mut [u32], a: Rectangle, p: Piece, out: &mut [u8])
+    requires known { KnownBy file.now x }
     requires accepts { Accepts file.now a × (AtOrigin a × (score_element file.now ≡ true)) }
     requires room { HasRoom a out.old }
     requires at { AtPiece file.now a p }
-    ensures { Filled (2 * a.columns) (score_byte file.now compressor) (Inside p.top p.bottom (2 * p.left) (2 * p.right)) out.old out.new }
+    ensures { Filled (2 * a.columns) (score_byte file.now x.compressor) (Inside p.top p.bottom (2 * p.left) (2 * p.right)) out.old out.new }
 {
-    let held = many::hold_lent(file, compressor, p.tile, 0, memory);
+    let held = many::hold_lent(file, x.compressor, p.tile, 0, memory);
     if read::is_absent(held) {
         put_absent(a, p, out);
         return;
     }
-    put_piece(
-        file, compressor, held, memory, kind, fill, across, a, p, out,
-    );
+    put_piece(file, x, held, memory, a, p, out);
 }
 
 // All pieces.
@@ -216,13 +162,10 @@ pub(crate) fn put_all(
     requires room { HasRoom a out.old }
     ensures { Filled (2 * a.columns) (score_byte file.now compressor) (Inside 0 a.rows 0 (2 * a.columns)) out.old out.new }
 {
-    let kind = description::kind_of(file, 0);
-    let fill = description::fill_pattern(file, 0);
-    let shape = description::shape_of(file);
-    let across = shape.tile_columns as u64;
+    let x = Reading::of(file, compressor);
     let mut p = pieces::first_piece(file, a, 0);
     while p.top < a.rows {
-        put_held(file, compressor, memory, kind, fill, across, a, p, out);
+        put_held(file, x, memory, a, p, out);
         p = pieces::next_piece(file, a, p);
     }
 }

@@ -1,5 +1,5 @@
 // The cells of a piece, and whether one is a score.
-ghost use Rattle.std.specs.Prelude.{◌≡◌, true, ◌+◌, ◌*◌, ◌%◌, ◌≤◌, ◌<◌, max, length, eqb};
+ghost use Rattle.std.specs.Prelude.{◌≡◌, true, ◌+◌, ◌-◌, ◌*◌, ◌%◌, ◌≤◌, ◌<◌, length, eqb};
 ghost use Rattle.wire.specs.Pick.{pick};
 ghost use Rattle.wire.specs.Bytes.{number_at};
 ghost use Rattle.wire.specs.Tests.{both};
@@ -8,43 +8,74 @@ ghost use Rattle.answer.specs.Answers.{held_kind};
 ghost use Rattle.store.specs.Face.{held_cell, numbered_cell};
 ghost use Rattle.sheets.specs.Back as back;
 ghost use Rattle.sheets.specs.First.{is_fault};
-ghost use Rattle.sheets.specs.Rows.{is_absent, run_right, StoredRun, CleanRun};
+ghost use Rattle.sheets.specs.Rows.{KnownBy, is_absent, run_right, StoredRun, CleanRun};
 
-use answer::{Cell, Held, Refusal, Verdict};
-use store::many;
+use answer::{Cell, Held, Refusal};
+use store::{description, many};
 
-// A cell of the grid, told from what is held of its tile: by its number inside that, or looked up by itself.
+// How the cells of a page's first element are read: the compressor index of its packed tiles, its type code and fill pattern, and the
+// columns of a tile.
+#[derive(Clone, Copy)]
+pub(crate) struct Reading {
+    pub(crate) compressor: u32,
+    pub(crate) kind: u32,
+    pub(crate) fill: u32,
+    pub(crate) across: u64,
+}
+
+impl Reading {
+    pub(crate) fn of(file: &[u8], compressor: u32) -> Reading
+        ensures same { result.compressor ≡ compressor }
+        ensures known { KnownBy file.now result }
+    {
+        Reading {
+            compressor,
+            kind: description::kind_of(file, 0),
+            fill: description::fill_pattern(file, 0),
+            across: description::shape_of(file).tile_columns as u64,
+        }
+    }
+}
+
+// Cells of one row of the grid that lie in one tile: the tile, the row, the columns, and the first cell's number inside the tile.
+#[derive(Clone, Copy)]
+pub(crate) struct Run {
+    pub(crate) tile: u64,
+    pub(crate) start: u64,
+    pub(crate) row: u64,
+    pub(crate) left: u64,
+    pub(crate) right: u64,
+}
+
+// A cell of a run, told from what is held of its tile: by its number inside that, or looked up by itself.
 pub(crate) fn score_cell(
     file: &[u8],
-    compressor: u32,
-    held: Held,
+    x: Reading,
+    held: Result<Held, Refusal>,
     memory: &[u32],
-    kind: u32,
-    fill: u32,
-    tile: u64,
-    row: u64,
+    run: Run,
     column: u64,
-    inside: u64,
-) -> Cell
-    requires { inside < 4294967296 }
-    ensures { result ≡ pick (eqb (held_kind held) 0) (held_cell file.now compressor held memory.now row column 0) (numbered_cell file.now kind fill memory.now tile inside held) }
+) -> Result<Cell, Refusal>
+    requires { (run.left ≤ column) × (run.start + (column - run.left) < 4294967296) }
+    ensures { result ≡ pick (eqb (held_kind held) 0) (held_cell file.now x.compressor held memory.now run.row column 0) (numbered_cell file.now x.kind x.fill memory.now run.tile (run.start + (column - run.left)) held) }
 {
     if answer::held_kind(held) == 0 {
-        return many::held_cell(file, compressor, held, memory, row, column, 0);
+        return many::held_cell(file, x.compressor, held, memory, run.row, column, 0);
     }
-    many::numbered_cell(file, kind, fill, held, memory, tile, inside as u32)
+    let inside = run.start + (column - run.left);
+    many::numbered_cell(file, x.kind, x.fill, held, memory, run.tile, inside as u32)
 }
 
 // Whether no cell of the tile is stored.
-pub(crate) fn is_absent(held: Held) -> bool
+pub(crate) fn is_absent(held: Result<Held, Refusal>) -> bool
     ensures { result ≡ is_absent held }
 {
     match held {
-        Held::Stored(_) => false,
-        Held::Unpacked(_) => false,
-        Held::Absent => true,
-        Held::Alone => false,
-        Held::Refused(_) => false,
+        Ok(Held::Stored(_)) => false,
+        Ok(Held::Unpacked(_)) => false,
+        Ok(Held::Absent) => true,
+        Ok(Held::Alone) => false,
+        Err(_) => false,
     }
 }
 
@@ -64,20 +95,28 @@ fn run_from(file: &[u8], content: usize, start: u64, n: u64) -> usize
 }
 
 // Where n cells of a tile start in the file, from the one with a number inside it on; 0 where they are no stored Shorts.
-pub(crate) fn stored_run(file: &[u8], held: Held, kind: u32, start: u64, n: u64) -> usize
+pub(crate) fn stored_run(
+    file: &[u8],
+    held: Result<Held, Refusal>,
+    kind: u32,
+    start: u64,
+    n: u64,
+) -> usize
     requires { start + n ≤ 4294967296 }
     ensures { 1 ≤ result → StoredRun file.now held kind start n result }
 {
-    if kind == 3 {
-        return match held {
-            Held::Stored(content) => run_from(file, content, start, n),
-            Held::Unpacked(_) => 0,
-            Held::Absent => 0,
-            Held::Alone => 0,
-            Held::Refused(_) => 0,
-        };
+    if kind != 3 {
+        return 0;
     }
-    0
+    let Ok(held) = held else {
+        return 0;
+    };
+    match held {
+        Held::Stored(content) => run_from(file, content, start, n),
+        Held::Unpacked(_) => 0,
+        Held::Absent => 0,
+        Held::Alone => 0,
+    }
 }
 
 // The bits of a Short that lies whole in the file: read without a test, so that a loop takes several in a step.
@@ -105,16 +144,20 @@ fn run_right(file: &[u8], from: usize, n: u64) -> bool
     ensures { result ≡ run_right file.now from n }
 {
     let mut right = true;
-    let mut i = 0;
-    while i < n {
+    for i in 0..n {
         right = right_with(right, short_at(file, from + (2 * i) as usize));
-        i += 1;
     }
     right
 }
 
 // Whether n cells of a tile are stored Shorts and scores, as far as that is seen from their bytes.
-pub(crate) fn run_clean(file: &[u8], held: Held, kind: u32, start: u64, n: u64) -> bool
+pub(crate) fn run_clean(
+    file: &[u8],
+    held: Result<Held, Refusal>,
+    kind: u32,
+    start: u64,
+    n: u64,
+) -> bool
     requires { start + n ≤ 4294967296 }
     ensures { result ≡ true → CleanRun file.now held kind start n }
 {
@@ -126,35 +169,26 @@ pub(crate) fn run_clean(file: &[u8], held: Held, kind: u32, start: u64, n: u64) 
 }
 
 // 11 or 14, or 12 where the bits are no score's.
-pub(crate) fn fault_of(x: Cell) -> Verdict
+pub(crate) fn fault_of(x: Result<Cell, Refusal>) -> Result<(), Refusal>
     ensures { result ≡ back.fault x }
 {
     match answer::cell_verdict(x) {
-        Verdict::Refused(r) => Verdict::Refused(r),
-        Verdict::Accepted => {
+        Err(r) => Err(r),
+        Ok(()) => {
             if score_sheets::score_right(answer::cell_bits(x)) {
-                return Verdict::Accepted;
+                return Ok(());
             }
-            Verdict::Refused(Refusal::Input)
+            Err(Refusal::Input)
         }
     }
 }
 
 // What a cell weighs behind which so much is left.
-pub(crate) fn weight_of(x: Cell, left: u64) -> u64
+pub(crate) fn weight_of(x: Result<Cell, Refusal>, left: u64) -> u64
     ensures { result ≡ pick (is_fault (back.fault x)) left 0 }
 {
     match fault_of(x) {
-        Verdict::Accepted => 0,
-        Verdict::Refused(_) => left,
+        Ok(()) => 0,
+        Err(_) => left,
     }
-}
-
-pub(crate) fn greater(a: u64, b: u64) -> u64
-    ensures { result ≡ max a b }
-{
-    if a < b {
-        return b;
-    }
-    a
 }

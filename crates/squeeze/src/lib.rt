@@ -20,7 +20,7 @@ ghost use Rattle.correct.specs.Writes.{squeeze_writes};
 ghost use Rattle.correct.specs.Calls.{Call, change_of, answer_by, out_by, stopped_by, made_by};
 ghost use Rattle.plans.specs.Tight.{tight_answer, tight_count, tight_out};
 
-use answer::{Laid, Verdict};
+use answer::Refusal;
 use calls::{StoppedCall, judging};
 use plans::{checking, kept, packing, tight};
 
@@ -28,17 +28,17 @@ use plans::{checking, kept, packing, tight};
 // plan has no room for them.
 #[derive(Clone, Copy)]
 pub struct TightPlan {
-    pub answer: Laid,
+    pub answer: Result<usize, Refusal>,
     pub starts: usize,
 }
 
 // The checker by itself: what squeezing by the plan answers.
-pub fn check_plan(buf: &[u8], n: usize, plan: &[u64]) -> Laid
+pub fn check_plan(buf: &[u8], n: usize, plan: &[u64]) -> Result<usize, Refusal>
     ensures { result ≡ answer_by (change_of (Call.Squeezing plan.now) buf.now n) }
 {
     match judging::on_open_page(buf, n) {
-        Verdict::Refused(r) => Laid::Refused(r),
-        Verdict::Accepted => checking::check_plan(wire::part_of(buf, 0, n), plan),
+        Err(r) => Err(r),
+        Ok(()) => checking::check_plan(wire::part_of(buf, 0, n), plan),
     }
 }
 
@@ -49,11 +49,11 @@ pub fn tight_plan(buf: &[u8], n: usize, plan: &mut [u64]) -> TightPlan
     ensures plan { plan.new ≡ tight_out buf.now n plan.old }
 {
     match judging::on_open_page(buf, n) {
-        Verdict::Refused(r) => TightPlan {
-            answer: Laid::Refused(r),
+        Err(r) => TightPlan {
+            answer: Err(r),
             starts: 0,
         },
-        Verdict::Accepted => {
+        Ok(()) => {
             let s = wire::part_of(buf, 0, n);
             let starts = kept::kept_count(s);
             let answer = tight::tight_plan(s, plan);
@@ -88,14 +88,14 @@ pub fn squeeze_page_stopped(
     ensures plan { plan.new ≡ plan.old }
 {
     match check_plan(buf, n, plan) {
-        Laid::Refused(r) => StoppedCall {
-            answer: Laid::Refused(r),
+        Err(r) => StoppedCall {
+            answer: Err(r),
             made: 0,
         },
-        Laid::Length(m) => {
+        Ok(m) => {
             let left = squeezing_cut(buf, n, plan, stores);
             StoppedCall {
-                answer: Laid::Length(m),
+                answer: Ok(m),
                 made: stores - left,
             }
         }
@@ -103,7 +103,7 @@ pub fn squeeze_page_stopped(
 }
 
 // Squeezes the page by a plan.
-pub fn squeeze_page(buf: &mut [u8], n: usize, plan: &mut [u64]) -> Laid
+pub fn squeeze_page(buf: &mut [u8], n: usize, plan: &mut [u64]) -> Result<usize, Refusal>
     ensures answer { result ≡ answer_by (change_of (Call.Squeezing plan.old) buf.old n) }
     ensures buffer { buf.new ≡ out_by (change_of (Call.Squeezing plan.old) buf.old n) buf.old }
     ensures plan { plan.new ≡ plan.old }

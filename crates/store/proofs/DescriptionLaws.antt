@@ -1,4 +1,5 @@
 -- What a page is and what an element of it is, in numbers. Assumes nothing.
+use Rattle.std.specs.Prelude.{Ok, Err}
 use Prim.Native.Nat.{ℕ, ◌+◌, min, ◌≤◌, ◌<◌}
 use mathlib.Core.Path.{◌≡◌, sym, ap}
 use mathlib.Core.List.{List}
@@ -12,7 +13,6 @@ use Rattle.wire.specs.Bytes.{part}
 use Rattle.wire.proofs.TestLaws.{means, not_both}
 use Rattle.wire.proofs.ByteLaws.{part_out, part_length}
 use Rattle.answer.specs.declared.Refusal.TheVariants.{OutsideGrid}
-use Rattle.answer.specs.declared.Verdict.TheVariants.{Accepted}
 use Rattle.record.specs.Chain.{header_end, records, records_of}
 use Rattle.header.specs.declared.Element.{Element}
 use Rattle.header.specs.Names.{identifier, longest_name}
@@ -28,8 +28,7 @@ use Rattle.page_check.proofs.AcceptedLaws.{accepted_obeys, accepted_sound}
 use Rattle.page_check.proofs.GivenLaws.{obeys_range, sound_range}
 use Rattle.store.specs.declared.description.Shape.{Shape}
 use Rattle.store.specs.declared.description.PageNumbers.{PageNumbers}
-use Rattle.store.specs.declared.description.Specified.TheVariants as specified_as
-use Rattle.store.specs.Description.{shape_of, numbers_of_page, specified_by, DescribedInFile}
+use Rattle.store.specs.Description.{shape_of, numbers_of_page, numbers_of_element, specified_by, DescribedInFile}
 use Rattle.store.proofs.LookupLaws.{right}
 
 module _ (s : List ℕ) where
@@ -43,7 +42,7 @@ module _ (s : List ℕ) where
 
   -- on an accepted file the bytes of a tile are below the bound up to which they are counted
   pub numbers_are :
-      (x : Shape) (down across bytes front tiles metadata time sums : ℕ) → check s ≡ Accepted → Shaped x → down ≡ tiles_down s →
+      (x : Shape) (down across bytes front tiles metadata time sums : ℕ) → check s ≡ Ok tt → Shaped x → down ≡ tiles_down s →
       across ≡ tiles_across s → bytes ≡ min (tile_bytes s) cap → front ≡ header_end s → tiles ≡ length (records_of s 2) →
       metadata ≡ length (records_of s 1) → time ≡ time_modified s → sums ≡ checksum_enabled s →
       ◌≡◌ {A = PageNumbers}
@@ -67,14 +66,14 @@ module _ (s : List ℕ) where
   -- an element's, from the entry that is read
 
   module _ (e n : ℕ) (p : n ≡ element_count s) where
-    pub element_lacks : n ≤ e → specified_as.Refused OutsideGrid ≡ specified_by s e
+    pub element_lacks : n ≤ e → Err OutsideGrid ≡ specified_by s e
     unfolding specified_by
     element_lacks h = rw (lt-leb (e + 1) (element_count s) (omega arith))
 
     pub element_is :
         (x : Element) (place size : ℕ) → x ≡ element s e → place ≡ unit_place s e → size ≡ unit_length s e → e < n →
-        specified_as.Element x.kind x.fill x.name x.name_length place size ≡ specified_by s e
-    unfolding specified_by
+        Ok (record { kind = x.kind; fill = x.fill; name = x.name; name_length = x.name_length; unit = place; unit_length = size }) ≡ specified_by s e
+    unfolding specified_by numbers_of_element
     element_is x place size q u v h = rw (le-leb (e + 1) (element_count s) (omega arith), q, u, v)
 
 -- what lies in an accepted file
@@ -92,7 +91,7 @@ some_inside s at n h =
     by_cases (dec_le (at + n) (length s)) (λ k. k)
     (λ k. let z : length (part s at n) ≡ 0 = ap length (part_out s at n (omega arith)) in absurd (omega arith))
 
-module _ (s : List ℕ) (a : check s ≡ Accepted) (e : ℕ) (h : e < element_count s) where
+module _ (s : List ℕ) (a : check s ≡ Ok tt) (e : ℕ) (h : e < element_count s) where
   named : identifier longest_name (element_name s e) ≡ true
   unfolding element_right
   named = (means _ (right s a e h)).1.0

@@ -1,4 +1,5 @@
 -- Elements found by their names. Assumes nothing.
+use Rattle.std.specs.Prelude.{None, Ok, Option, Some}
 use Prim.Native.Nat.{ℕ, ◌+◌, ◌≤◌, ◌<◌}
 use mathlib.Core.Path.{◌≡◌, sym, ap, ◌∙◌}
 use mathlib.Core.List.{List}
@@ -9,11 +10,7 @@ use Rattle.wire.specs.Bytes.{part, same_bytes}
 use Rattle.wire.specs.Lists.{below}
 use Rattle.wire.proofs.TestLaws.{means, not_both, no_true, below_each}
 use Rattle.wire.proofs.ByteLaws.{part_whole, same_is, is_same}
-use Rattle.answer.specs.declared.Verdict.TheVariants.{Accepted}
-use Rattle.answer.specs.declared.Lookup.TheVariants.{Number, Absent}
 use Rattle.answer.specs.Refusals.{unless_refused}
-use Rattle.record.specs.declared.Found.{Found}
-use Rattle.record.specs.declared.Found.TheVariants.{At, Nothing}
 use Rattle.record.specs.Chain.{find, records}
 use Rattle.record.proofs.FindLaws.{first_start, first_on, first_at, first_holds, first_none_below}
 use Rattle.header.specs.declared.Element.{Element}
@@ -36,7 +33,7 @@ module _ (s name : List ℕ) where
   -- the loop: no element before e has the name
   pub record Unnamed (n e : ℕ) : Type 0 where
     pub inside : e ≤ n
-    pub none : find (has_name s name) (below e) ≡ Nothing
+    pub none : find (has_name s name) (below e) ≡ None
 
   pub unnamed_begin : (n : ℕ) → Unnamed n 0
   unnamed_begin n = record { inside = omega arith; none = first_start _ }
@@ -45,21 +42,21 @@ module _ (s name : List ℕ) where
     pub unnamed_on : r ≡ false → Unnamed n (e + 1)
     unnamed_on f = record { inside = omega arith; none = first_on _ e u.none (sym q ∙ f) }
 
-    pub named_here : n ≡ element_count s → r ≡ true → Number e ≡ lookup_of (element_named s name)
+    pub named_here : n ≡ element_count s → r ≡ true → Ok (Some e) ≡ lookup_of (element_named s name)
     unfolding element_named
     named_here c f = ap lookup_of (sym (rw c at (first_at (has_name s name) n e h u.none (sym q ∙ f))))
 
-  pub named_nowhere : (n e : ℕ) → Unnamed n e → n ≤ e → n ≡ element_count s → Absent ≡ lookup_of (element_named s name)
+  pub named_nowhere : (n e : ℕ) → Unnamed n e → n ≤ e → n ≡ element_count s → Ok None ≡ lookup_of (element_named s name)
   unfolding element_named
   named_nowhere n e u h c = let z : e ≡ element_count s = omega (arith, u.inside) in ap lookup_of (sym (rw z at u.none))
 
 -- what is answered of an accepted file
 
-number_found : (f : Found) (e : ℕ) → lookup_of f ≡ Number e → f ≡ At e
-number_found (At x) e p = let z : x ≡ e = cc in ap At z
-number_found Nothing e p = let z : ◌≡◌ {A = ℕ} 0 1 = cc in absurd (omega arith)
+number_found : (f : Option ℕ) (e : ℕ) → lookup_of f ≡ Ok (Some e) → f ≡ Some e
+number_found (Some x) e p = let z : x ≡ e = cc in ap Some z
+number_found None e p = let z : ◌≡◌ {A = ℕ} 0 1 = cc in absurd (omega arith)
 
-module _ (s : List ℕ) (a : check s ≡ Accepted) where
+module _ (s : List ℕ) (a : check s ≡ Ok tt) where
   pub right : (e : ℕ) → e < element_count s → element_right s e ≡ true
   unfolding header_right elements_right
   right e h =
@@ -87,13 +84,13 @@ module _ (s : List ℕ) (a : check s ≡ Accepted) where
     unfolding has_name
     this_name e p = is_same _ _ p
 
-    by_number : (e : ℕ) → read_element_named s name ≡ Number e → (e < element_count s) × (element_name s e ≡ name)
+    by_number : (e : ℕ) → read_element_named s name ≡ Ok (Some e) → (e < element_count s) × (element_name s e ≡ name)
     unfolding element_named has_name
     by_number e p =
         let h = first_holds (has_name s name) (element_count s) e (number_found _ e (sym behind ∙ p)) in
         (h.0, same_is _ _ h.1)
 
-    by_found : (e : ℕ) → e < element_count s → element_name s e ≡ name → read_element_named s name ≡ Number e
+    by_found : (e : ℕ) → e < element_count s → element_name s e ≡ name → read_element_named s name ≡ Ok (Some e)
     unfolding element_named
     by_found e h p =
         behind
@@ -101,11 +98,11 @@ module _ (s : List ℕ) (a : check s ≡ Accepted) where
         (first_at (has_name s name) (element_count s) e h
         (first_none_below _ e (λ d k. other_name d (λ q. one_name d e k h (q ∙ sym p)))) (this_name e p))
 
-    by_absent : ((e : ℕ) → e < element_count s → element_name s e ≡ name → ⊥) → read_element_named s name ≡ Absent
+    by_absent : ((e : ℕ) → e < element_count s → element_name s e ≡ name → ⊥) → read_element_named s name ≡ Ok None
     unfolding element_named
     by_absent f = behind ∙ ap lookup_of (first_none_below (has_name s name) (element_count s) (λ e h. other_name e (f e h)))
 
-    no_such : identifier 32 name ≡ false → read_element_named s name ≡ Absent
+    no_such : identifier 32 name ≡ false → read_element_named s name ≡ Ok None
     unfolding element_right
     no_such f = by_absent (λ e h p. not_both (ap (identifier 32) (sym p) ∙ (means _ (right e h)).1.0) f)
 

@@ -1,4 +1,6 @@
 -- Many reads after one check: what the functions answer, and what a product needs of a rectangle and its tiles. Assumes nothing.
+use Rattle.std.specs.Prelude.{Ok, Result}
+use Rattle.answer.specs.declared.Refusal.{Refusal}
 use Prim.Native.Nat.{ℕ, ◌+◌, ◌*◌, ◌/◌, ◌%◌, ◌≤◌, ◌<◌}
 use mathlib.Core.Path.{◌≡◌, refl, sym, ap, ◌∙◌}
 use mathlib.Core.List.{List, [], ◌∷◌}
@@ -11,7 +13,6 @@ use borrow.Author.Tests.{leb-true, leb-false}
 use Rattle.wire.specs.Tests.{Test, ◌≤?◌}
 use Rattle.wire.specs.Bytes.{put}
 use Rattle.wire.proofs.TestLaws.{means, yes, no, either_way}
-use Rattle.answer.specs.declared.Verdict.TheVariants.{Accepted}
 use Rattle.answer.specs.declared.Held.{Held}
 use Rattle.header.specs.Fields.{grid_rows, grid_columns, tile_rows, tile_columns, element_count}
 use Rattle.geometry.specs.Tiles.{tile_of, inside_of, tile_in, tile_count, cell_tile, cell_inside}
@@ -33,20 +34,20 @@ use Rattle.store.specs.Many.{rectangle_inside, cell_there, tile_holding, number_
 -- what is held
 
 pub held_accepted :
-    (s : List ℕ) (ci at tile e : ℕ) (x : Held) (m o : List ℕ) → x ≡ looked_up_room s ci (found_by s (Directory at)) tile e (length m) →
+    (s : List ℕ) (ci at tile e : ℕ) (x : Result Held Refusal) (m o : List ℕ) → x ≡ looked_up_room s ci (found_by s (Directory at)) tile e (length m) →
     o ≡ put m 0 (unpacked_bits s e x) → at ≡ tile_directory_at s →
     (x ≡ held_by_directory s ci tile e (length m))
-    × ((o ≡ put m 0 (unpacked_bits s e x)) × (check s ≡ Accepted → tile < tile_count s → e < element_count s → Holds s ci tile e x o))
+    × ((o ≡ put m 0 (unpacked_bits s e x)) × (check s ≡ Ok tt → tile < tile_count s → e < element_count s → Holds s ci tile e x o))
 unfolding held_by_directory found_by
 held_accepted s ci at tile e x m o p q t =
     let h : x ≡ held_by_directory s ci tile e (length m) = p ∙ rw t in
     (h, (q, λ a k l. rw (q, h) (holds_accepted s a ci tile e m k l)))
 
 pub held_lent :
-    (s : List ℕ) (ci at tile e : ℕ) (x : Held) (m o : List ℕ) → x ≡ looked_up_room s ci (found_by s (Directory at)) tile e (length m) →
+    (s : List ℕ) (ci at tile e : ℕ) (x : Result Held Refusal) (m o : List ℕ) → x ≡ looked_up_room s ci (found_by s (Directory at)) tile e (length m) →
     (MemorySaid false x → o ≡ put m 0 (unpacked_bits s e x)) → at ≡ tile_directory_at s →
     (x ≡ held_by_directory s ci tile e (length m))
-    × ((MemorySaid false x → o ≡ put m 0 (unpacked_bits s e x)) × (check s ≡ Accepted → tile < tile_count s → e < element_count s → Holds s ci tile e x o))
+    × ((MemorySaid false x → o ≡ put m 0 (unpacked_bits s e x)) × (check s ≡ Ok tt → tile < tile_count s → e < element_count s → Holds s ci tile e x o))
 held_lent s ci at tile e x m o p q t =
     let h = held_accepted s ci at tile e x m (put m 0 (unpacked_bits s e x)) p refl t in
     (h.0, (q, λ a k l. holds_lent s ci tile e x (put m 0 (unpacked_bits s e x)) o q (h.1.1 a k l)))
@@ -143,10 +144,10 @@ module _ (s : List ℕ) (row column : ℕ) where
   unfolding cell_tile tile_in tile_of
   same_tile r c p q = rw (p, q)
 
-pub sides_accepted : (s : List ℕ) → check s ≡ Accepted → Sides s
+pub sides_accepted : (s : List ℕ) → check s ≡ Ok tt → Sides s
 sides_accepted s a = sides_mean s (check_lawful s a)
 
-pub tile_there : (s : List ℕ) → check s ≡ Accepted → (row column e : ℕ) → in_grid s row column e ≡ true → (cell_tile s row column < tile_count s) × (e < element_count s)
+pub tile_there : (s : List ℕ) → check s ≡ Ok tt → (row column e : ℕ) → in_grid s row column e ≡ true → (cell_tile s row column < tile_count s) × (e < element_count s)
 tile_there s a row column e f =
     let d = sides_accepted s a in
     let g = grid_means s row column e f in
@@ -154,7 +155,7 @@ tile_there s a row column e f =
 
 -- numbers inside a tile: small, and rising from row to row by the tile's columns
 
-pub inside_few : (s : List ℕ) → check s ≡ Accepted → (row column : ℕ) → cell_inside s row column < 16777216
+pub inside_few : (s : List ℕ) → check s ≡ Ok tt → (row column : ℕ) → cell_inside s row column < 16777216
 inside_few s a row column = inside_small s row column (check_lawful s a)
 
 pub inside_down :

@@ -1,4 +1,5 @@
 -- Metadata records by their name: the first, the next one behind it, what is said of all, and that their IDs differ. Assumes nothing.
+use Rattle.std.specs.Prelude.{None, Ok, Option, Some}
 use Prim.Native.Nat.{ℕ, zero, suc, ◌+◌, ◌≤◌, ◌<◌}
 use mathlib.Core.Path.{◌≡◌, refl, sym, ◌∙◌}
 use mathlib.Core.List.{List, [], ◌∷◌, map, Memᴰ}
@@ -13,9 +14,6 @@ use Rattle.wire.specs.Lists.{select}
 use Rattle.wire.proofs.TestLaws.{means, yes, no, either_way, not_both}
 use Rattle.wire.proofs.ByteLaws.{same_is, is_same}
 use Rattle.wire.proofs.ListLaws.{every_member, select_member, Behind, behind_select}
-use Rattle.answer.specs.declared.Verdict.TheVariants.{Accepted}
-use Rattle.record.specs.declared.Found.{Found}
-use Rattle.record.specs.declared.Found.TheVariants.{At, Nothing}
 use Rattle.record.specs.Types.{metadata_type}
 use Rattle.record.specs.Record.{type_at, length_at, record_ok}
 use Rattle.record.specs.Chain.{starts, header_end, records, records_of, find, first_record}
@@ -43,7 +41,7 @@ module _ (s name : List ℕ) (x k : ℕ) (p : k ≡ type_at s x) where
 -- a search, as a choice among the records
 
 module _ (p : ℕ → Bool) where
-  find_none : (l : List ℕ) → find p l ≡ Nothing → select p l ≡ []
+  find_none : (l : List ℕ) → find p l ≡ None → select p l ≡ []
   unfolding find select
   find_none [] e = refl
   find_none (x ∷ l) e = go (p x) refl (λ h. find_none l (rw h at e))
@@ -52,15 +50,15 @@ module _ (p : ℕ → Bool) where
       go true h f = found_not refl (rw h at e)
       go false h f = rw h (f h)
 
-  none_found : {C : Type 0} (x : ℕ) → find p [] ≡ At x → C
+  none_found : {C : Type 0} (x : ℕ) → find p [] ≡ Some x → C
   unfolding find
   none_found x e = found_not (sym e) refl
 
-  found_here : (a x : ℕ) (l : List ℕ) → p a ≡ true → find p (a ∷ l) ≡ At x → a ≡ x
+  found_here : (a x : ℕ) (l : List ℕ) → p a ≡ true → find p (a ∷ l) ≡ Some x → a ≡ x
   unfolding find
   found_here a x l h e = at_is (rw h at e)
 
-  found_on : (a x : ℕ) (l : List ℕ) → p a ≡ false → find p (a ∷ l) ≡ At x → find p l ≡ At x
+  found_on : (a x : ℕ) (l : List ℕ) → p a ≡ false → find p (a ∷ l) ≡ Some x → find p l ≡ Some x
   unfolding find
   found_on a x l h e = rw h at e
 
@@ -78,16 +76,16 @@ module _ (s : List ℕ) (p : ℕ → Bool) where
     pub all : select p (starts s at) ≡ x ∷ select p (starts s (x + length_at s x))
     pub ok : record_ok s x ≡ true
 
-  first_at : (at x : ℕ) → find p (starts s at) ≡ At x → FirstAt at x
-  first_at at x = by_chain s (λ a. find p (starts s a) ≡ At x → FirstAt a x) none more at
+  first_at : (at x : ℕ) → find p (starts s at) ≡ Some x → FirstAt at x
+  first_at at x = by_chain s (λ a. find p (starts s a) ≡ Some x → FirstAt a x) none more at
     where
-      none : (a : ℕ) → record_ok s a ≡ false → find p (starts s a) ≡ At x → FirstAt a x
+      none : (a : ℕ) → record_ok s a ≡ false → find p (starts s a) ≡ Some x → FirstAt a x
       none a o e = none_found p x (rw (starts_none s a o) at e)
 
-      more : (a : ℕ) → record_ok s a ≡ true → (find p (starts s (a + length_at s a)) ≡ At x → FirstAt (a + length_at s a) x) → find p (starts s a) ≡ At x → FirstAt a x
+      more : (a : ℕ) → record_ok s a ≡ true → (find p (starts s (a + length_at s a)) ≡ Some x → FirstAt (a + length_at s a) x) → find p (starts s a) ≡ Some x → FirstAt a x
       more a o f e = go (p a) refl
         where
-          q : find p (a ∷ starts s (a + length_at s a)) ≡ At x
+          q : find p (a ∷ starts s (a + length_at s a)) ≡ Some x
           q = rw (starts_record s a o) at e
 
           go : (b : Bool) → p a ≡ b → FirstAt a x
@@ -96,15 +94,15 @@ module _ (s : List ℕ) (p : ℕ → Bool) where
 
 -- what is said of the name, by the first two searches
 
-module _ (s name : List ℕ) (h : ℕ) (f : Found) (e : h ≡ header_end s) (q : f ≡ first_record s h (is_named s name)) where
+module _ (s name : List ℕ) (h : ℕ) (f : Option ℕ) (e : h ≡ header_end s) (q : f ≡ first_record s h (is_named s name)) where
   abbrev is_named_lem : ℕ → Bool
   is_named_lem = is_named s name
 
-  pub named_none : f ≡ Nothing → Absent ≡ name_said s name
+  pub named_none : f ≡ None → Absent ≡ name_said s name
   unfolding name_said ids_named records_named records first_record
   named_none z = rw (find_none is_named_lem (starts s (header_end s)) (rw e at (sym q ∙ z)))
 
-  module _ (x n : ℕ) (z : f ≡ At x) (l : n ≡ length_at s x) where
+  module _ (x n : ℕ) (z : f ≡ Some x) (l : n ≡ length_at s x) where
     first : FirstAt s is_named_lem (header_end s) x
     unfolding first_record
     first = first_at s is_named_lem (header_end s) x (rw e at (sym q ∙ z))
@@ -112,12 +110,12 @@ module _ (s name : List ℕ) (h : ℕ) (f : Found) (e : h ≡ header_end s) (q :
     pub next_fits : x + n ≤ length s
     next_fits = omega (arith, (ok_means s x first.ok).inside)
 
-    module _ (g : Found) (r : g ≡ first_record s (x + n) is_named_lem) where
-      pub named_one : g ≡ Nothing → (i : ℕ) → i ≡ record_id s x → One i ≡ name_said s name
+    module _ (g : Option ℕ) (r : g ≡ first_record s (x + n) is_named_lem) where
+      pub named_one : g ≡ None → (i : ℕ) → i ≡ record_id s x → One i ≡ name_said s name
       unfolding name_said ids_named records_named records first_record
       named_one w i d = rw (first.all, find_none is_named_lem (starts s (x + length_at s x)) (rw l at (sym r ∙ w)), d)
 
-      pub named_several : (y : ℕ) → g ≡ At y → Several ≡ name_said s name
+      pub named_several : (y : ℕ) → g ≡ Some y → Several ≡ name_said s name
       unfolding name_said ids_named records_named records first_record
       named_several y w = rw (first.all, (first_at s is_named_lem (x + length_at s x) y (rw l at (sym r ∙ w))).all)
 
@@ -169,7 +167,7 @@ module _ (s name : List ℕ) (w : keys_distinct s ≡ true) where
       let v = yes (is (same_bytes (metadata_name s x) (metadata_name s y)) ∷ (record_id s x ≡? record_id s y) ∷ []) (is_same _ _ (p.1 ∙ sym r.1), (q, tt)) in
       apart_key (eqb x y) _ (ne_eqb x y (λ d. omega (arith, d))) (sym v) g
 
-keys_accepted : (s : List ℕ) → check s ≡ Accepted → keys_distinct s ≡ true
+keys_accepted : (s : List ℕ) → check s ≡ Ok tt → keys_distinct s ≡ true
 unfolding metadata_directory_right
 keys_accepted s a = (means _ (accepted_sound s a).metadata_directory_lem).1.1.1.1.1.0
 

@@ -1,4 +1,6 @@
 -- What an opened page holds and answers: as the bytes and the index alone do, whatever positions it holds. Assumes nothing.
+use Rattle.std.specs.Prelude.{Err, Ok, Option, Result, ⊤}
+use Rattle.answer.specs.declared.Extent.{Extent}
 use Prim.Native.Nat.{ℕ, ◌-◌, ◌<◌}
 use mathlib.Core.Path.{◌≡◌, refl, sym, ap, ◌∙◌}
 use mathlib.Core.List.{List}
@@ -7,12 +9,8 @@ use lib.Dec.{eqb}
 use borrow.Author.Tests.{eqb-true}
 use Rattle.wire.specs.Pick.{pick}
 use Rattle.answer.specs.declared.Refusal.{Refusal}
-use Rattle.answer.specs.declared.Verdict.{Verdict}
-use Rattle.answer.specs.declared.Verdict.TheVariants.{Accepted, Refused}
 use Rattle.answer.specs.declared.Cell.{Cell}
 use Rattle.answer.specs.declared.Cell.TheVariants as cell
-use Rattle.answer.specs.declared.Content.{Content}
-use Rattle.answer.specs.declared.Content.TheVariants as content
 use Rattle.answer.proofs.VerdictLaws.{refusal_handed, answer_behind, same_behind}
 use Rattle.header.specs.Fields.{tile_directory_reference}
 use Rattle.record.specs.Chain.{header_end}
@@ -30,12 +28,12 @@ use Rattle.store.specs.Opened.{held_end, held_directory, trusted, walk_from, thr
 
 -- what is held
 
-module _ (s : List ℕ) (v : Verdict) (p : v ≡ check s) where
-  pub held_refused : (x : Refusal) → v ≡ Refused x → (0 ≡ held_end s) × (0 ≡ held_directory s)
+module _ (s : List ℕ) (v : Result ⊤ Refusal) (p : v ≡ check s) where
+  pub held_refused : (x : Refusal) → v ≡ Err x → (0 ≡ held_end s) × (0 ≡ held_directory s)
   unfolding held_end held_directory
   held_refused x f = (refusal_handed (λ r. 0) v (check s) p _ x f, refusal_handed (λ r. 0) v (check s) p _ x f)
 
-  pub held_accepted : (n d : ℕ) → v ≡ Accepted → n ≡ header_end s → d ≡ tile_directory_reference s → (n ≡ held_end s) × (d ≡ held_directory s)
+  pub held_accepted : (n d : ℕ) → v ≡ Ok tt → n ≡ header_end s → d ≡ tile_directory_reference s → (n ≡ held_end s) × (d ≡ held_directory s)
   unfolding held_end held_directory
   held_accepted n d f g h = (answer_behind (λ r. 0) v (check s) p _ n f (λ a. g), answer_behind (λ r. 0) v (check s) p _ d f (λ a. h))
 
@@ -61,7 +59,7 @@ through_is s directory n t d p q r = ap Directory (r ∙ rw (q, p))
 
 -- whatever is held, on an accepted file each finds what is meant
 
-module _ (s : List ℕ) (a : check s ≡ Accepted) (i : ℕ) (h : i < tile_count s) where
+module _ (s : List ℕ) (a : check s ≡ Ok tt) (i : ℕ) (h : i < tile_count s) where
   pub walk_held : (end : ℕ) → found_by s (walk_from s end) i ≡ meant s i
   unfolding found_by walk_from
   walk_held end = rw (trusted_own end (header_end s)) (walked_finds s i h)
@@ -80,7 +78,7 @@ module _ (s : List ℕ) (ci row column e end directory : ℕ) (walk : Bool) wher
   page_means : page_read s ci end directory row column e walk ≡ read_meaning s ci row column e
   unfolding page_read read_meaning
   page_means =
-      same_behind cell.Refused (check s) _ _
+      same_behind Err (check s) _ _
       (λ a. way_means s _ (check_lawful s a) (λ i h. either_held s a i h end directory walk) ci row column e)
 
   plain_means : plain_read s ci row column e walk ≡ read_meaning s ci row column e
@@ -91,27 +89,27 @@ module _ (s : List ℕ) (ci row column e end directory : ℕ) (walk : Bool) wher
       go true = walk_read s ci row column e
       go false = directory_read s ci row column e
 
-  pub all_three : (x : Cell) → x ≡ read_meaning s ci row column e → (x ≡ page_read s ci end directory row column e walk) × ((x ≡ plain_read s ci row column e walk) × (x ≡ read_meaning s ci row column e))
+  pub all_three : (x : Result Cell Refusal) → x ≡ read_meaning s ci row column e → (x ≡ page_read s ci end directory row column e walk) × ((x ≡ plain_read s ci row column e walk) × (x ≡ read_meaning s ci row column e))
   all_three x g = (g ∙ sym page_means, (g ∙ sym plain_means, g))
 
   pub page_answer :
-      (w : Route) (x : Cell) → w ≡ pick walk (walk_from s end) (through_directory s directory) → x ≡ looked_up s ci (found_by s w) row column e → check s ≡ Accepted →
+      (w : Route) (x : Result Cell Refusal) → w ≡ pick walk (walk_from s end) (through_directory s directory) → x ≡ looked_up s ci (found_by s w) row column e → check s ≡ Ok tt →
       x ≡ meaning s ci row column e
   page_answer w x p q a = q ∙ rw p (looked_means s _ (check_lawful s a) (λ i h. either_held s a i h end directory walk) ci row column e)
 
-pub plain_both : (s : List ℕ) (ci row column e : ℕ) (walk : Bool) (x : Cell) → x ≡ read_meaning s ci row column e → (x ≡ plain_read s ci row column e walk) × (x ≡ read_meaning s ci row column e)
+pub plain_both : (s : List ℕ) (ci row column e : ℕ) (walk : Bool) (x : Result Cell Refusal) → x ≡ read_meaning s ci row column e → (x ≡ plain_read s ci row column e walk) × (x ≡ read_meaning s ci row column e)
 plain_both s ci row column e walk x g = (all_three s ci row column e 0 0 walk x g).1
 
 module _ (s : List ℕ) (directory tile e : ℕ) where
   content_page : page_content s directory tile e ≡ read_content s tile e
   unfolding page_content read_content
   content_page =
-      same_behind content.Refused (check s) _ _
+      same_behind Err (check s) _ _
       (λ a. content_way_means s _ (check_lawful s a) (λ i h. directory_held s a i h directory) tile e)
 
-  pub both_contents : (x : Content) → x ≡ read_content s tile e → (x ≡ page_content s directory tile e) × (x ≡ read_content s tile e)
+  pub both_contents : (x : Result (Option Extent) Refusal) → x ≡ read_content s tile e → (x ≡ page_content s directory tile e) × (x ≡ read_content s tile e)
   both_contents x g = (g ∙ sym content_page, g)
 
   pub page_content_answer :
-      (w : Route) (x : Content) → w ≡ through_directory s directory → x ≡ looked_up_content s (found_by s w) tile e → check s ≡ Accepted → x ≡ content_meaning s tile e
+      (w : Route) (x : Result (Option Extent) Refusal) → w ≡ through_directory s directory → x ≡ looked_up_content s (found_by s w) tile e → check s ≡ Ok tt → x ≡ content_meaning s tile e
   page_content_answer w x p q a = q ∙ rw p (content_looked_means s _ (check_lawful s a) (λ i h. directory_held s a i h directory) tile e)

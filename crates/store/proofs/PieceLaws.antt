@@ -1,4 +1,5 @@
 -- Pieces of a rectangle, the walk over them, and what is held of the tile of each. Assumes nothing.
+use Rattle.std.specs.Prelude.{Err, Ok, Result}
 use Prim.Native.Nat.{ℕ, ◌+◌, ◌-◌, ◌*◌, ◌%◌, ◌≤◌, ◌<◌}
 use mathlib.Core.Path.{◌≡◌, refl, sym, ap, ◌∙◌}
 use mathlib.Core.List.{List, [], ◌∷◌}
@@ -19,7 +20,6 @@ use Rattle.blocks.specs.Walks.{Begins, Follows}
 use Rattle.blocks.proofs.BlockLaws.{end_first, piece_next, block_few}
 use Rattle.answer.specs.declared.Refusal.{Refusal}
 use Rattle.answer.specs.declared.Refusal.TheVariants as refusal
-use Rattle.answer.specs.declared.Verdict.TheVariants.{Accepted}
 use Rattle.answer.specs.declared.Held.{Held}
 use Rattle.answer.specs.declared.Held.TheVariants as held
 use Rattle.answer.specs.Refusals.{refusal_number}
@@ -52,7 +52,7 @@ pub tile_alike : TileAlike
 tile_alike s a ci row column row2 column2 e g h t =
     let x = held_each s a ci row column e g in
     let y = held_each s a ci row2 column2 e h in
-    let z : ℕ → Held = λ n. held_meaning s ci n e in
+    let z : ℕ → (Result Held Refusal) = λ n. held_meaning s ci n e in
     record {
       kind = x.kind ∙ ap (λ (n : ℕ). held_kind (z n)) t ∙ sym y.kind;
       verdict = x.verdict ∙ ap (λ (n : ℕ). held_verdict (z n)) t ∙ sym y.verdict;
@@ -103,10 +103,10 @@ module _ (s : List ℕ) (a : Rectangle) where
 
 -- the whole grid, each element of it, and the number of elements
 
-pub elements_accepted : (s : List ℕ) → check s ≡ Accepted → (1 ≤ element_count s) × (element_count s ≤ most_elements)
+pub elements_accepted : (s : List ℕ) → check s ≡ Ok tt → (1 ≤ element_count s) × (element_count s ≤ most_elements)
 elements_accepted s a = (sound_range s (records s) (accepted_sound s a)).elements
 
-pub accepts_grid : (s : List ℕ) → check s ≡ Accepted → Accepts s (whole_grid s)
+pub accepts_grid : (s : List ℕ) → check s ≡ Ok tt → Accepts s (whole_grid s)
 accepts_grid s a =
     record { accepted = a; inside = sym (means_inside s 0 0 0 (grid_rows s) (grid_columns s) (omega (arith, (elements_accepted s a).0)) (omega arith) (omega arith)) }
 
@@ -134,7 +134,7 @@ module _ (s t : List ℕ) (g : SameGrid s t) where
   unfolding tile_holding cell_there
   same_holding r c = rw (g.rows, g.columns, same_cell r c)
 
-  pub accepts_same : (a : Rectangle) → a.e ≡ 0 → check t ≡ Accepted → Accepts s a → Accepts t a
+  pub accepts_same : (a : Rectangle) → a.e ≡ 0 → check t ≡ Ok tt → Accepts s a → Accepts t a
   accepts_same a z h k =
       let m = inside_means s a.e a.row a.column a.rows a.columns k.inside in
       record {
@@ -284,8 +284,8 @@ module _ (s : List ℕ) (a : Rectangle) (p : Piece) (g : Accepts s a) (o : AtPie
 -- what is held of a piece's tile answers for the piece, and so for each row of it
 
 pub answered_piece :
-    (s : List ℕ) (ci : ℕ) (a : Rectangle) (p : Piece) (x : Held) (m : List ℕ) →
-    (check s ≡ Accepted → p.tile < tile_count s → a.e < element_count s → Holds s ci p.tile a.e x m) → Accepts s a → AtPiece s a p → Answered s ci a p x m
+    (s : List ℕ) (ci : ℕ) (a : Rectangle) (p : Piece) (x : Result Held Refusal) (m : List ℕ) →
+    (check s ≡ Ok tt → p.tile < tile_count s → a.e < element_count s → Holds s ci p.tile a.e x m) → Accepts s a → AtPiece s a p → Answered s ci a p x m
 answered_piece s ci a p x m h g o =
     let i = o.sides in
     let n = in_grid_lem s a g p.top p.left (omega arith) (omega arith) in
@@ -332,17 +332,17 @@ refusal_few refusal.NotOpen = omega arith
 refusal_few refusal.Incomplete = omega arith
 
 absent_same :
-    (s : List ℕ) (kind fill : ℕ) (m : List ℕ) (tile i k : ℕ) (x : Held) → held_kind x ≡ 33 →
+    (s : List ℕ) (kind fill : ℕ) (m : List ℕ) (tile i k : ℕ) (x : Result Held Refusal) → held_kind x ≡ 33 →
     cell_bits (numbered_cell s kind fill m tile i x) ≡ cell_bits (numbered_cell s kind fill m tile k x)
 unfolding numbered_cell
-absent_same s kind fill m tile i k (held.Stored at) h = absurd (omega arith)
-absent_same s kind fill m tile i k (held.Unpacked at) h = absurd (omega arith)
-absent_same s kind fill m tile i k held.Absent h = refl
-absent_same s kind fill m tile i k held.Alone h = absurd (omega arith)
-absent_same s kind fill m tile i k (held.Refused r) h = absurd (omega (arith, refusal_few r))
+absent_same s kind fill m tile i k (Ok (held.Stored at)) h = absurd (omega arith)
+absent_same s kind fill m tile i k (Ok (held.Unpacked at)) h = absurd (omega arith)
+absent_same s kind fill m tile i k (Ok held.Absent) h = refl
+absent_same s kind fill m tile i k (Ok held.Alone) h = absurd (omega arith)
+absent_same s kind fill m tile i k (Err r) h = absurd (omega (arith, refusal_few r))
 
 pub piece_absent :
-    (s : List ℕ) (ci : ℕ) (a : Rectangle) (p : Piece) (x : Held) (m : List ℕ) → Answered s ci a p x m → AtPiece s a p → held_kind x ≡ 33 →
+    (s : List ℕ) (ci : ℕ) (a : Rectangle) (p : Piece) (x : Result Held Refusal) (m : List ℕ) → Answered s ci a p x m → AtPiece s a p → held_kind x ≡ 33 →
     (r c : ℕ) → Inside p.top p.bottom p.left p.right r c →
     cell_bits (meaning s ci (a.row + r) (a.column + c) a.e) ≡ cell_bits (meaning s ci (a.row + p.top) (a.column + p.left) a.e)
 piece_absent s ci a p x m n o h r c i =
@@ -352,7 +352,7 @@ piece_absent s ci a p x m n o h r c i =
     ∙ ap cell_bits ((n.numbered z p.top (omega arith) (omega arith)).each p.left (omega arith) (omega arith))
 
 pub numbered_row :
-    (s : List ℕ) (ci : ℕ) (a : Rectangle) (p : Piece) (x : Held) (m : List ℕ) (r n kind fill start : ℕ) → Answered s ci a p x m → n ≡ held_kind x → (n ≡ 0 → ⊥) →
+    (s : List ℕ) (ci : ℕ) (a : Rectangle) (p : Piece) (x : Result Held Refusal) (m : List ℕ) (r n kind fill start : ℕ) → Answered s ci a p x m → n ≡ held_kind x → (n ≡ 0 → ⊥) →
     start ≡ p.inside + (r - p.top) * tile_columns s → kind ≡ (element s a.e).kind → fill ≡ (element s a.e).fill → p.top ≤ r → r < p.bottom →
     Numbered s ci a x m kind fill p.tile start r p.left p.right
 numbered_row s ci a p x m r n kind fill start w e f q k t b u = rw (q, k, t) (w.numbered (λ z. f (e ∙ z)) r b u)
@@ -360,16 +360,16 @@ numbered_row s ci a p x m r n kind fill start w e f q k t b u = rw (q, k, t) (w.
 -- in an absent tile each cell is the fill
 pub numbered_absent :
     (s : List ℕ) (kind fill : ℕ) (m : List ℕ) (tile inside : ℕ) →
-    (cell_bits (numbered_cell s kind fill m tile inside held.Absent) ≡ value_bits (value_of kind fill))
-    × (cell_verdict (numbered_cell s kind fill m tile inside held.Absent) ≡ Accepted)
+    (cell_bits (numbered_cell s kind fill m tile inside (Ok held.Absent)) ≡ value_bits (value_of kind fill))
+    × (cell_verdict (numbered_cell s kind fill m tile inside (Ok held.Absent)) ≡ Ok tt)
 unfolding numbered_cell
 numbered_absent s kind fill m tile inside = (refl, refl)
 
 -- a stored Short has the bits of the two bytes at its place
 pub numbered_stored :
     (s : List ℕ) (fill : ℕ) (m : List ℕ) (tile inside at : ℕ) → at + 1 ≤ length s →
-    (cell_bits (numbered_cell s 3 fill m tile inside (held.Stored at)) ≡ number_at 2 s (at + 2 * inside) % 65536)
-    × (cell_verdict (numbered_cell s 3 fill m tile inside (held.Stored at)) ≡ Accepted)
+    (cell_bits (numbered_cell s 3 fill m tile inside (Ok (held.Stored at))) ≡ number_at 2 s (at + 2 * inside) % 65536)
+    × (cell_verdict (numbered_cell s 3 fill m tile inside (Ok (held.Stored at))) ≡ Ok tt)
 unfolding numbered_cell stored_from cell_offset cell_size value_of
 numbered_stored s fill m tile inside at h =
     let b : passes ((at + 1 ≤? length s) ∷ []) ≡ true = sym (yes _ (h, tt)) in

@@ -1,9 +1,9 @@
 -- What a page is and what an element of it is, in numbers: each is a field of the header (G Tables 7 and 8), or follows from fields, or
 -- counts records.
-use Rattle.std.specs.Prelude.{ℕ, ◌+◌, ◌≤◌, ◌<◌, ◌≡◌, List, length, leb}
+use Rattle.answer.specs.declared.Refusal.{Refusal}
+use Rattle.std.specs.Prelude.{ℕ, ◌+◌, ◌≤◌, ◌<◌, ◌≡◌, List, length, leb, Ok, Err, Result}
 use Rattle.wire.specs.Pick.{pick}
 use Rattle.answer.specs.declared.Refusal.TheVariants.{OutsideGrid}
-use Rattle.answer.specs.declared.Verdict.TheVariants.{Accepted}
 use Rattle.answer.specs.Refusals.{refusal_number, unless_refused}
 use Rattle.record.specs.Chain.{header_end, records_of}
 use Rattle.record.specs.Types.{tile_type, metadata_type}
@@ -15,10 +15,7 @@ use Rattle.geometry.specs.Sizes.{tile_bytes}
 use Rattle.page_check.specs.Stages.{check}
 use Rattle.store.specs.declared.description.Shape.{Shape}
 use Rattle.store.specs.declared.description.PageNumbers.{PageNumbers}
-use Rattle.store.specs.declared.description.Described.{Described}
-use Rattle.store.specs.declared.description.Described.TheVariants as described_as
-use Rattle.store.specs.declared.description.Specified.{Specified}
-use Rattle.store.specs.declared.description.Specified.TheVariants as specified_as
+use Rattle.store.specs.declared.description.ElementNumbers.{ElementNumbers}
 
 -- the sides of the grid and of a tile, and the number of elements
 abbrev pub shape_of : List ℕ → Shape
@@ -49,29 +46,37 @@ numbers_of_page s =
     }
 
 -- the check's refusal where there is one, else the page's numbers
-unfoldable pub described : List ℕ → Described
-described s = unless_refused described_as.Refused (check s) (described_as.Page (numbers_of_page s))
+unfoldable pub described : List ℕ → Result PageNumbers Refusal
+described s = unless_refused Err (check s) (Ok (numbers_of_page s))
 
 -- 0, or the refusal's number
-abbrev pub described_number : Described → ℕ
-described_number (described_as.Page x) = 0
-described_number (described_as.Refused r) = refusal_number r
+abbrev pub described_number : Result PageNumbers Refusal → ℕ
+described_number (Ok x) = 0
+described_number (Err r) = refusal_number r
 
 -- what element e is, counted from 0: its type code, the bits of its fill, 16 of a Short, and the places and lengths of its name and, by
 -- Req 10, of its unit; 10 where there is none
-unfoldable pub specified_by : List ℕ → ℕ → Specified
-specified_by s e =
-    pick (leb (e + 1) (element_count s))
-    (specified_as.Element (element s e).kind (element s e).fill (element s e).name (element s e).name_length (unit_place s e) (unit_length s e))
-    (specified_as.Refused OutsideGrid)
+unfoldable pub numbers_of_element : List ℕ → ℕ → ElementNumbers
+numbers_of_element s e =
+    record {
+      kind = (element s e).kind;
+      fill = (element s e).fill;
+      name = (element s e).name;
+      name_length = (element s e).name_length;
+      unit = unit_place s e;
+      unit_length = unit_length s e;
+    }
+
+unfoldable pub specified_by : List ℕ → ℕ → Result ElementNumbers Refusal
+specified_by s e = pick (leb (e + 1) (element_count s)) (Ok (numbers_of_element s e)) (Err OutsideGrid)
 
 -- behind the check
-unfoldable pub specified : List ℕ → ℕ → Specified
-specified s e = unless_refused specified_as.Refused (check s) (specified_by s e)
+unfoldable pub specified : List ℕ → ℕ → Result ElementNumbers Refusal
+specified s e = unless_refused Err (check s) (specified_by s e)
 
-abbrev pub specified_number : Specified → ℕ
-specified_number (specified_as.Element kind fill name n unit u) = 0
-specified_number (specified_as.Refused r) = refusal_number r
+abbrev pub specified_number : Result ElementNumbers Refusal → ℕ
+specified_number (Ok x) = 0
+specified_number (Err r) = refusal_number r
 
 -- what a caller may count on in an accepted file: the front lies in it, checksums are on or off, an element's type code is one of the
 -- four, its name lies in the file and has 1 to 32 bytes, and its unit lies in the file
@@ -84,4 +89,4 @@ pub record InFile (s : List ℕ) : Type 0 where
   pub unit : (e : ℕ) → e < element_count s → unit_place s e + unit_length s e ≤ length s
 
 abbrev pub DescribedInFile : Type 0
-DescribedInFile = (s : List ℕ) → check s ≡ Accepted → InFile s
+DescribedInFile = (s : List ℕ) → check s ≡ Ok tt → InFile s

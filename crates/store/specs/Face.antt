@@ -19,4 +19,4 @@ pub use Rattle.store.specs.Lookup.{read_element_named, ByName, FoundByName}
 pub use Rattle.store.specs.Named.{ids_named, as_named, name_said, IdsDiffer}
 pub use Rattle.store.specs.Description.{shape_of, numbers_of_page, described, described_number, specified_by, specified, specified_number, DescribedInFile}
 pub use Rattle.store.specs.Many.{rectangle_inside, tile_holding, number_holding, Alike, TileAlike}
-pub use Rattle.store.specs.Pieces.{Accepts, of_element, whole_grid, SameGrid, OneTile, band_end, first_piece, next_piece, AtPiece, Walks, Numbered, Answered}
+pub use Rattle.store.specs.Pieces.{Accepts, of_element, whole_grid, SameGrid, OneTile, band_end, first_piece, next_piece, AtPiece, Walks, Numbered, Answered, Ready}

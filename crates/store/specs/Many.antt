@@ -1,9 +1,9 @@
 -- Req 07: many reads after one check, for a product that goes through a rectangle of cells tile by tile. What is held of a tile, and a
 -- cell told from it, are `held_by_directory`, `held_cell` and `Holds` of `cells`.
-use Rattle.std.specs.Prelude.{ℕ, ◌+◌, ◌≡◌, List, [], ◌∷◌, Bool, true}
+use Rattle.std.specs.Prelude.{ℕ, ◌+◌, ◌≡◌, List, [], ◌∷◌, Bool, true, Ok, Result}
+use Rattle.answer.specs.declared.Refusal.{Refusal}
 use Rattle.wire.specs.Pick.{pick}
 use Rattle.wire.specs.Tests.{◌≤?◌, passes}
-use Rattle.answer.specs.declared.Verdict.TheVariants.{Accepted}
 use Rattle.answer.specs.declared.Cell.{Cell}
 use Rattle.answer.specs.Answers.{cell_kind, cell_verdict}
 use Rattle.header.specs.Fields.{grid_rows, grid_columns, element_count}
@@ -31,11 +31,11 @@ number_holding s row column = pick (cell_there s row column) (cell_inside s row 
 
 -- two cells of an element in one tile of an accepted file are stored, unpacked, fill or refused alike: one that is absent, compressed or
 -- malformed shows that all are
-pub record Alike (x y : Cell) : Type 0 where
+pub record Alike (x y : Result Cell Refusal) : Type 0 where
   pub kind : cell_kind x ≡ cell_kind y
   pub verdict : cell_verdict x ≡ cell_verdict y
 
 abbrev pub TileAlike : Type 0
 TileAlike =
-    (s : List ℕ) → check s ≡ Accepted → (ci row column row2 column2 e : ℕ) → in_grid s row column e ≡ true → in_grid s row2 column2 e ≡ true →
+    (s : List ℕ) → check s ≡ Ok tt → (ci row column row2 column2 e : ℕ) → in_grid s row column e ≡ true → in_grid s row2 column2 e ≡ true →
     cell_tile s row column ≡ cell_tile s row2 column2 → Alike (meaning s ci row column e) (meaning s ci row2 column2 e)

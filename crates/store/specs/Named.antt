@@ -1,10 +1,9 @@
 -- Req 08: the metadata records under a name, in file order (G Table 14). The name asked for is any bytes, compared byte for byte (G 3.6.1,
 -- rule 5: with case).
-use Rattle.std.specs.Prelude.{ℕ, ◌<◌, ◌≡◌, List, [], ◌∷◌, map, Bool, length, get_or}
+use Rattle.std.specs.Prelude.{ℕ, ◌<◌, ◌≡◌, List, [], ◌∷◌, map, Bool, length, get_or, Ok}
 use Rattle.wire.specs.Tests.{◌≡?◌, is, passes}
 use Rattle.wire.specs.Lists.{select}
 use Rattle.wire.specs.Bytes.{same_bytes}
-use Rattle.answer.specs.declared.Verdict.TheVariants.{Accepted}
 use Rattle.record.specs.Types.{metadata_type}
 use Rattle.record.specs.Record.{type_at}
 use Rattle.record.specs.Chain.{records}
@@ -36,5 +35,5 @@ name_said s name = as_named (ids_named s name)
 -- in an accepted file no two records under one name have one ID (stage 9: the pair of name and ID is unique)
 abbrev pub IdsDiffer : Type 0
 IdsDiffer =
-    (s name : List ℕ) → check s ≡ Accepted → (i k : ℕ) → i < k → k < length (ids_named s name) →
+    (s name : List ℕ) → check s ≡ Ok tt → (i k : ℕ) → i < k → k < length (ids_named s name) →
     get_or (ids_named s name) i 0 ≡ get_or (ids_named s name) k 0 → ⊥

@@ -1,11 +1,11 @@
 -- How a product goes through a rectangle of cells. A piece is the part of the rectangle that lies in one tile; rows and columns count from
 -- the rectangle's first. The pieces come a row of tiles after the other, each from left to right (`Walks` of `blocks`).
-use Rattle.std.specs.Prelude.{ℕ, ◌+◌, ◌-◌, ◌*◌, ◌≤◌, ◌<◌, ◌≡◌, List, [], ◌∷◌, true}
+use Rattle.std.specs.Prelude.{ℕ, ◌+◌, ◌-◌, ◌*◌, ◌≤◌, ◌<◌, ◌≡◌, List, [], ◌∷◌, true, Ok, Result}
+use Rattle.answer.specs.declared.Refusal.{Refusal}
 use Rattle.wire.specs.Pick.{pick}
 use Rattle.wire.specs.Tests.{◌≤?◌, passes}
 use Rattle.blocks.specs.Blocks.{block_end, OneBlock}
 use Rattle.blocks.specs.Tables.{Inside}
-use Rattle.answer.specs.declared.Verdict.TheVariants.{Accepted}
 use Rattle.answer.specs.declared.Held.{Held}
 use Rattle.answer.specs.Answers.{held_kind}
 use Rattle.header.specs.Fields.{grid_rows, grid_columns, tile_rows, tile_columns}
@@ -17,11 +17,12 @@ use Rattle.cells.specs.Meaning.{meaning}
 use Rattle.cells.specs.Many.{held_cell, numbered_cell}
 use Rattle.store.specs.declared.many.Rectangle.{Rectangle}
 use Rattle.store.specs.declared.pieces.Piece.{Piece}
+use Rattle.store.specs.declared.pieces.HeldPiece.{HeldPiece}
 use Rattle.store.specs.Many.{rectangle_inside, tile_holding, number_holding}
 
 -- the check has accepted the file, and the rectangle lies in its grid
 pub record Accepts (s : List ℕ) (a : Rectangle) : Type 0 where
-  pub accepted : check s ≡ Accepted
+  pub accepted : check s ≡ Ok tt
   pub inside : rectangle_inside s a.e a.row a.column a.rows a.columns ≡ true
 
 -- the same rectangle of another element
@@ -91,16 +92,25 @@ pub record Walks (s : List ℕ) (a : Rectangle) (from : ℕ) (p : Piece) : Type 
   pub piece : p.top < a.rows → AtPiece s a p
 
 -- what is held gives the meaning of each cell of a row, by the number inside the tile that rises from `start` on
-pub record Numbered (s : List ℕ) (ci : ℕ) (a : Rectangle) (x : Held) (m : List ℕ) (kind fill tile start r left right : ℕ) : Type 0 where
+pub record Numbered (s : List ℕ) (ci : ℕ) (a : Rectangle) (x : Result Held Refusal) (m : List ℕ) (kind fill tile start r left right : ℕ) : Type 0 where
   pub small : start + (right - left) ≤ most_grid_side * most_grid_side
   pub each :
       (c : ℕ) → left ≤ c → c < right → numbered_cell s kind fill m tile (start + (c - left)) x ≡ meaning s ci (a.row + r) (a.column + c) a.e
 
 -- what is held, with the memory m, gives the meaning of each cell of a piece; and where it has a kind, each row is numbered
-pub record Answered (s : List ℕ) (ci : ℕ) (a : Rectangle) (p : Piece) (x : Held) (m : List ℕ) : Type 0 where
+pub record Answered (s : List ℕ) (ci : ℕ) (a : Rectangle) (p : Piece) (x : Result Held Refusal) (m : List ℕ) : Type 0 where
   pub each :
       (r c : ℕ) → Inside p.top p.bottom p.left p.right r c →
       held_cell s ci x m (a.row + r) (a.column + c) a.e ≡ meaning s ci (a.row + r) (a.column + c) a.e
   pub numbered :
       (held_kind x ≡ 0 → ⊥) → (r : ℕ) → p.top ≤ r → r < p.bottom →
       Numbered s ci a x m (element s a.e).kind (element s a.e).fill p.tile (p.inside + (r - p.top) * tile_columns s) r p.left p.right
+
+-- a piece that can be told: it is one of its rectangle, and what is held gives its cells
+pub record Ready (x : HeldPiece) : Type 0 where
+  pub accepts : Accepts x.file.now x.a
+  pub at : AtPiece x.file.now x.a x.p
+  pub answered : Answered x.file.now x.compressor x.a x.p x.held x.memory.now
+  pub kind : x.kind ≡ (element x.file.now x.a.e).kind
+  pub fill : x.fill ≡ (element x.file.now x.a.e).fill
+  pub across : x.across ≡ tile_columns x.file.now

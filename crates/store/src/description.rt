@@ -1,13 +1,12 @@
 // What a page is and what an element of it is, in numbers. `shape_of`, `kind_of` and `fill_pattern` make no check: they say what the fields
 // of any bytes hold, and serve a product that has made the check.
-ghost use Rattle.std.specs.Prelude.{◌≡◌};
-ghost use Rattle.answer.specs.declared.Verdict.TheVariants.{Accepted};
+ghost use Rattle.std.specs.Prelude.{◌≡◌, Ok};
 ghost use Rattle.header.specs.Fields.{grid_rows, grid_columns, tile_rows, tile_columns, element_count};
 ghost use Rattle.header.specs.Element.{element};
 ghost use Rattle.page_check.specs.Stages.{check};
 ghost use Rattle.store.specs.Description.{numbers_of_page, described, described_number, specified_by, specified, specified_number};
 
-use answer::{Refusal, Verdict};
+use answer::Refusal;
 use geometry::{sizes, tiles};
 use header::{entries, fields};
 use record::chain;
@@ -37,26 +36,16 @@ pub struct PageNumbers {
     pub checksums: u32,
 }
 
-// What is said of a page.
+// An element's numbers: its type code, the bit pattern of its fill value, and the places and the lengths of its name and of its unit of
+// measure.
 #[derive(Clone, Copy)]
-pub enum Described {
-    Page(PageNumbers),
-    Refused(Refusal),
-}
-
-// What is said of an element: its type code, the bit pattern of its fill value, and the places and the lengths of its name and of its
-// unit of measure.
-#[derive(Clone, Copy)]
-pub enum Specified {
-    Element {
-        kind: u32,
-        fill: u32,
-        name: usize,
-        name_length: usize,
-        unit: usize,
-        unit_length: usize,
-    },
-    Refused(Refusal),
+pub struct ElementNumbers {
+    pub kind: u32,
+    pub fill: u32,
+    pub name: usize,
+    pub name_length: usize,
+    pub unit: usize,
+    pub unit_length: usize,
 }
 
 // What the header's fields say of the grid.
@@ -94,7 +83,7 @@ pub fn fill_pattern(file: &[u8], e: u64) -> u32
 
 // The numbers of a page that the check accepts.
 fn numbers_of_page(file: &[u8]) -> PageNumbers
-    requires { check file.now ≡ Accepted }
+    requires { check file.now ≡ Ok tt }
     ensures { result ≡ numbers_of_page file.now }
 {
     let shape = shape_of(file);
@@ -120,59 +109,55 @@ fn numbers_of_page(file: &[u8]) -> PageNumbers
 }
 
 // What a page is. Its time is one check, and two passes over the records.
-pub fn describe(file: &[u8]) -> Described
+pub fn describe(file: &[u8]) -> Result<PageNumbers, Refusal>
     ensures { result ≡ described file.now }
 {
-    match page_check::check(file) {
-        Verdict::Refused(r) => Described::Refused(r),
-        Verdict::Accepted => Described::Page(numbers_of_page(file)),
-    }
+    page_check::check(file)?;
+    Ok(numbers_of_page(file))
 }
 
 // 0 where a page is described, else the refusal's number.
-pub fn described_number(x: Described) -> u32
+pub fn described_number(x: Result<PageNumbers, Refusal>) -> u32
     ensures { result ≡ described_number x }
 {
     match x {
-        Described::Page(_) => 0,
-        Described::Refused(r) => answer::refusal_number(r),
+        Ok(_) => 0,
+        Err(r) => answer::refusal_number(r),
     }
 }
 
 // What element e is, on any bytes; 10 where there is none.
-fn specify_by(file: &[u8], e: u64) -> Specified
+fn specify_by(file: &[u8], e: u64) -> Result<ElementNumbers, Refusal>
     ensures { result ≡ specified_by file.now e }
 {
     if fields::element_count(file) as u64 <= e {
-        return Specified::Refused(Refusal::OutsideGrid);
+        return Err(Refusal::OutsideGrid);
     }
     let x = entries::element(file, e as usize);
-    Specified::Element {
+    Ok(ElementNumbers {
         kind: x.kind,
         fill: x.fill,
         name: x.name,
         name_length: x.name_length,
         unit: entries::unit_place(file, e as usize),
         unit_length: entries::unit_length(file, e as usize),
-    }
+    })
 }
 
 // What an element of a page is.
-pub fn specify(file: &[u8], e: u64) -> Specified
+pub fn specify(file: &[u8], e: u64) -> Result<ElementNumbers, Refusal>
     ensures { result ≡ specified file.now e }
 {
-    match page_check::check(file) {
-        Verdict::Refused(r) => Specified::Refused(r),
-        Verdict::Accepted => specify_by(file, e),
-    }
+    page_check::check(file)?;
+    specify_by(file, e)
 }
 
 // 0 where an element is specified, else the refusal's number.
-pub fn specified_number(x: Specified) -> u32
+pub fn specified_number(x: Result<ElementNumbers, Refusal>) -> u32
     ensures { result ≡ specified_number x }
 {
     match x {
-        Specified::Element { .. } => 0,
-        Specified::Refused(r) => answer::refusal_number(r),
+        Ok(_) => 0,
+        Err(r) => answer::refusal_number(r),
     }
 }

@@ -2,7 +2,7 @@
 ghost use Rattle.std.specs.Prelude.{◌≡◌};
 ghost use Rattle.store.specs.Lookup.{has_name, element_named, lookup_of};
 
-use answer::Lookup;
+use answer::Refusal;
 use header::{entries, fields, names};
 
 // Whether element e has the name.
@@ -15,16 +15,14 @@ fn has_name(file: &[u8], e: usize, name: &[u8]) -> bool
 }
 
 // The first element that has it.
-pub(crate) fn first_named(file: &[u8], name: &[u8]) -> Lookup
+pub(crate) fn first_named(file: &[u8], name: &[u8]) -> Result<Option<usize>, Refusal>
     ensures { result ≡ lookup_of (element_named file.now name.now) }
 {
     let n = fields::element_count(file) as usize;
-    let mut e = 0;
-    while e < n {
+    for e in 0..n {
         if has_name(file, e, name) {
-            return Lookup::Number(e);
+            return Ok(Some(e));
         }
-        e += 1;
     }
-    Lookup::Absent
+    Ok(None)
 }

@@ -29,7 +29,7 @@ ghost use Rattle.cells.specs.Reads.{read_meaning, read_content};
 ghost use Rattle.store.specs.Opened.{held_end, held_directory, plain_read};
 ghost use Rattle.store.specs.Lookup.{read_element_named};
 
-use answer::{Cell, Lookup, Verdict};
+use answer::{Cell, Refusal};
 
 #[derive(Clone, Copy)]
 pub struct Page<'a> {
@@ -55,7 +55,7 @@ pub fn open<'a>(file: &'a [u8], compressor: u32) -> Page<'a>
 }
 
 // A cell by the page's compressor index, by the walk or through the directory.
-pub fn read<'a>(p: Page<'a>, row: u64, column: u64, e: u64, walk: bool) -> Cell
+pub fn read<'a>(p: Page<'a>, row: u64, column: u64, e: u64, walk: bool) -> Result<Cell, Refusal>
     ensures route { result ≡ plain_read p.entry.file.now p.entry.compressor row column e walk }
     ensures meaning { result ≡ read_meaning p.entry.file.now p.entry.compressor row column e }
 {
@@ -81,7 +81,14 @@ pub fn content_part<'a>(p: Page<'a>, tile: u64, e: u64) -> &'a [u8]
 }
 
 // A cell of bytes and an index that no page holds, so that no proof about a caller goes through one.
-pub fn cell_of(file: &[u8], compressor: u32, row: u64, column: u64, e: u64, walk: bool) -> Cell
+pub fn cell_of(
+    file: &[u8],
+    compressor: u32,
+    row: u64,
+    column: u64,
+    e: u64,
+    walk: bool,
+) -> Result<Cell, Refusal>
     ensures route { result ≡ plain_read file.now compressor row column e walk }
     ensures meaning { result ≡ read_meaning file.now compressor row column e }
 {
@@ -101,7 +108,7 @@ pub fn content_of(file: &[u8], tile: u64, e: u64) -> &[u8]
 }
 
 // The check, for a product that asks many things behind one.
-pub fn check(file: &[u8]) -> Verdict
+pub fn check(file: &[u8]) -> Result<(), Refusal>
     ensures { result ≡ check file.now }
 {
     page_check::check(file)
@@ -109,11 +116,9 @@ pub fn check(file: &[u8]) -> Verdict
 
 // The number of the element with a name, which is any bytes. Its time is one check, and a comparison with the names of at most 16
 // elements.
-pub fn find_element(file: &[u8], name: &[u8]) -> Lookup
+pub fn find_element(file: &[u8], name: &[u8]) -> Result<Option<usize>, Refusal>
     ensures { result ≡ read_element_named file.now name.now }
 {
-    match page_check::check(file) {
-        Verdict::Refused(r) => Lookup::Refused(r),
-        Verdict::Accepted => elements::first_named(file, name),
-    }
+    page_check::check(file)?;
+    elements::first_named(file, name)
 }

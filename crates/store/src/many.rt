@@ -1,8 +1,7 @@
 // For products that make one check and then many reads: nothing is checked here, so none of these is a read. Each promises its own
 // definition on any bytes; where the check accepts them, what is held gives the meaning of each cell of the tile.
-ghost use Rattle.std.specs.Prelude.{◌≡◌, false, ◌+◌, ◌<◌, length, leb};
+ghost use Rattle.std.specs.Prelude.{◌≡◌, false, ◌+◌, ◌<◌, length, leb, Ok};
 ghost use Rattle.wire.specs.Bytes.{put};
-ghost use Rattle.answer.specs.declared.Verdict.TheVariants.{Accepted};
 ghost use Rattle.header.specs.Fields.{element_count};
 ghost use Rattle.geometry.specs.Tiles.{tile_count};
 ghost use Rattle.page_check.specs.Stages.{check};
@@ -10,7 +9,7 @@ ghost use Rattle.cells.specs.TileCells.{unpacked_bits, MemorySaid};
 ghost use Rattle.cells.specs.Many.{held_by_directory, held_cell, numbered_cell, Holds};
 ghost use Rattle.store.specs.Many.{rectangle_inside};
 
-use answer::{Cell, Held};
+use answer::{Cell, Held, Refusal};
 use bodies::tile_directory;
 use cells::lookups;
 use header::fields;
@@ -28,10 +27,16 @@ pub struct Rectangle {
 
 // What is held of an element in a tile, by the file's own directory. The memory takes the cells of a compressed content, row by row,
 // where it has room for all of them, and what stands behind them stays; of any other it is as it was.
-pub fn hold_accepted(file: &[u8], compressor: u32, tile: u64, e: u64, memory: &mut [u32]) -> Held
+pub fn hold_accepted(
+    file: &[u8],
+    compressor: u32,
+    tile: u64,
+    e: u64,
+    memory: &mut [u32],
+) -> Result<Held, Refusal>
     ensures is { result ≡ held_by_directory file.now compressor tile e (length memory.old) }
     ensures memory { memory.new ≡ put memory.old 0 (unpacked_bits file.now e result) }
-    ensures holds { check file.now ≡ Accepted → tile < tile_count file.now → e < element_count file.now → Holds file.now compressor tile e result memory.new }
+    ensures holds { check file.now ≡ Ok tt → tile < tile_count file.now → e < element_count file.now → Holds file.now compressor tile e result memory.new }
 {
     let route = Route::Directory(tile_directory::tile_directory_at(file));
     let room = memory.len();
@@ -39,10 +44,16 @@ pub fn hold_accepted(file: &[u8], compressor: u32, tile: u64, e: u64, memory: &m
 }
 
 // The same in one pass over a content, with memory that is lent: where a content is malformed, what the memory then holds is free.
-pub fn hold_lent(file: &[u8], compressor: u32, tile: u64, e: u64, memory: &mut [u32]) -> Held
+pub fn hold_lent(
+    file: &[u8],
+    compressor: u32,
+    tile: u64,
+    e: u64,
+    memory: &mut [u32],
+) -> Result<Held, Refusal>
     ensures is { result ≡ held_by_directory file.now compressor tile e (length memory.old) }
     ensures memory { MemorySaid false result → memory.new ≡ put memory.old 0 (unpacked_bits file.now e result) }
-    ensures holds { check file.now ≡ Accepted → tile < tile_count file.now → e < element_count file.now → Holds file.now compressor tile e result memory.new }
+    ensures holds { check file.now ≡ Ok tt → tile < tile_count file.now → e < element_count file.now → Holds file.now compressor tile e result memory.new }
 {
     let route = Route::Directory(tile_directory::tile_directory_at(file));
     lookups::look_up_lent(file, compressor, route, tile, e, memory)
@@ -52,12 +63,12 @@ pub fn hold_lent(file: &[u8], compressor: u32, tile: u64, e: u64, memory: &mut [
 pub fn held_cell(
     file: &[u8],
     compressor: u32,
-    held: Held,
+    held: Result<Held, Refusal>,
     memory: &[u32],
     row: u64,
     column: u64,
     e: u64,
-) -> Cell
+) -> Result<Cell, Refusal>
     ensures { result ≡ held_cell file.now compressor held memory.now row column e }
 {
     cells::many::cell_held(file, compressor, held, memory, row, column, e)
@@ -69,11 +80,11 @@ pub fn numbered_cell(
     file: &[u8],
     kind: u32,
     fill: u32,
-    held: Held,
+    held: Result<Held, Refusal>,
     memory: &[u32],
     tile: u64,
     inside: u32,
-) -> Cell
+) -> Result<Cell, Refusal>
     ensures { result ≡ numbered_cell file.now kind fill memory.now tile inside held }
 {
     cells::many::numbered_cell(file, kind, fill, held, memory, tile, inside)

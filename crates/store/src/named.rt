@@ -5,7 +5,7 @@ ghost use Rattle.record.specs.Chain.{first_record};
 ghost use Rattle.store.specs.Named.{is_named, name_said};
 
 use bodies::metadata_record;
-use record::{Cursor, Found, Step, chain};
+use record::{Cursor, Step, chain};
 
 // What is said of a name: no metadata record has it, one has it, by its record ID, or more than one.
 #[derive(Clone, Copy)]
@@ -27,7 +27,7 @@ fn is_named(s: &[u8], kind: u32, x: usize, name: &[u8]) -> bool
 }
 
 // The first such record from a position on.
-fn first_record_named(s: &[u8], at: usize, name: &[u8]) -> Found
+fn first_record_named(s: &[u8], at: usize, name: &[u8]) -> Option<usize>
     ensures { result ≡ first_record s.now at (is_named s.now name.now) }
 {
     let mut c = Cursor { at };
@@ -39,10 +39,10 @@ fn first_record_named(s: &[u8], at: usize, name: &[u8]) -> Found
             next,
         } = c.step(s)
         else {
-            return Found::Nothing;
+            return None;
         };
         if is_named(s, kind, start, name) {
-            return Found::At(start);
+            return Some(start);
         }
         c = next;
     }
@@ -53,12 +53,12 @@ pub fn name_said(file: &[u8], name: &[u8]) -> NamedIds
     ensures { result ≡ name_said file.now name.now }
 {
     match first_record_named(file, chain::header_end(file), name) {
-        Found::Nothing => NamedIds::Absent,
-        Found::At(x) => {
+        None => NamedIds::Absent,
+        Some(x) => {
             let n = wire::u32_at(file, x) as usize;
             match first_record_named(file, x + n, name) {
-                Found::Nothing => NamedIds::One(metadata_record::record_id(file, x)),
-                Found::At(_) => NamedIds::Several,
+                None => NamedIds::One(metadata_record::record_id(file, x)),
+                Some(_) => NamedIds::Several,
             }
         }
     }

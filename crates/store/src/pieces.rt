@@ -6,6 +6,7 @@ ghost use Rattle.store.specs.Pieces.{band_end, piece_in, first_piece, next_piece
 
 use crate::description;
 use crate::many::Rectangle;
+use answer::{Held, Refusal};
 use geometry::tiles;
 use header::fields;
 
@@ -19,6 +20,21 @@ pub struct Piece {
     pub bottom: u64,
     pub left: u64,
     pub right: u64,
+}
+
+// A piece of a rectangle of a file, with what the memory holds of its tile: what its cells are told from. The kind and the fill are those of
+// the rectangle's element, and a tile has `across` columns.
+#[derive(Clone, Copy)]
+pub struct HeldPiece<'a> {
+    pub file: &'a [u8],
+    pub compressor: u32,
+    pub a: Rectangle,
+    pub p: Piece,
+    pub held: Result<Held, Refusal>,
+    pub memory: &'a [u32],
+    pub kind: u32,
+    pub fill: u32,
+    pub across: u64,
 }
 
 // Whether a row or column, counted from one on, comes before a side of the grid ends, however large the sum.

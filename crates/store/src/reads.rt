@@ -6,7 +6,7 @@ ghost use Rattle.answer.specs.Answers.{content_place, content_length};
 ghost use Rattle.cells.specs.Reads.{read_meaning, read_content};
 ghost use Rattle.store.specs.Opened.{held_end, held_directory, trusted, walk_from, through_directory, page_content, page_read, plain_read};
 
-use answer::{Cell, Content, Verdict};
+use answer::{Cell, Extent, Refusal};
 use cells::lookups;
 use header::fields;
 use record::{chain, frame};
@@ -24,11 +24,11 @@ pub fn held_by(file: &[u8]) -> Positions
     ensures { (result.header_end ≡ held_end file.now) × (result.directory ≡ held_directory file.now) }
 {
     match page_check::check(file) {
-        Verdict::Refused(_) => Positions {
+        Err(_) => Positions {
             header_end: 0,
             directory: 0,
         },
-        Verdict::Accepted => Positions {
+        Ok(()) => Positions {
             header_end: chain::header_end(file),
             directory: fields::tile_directory_reference(file),
         },
@@ -79,38 +79,24 @@ pub fn read_from(
     column: u64,
     e: u64,
     walk: bool,
-) -> Cell
+) -> Result<Cell, Refusal>
     ensures held { result ≡ page_read file.now compressor end directory row column e walk }
     ensures plain { result ≡ plain_read file.now compressor row column e walk }
     ensures meaning { result ≡ read_meaning file.now compressor row column e }
 {
-    match page_check::check(file) {
-        Verdict::Refused(r) => Cell::Refused(r),
-        Verdict::Accepted => {
-            lookups::look_up(
-                file,
-                compressor,
-                route_of(file, end, directory, walk),
-                row,
-                column,
-                e,
-            )
-        }
-    }
+    page_check::check(file)?;
+    let route = route_of(file, end, directory, walk);
+    lookups::look_up(file, compressor, route, row, column, e)
 }
 
 // Where an element's content stands, through a held tile directory: present, absent, or refused and why. As a part of the file an absent
 // one and a refused one are both empty.
-pub fn content_at(file: &[u8], directory: u64, tile: u64, e: u64) -> Content
+pub fn content_at(file: &[u8], directory: u64, tile: u64, e: u64) -> Result<Option<Extent>, Refusal>
     ensures held { result ≡ page_content file.now directory tile e }
     ensures plain { result ≡ read_content file.now tile e }
 {
-    match page_check::check(file) {
-        Verdict::Refused(r) => Content::Refused(r),
-        Verdict::Accepted => {
-            lookups::look_up_content(file, through_directory(file, directory), tile, e)
-        }
-    }
+    page_check::check(file)?;
+    lookups::look_up_content(file, through_directory(file, directory), tile, e)
 }
 
 // The same as that part of the file itself; the empty part where it is refused or absent.

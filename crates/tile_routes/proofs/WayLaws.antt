@@ -1,4 +1,5 @@
 -- The ways to a tile's record: the walk and the directory find what is meant.
+use Rattle.std.specs.Prelude.{None, Some}
 use Prim.Native.Nat.{ℕ, ◌-◌, ◌<◌}
 use mathlib.Core.Path.{◌≡◌, refl, sym, ap, ◌∙◌}
 use mathlib.Core.List.Memᴰ
@@ -12,7 +13,6 @@ use Rattle.wire.specs.Pick.{pick}
 use Rattle.wire.specs.Lists.{select}
 use Rattle.wire.proofs.TestLaws.{means, yes}
 use Rattle.wire.proofs.ListLaws.{select_member, member_select}
-use Rattle.record.specs.declared.Found.TheVariants.{At, Nothing}
 use Rattle.record.specs.Chain.{starts, find, first_record, header_end, records, records_of}
 use Rattle.record.proofs.ChainLaws.{ok_means, starts_ok}
 use Rattle.record.proofs.FindLaws.{found_not, of_type, type_of}
@@ -29,7 +29,7 @@ unfolding find select
 first_selected p [] = refl
 first_selected p (x ∷ xs) = go (p x) (first_selected p xs)
   where
-    go : (b : Bool) → find p xs ≡ first_of (select p xs) → pick b (At x) (find p xs) ≡ first_of (pick b (x ∷ select p xs) (select p xs))
+    go : (b : Bool) → find p xs ≡ first_of (select p xs) → pick b (Some x) (find p xs) ≡ first_of (pick b (x ∷ select p xs) (select p xs))
     go true r = refl
     go false r = r
 
@@ -52,14 +52,14 @@ carries_tile s i x m =
     let o = ok_means s x (starts_ok s x (header_end s) h.0) in
     record { among = type_of s 2 h.0 c.0; index = c.1.0; inside = omega (arith, o.inside, o.long) }
 
-pub meant_is : (s : List ℕ) (i x : ℕ) → meant s i ≡ At x → IsMeant s i x
+pub meant_is : (s : List ℕ) (i x : ℕ) → meant s i ≡ Some x → IsMeant s i x
 unfolding meant
 meant_is s i x e = go (records_with s i) refl
   where
     go : (l : List ℕ) → records_with s i ≡ l → IsMeant s i x
     go [] f = found_not (sym e) (rw f)
     go (y ∷ ys) f =
-        let g : At y ≡ At x = rw f at e in
+        let g : Some y ≡ Some x = rw f at e in
         let z : y ≡ x = cc in
         carries_tile s i x (rw f (Memᴰ.head (sym z)))
 
@@ -70,35 +70,35 @@ unfolding records_with carries
 with_index s i m e = let h = of_type s 2 m in member_select _ (records s) h.0 (sym (yes _ (h.1, (e, tt))))
 
 module _ (s : List ℕ) (o : OneToOne s) (i : ℕ) (h : i < tile_count s) where
-  none_with : tile_reference s i ≡ 0 → meant s i ≡ Nothing
+  none_with : tile_reference s i ≡ 0 → meant s i ≡ None
   unfolding meant
   none_with z = go (records_with s i) refl
     where
-      go : (l : List ℕ) → records_with s i ≡ l → first_of (records_with s i) ≡ Nothing
+      go : (l : List ℕ) → records_with s i ≡ l → first_of (records_with s i) ≡ None
       go [] e = rw e
       go (x ∷ xs) e =
           let t = carries_tile s i x (rw e (Memᴰ.head refl)) in
           absurd (omega (arith, o.listed t.among, ap (tile_reference s) t.index))
 
-  first_with : (tile_reference s i ≡ 0 → ⊥) → meant s i ≡ At (tile_reference s i - 8)
+  first_with : (tile_reference s i ≡ 0 → ⊥) → meant s i ≡ Some (tile_reference s i - 8)
   unfolding meant
   first_with z = go (records_with s i) refl
     where
       r : TileRecord s i
       r = o.given i h z
 
-      go : (l : List ℕ) → records_with s i ≡ l → first_of (records_with s i) ≡ At (tile_reference s i - 8)
+      go : (l : List ℕ) → records_with s i ≡ l → first_of (records_with s i) ≡ Some (tile_reference s i - 8)
       go [] e = absurd (Memᴰ.not-nil (rw e at (with_index s i r.among r.index)))
       go (x ∷ xs) e =
           let t = carries_tile s i x (rw e (Memᴰ.head refl)) in
           let q : x ≡ r.start = o.one_record t.among r.among (t.index ∙ sym r.index) in
           let w : x ≡ tile_reference s i - 8 = omega (arith, r.content) in
-          rw e (ap At w)
+          rw e (ap Some w)
 
   pub directory_finds : referred_to s (tile_directory_at s) i ≡ meant s i
   unfolding referred_to
   directory_finds = go (eqb (tile_reference s i) 0) refl
     where
-      go : (b : Bool) → eqb (tile_reference s i) 0 ≡ b → pick b Nothing (At (tile_reference s i - 8)) ≡ meant s i
+      go : (b : Bool) → eqb (tile_reference s i) 0 ≡ b → pick b None (Some (tile_reference s i - 8)) ≡ meant s i
       go true f = sym (none_with (eqb-true _ _ f))
       go false f = sym (first_with (eqb-false _ _ f))

@@ -7,12 +7,14 @@ use mathlib.Core.Logic.{by_cases}
 use native.Mathlib.Decide.{dec_le}
 use native.Mathlib.Omega.{arith}
 use native.Mathlib.Numerals.{add-one}
+use lib.Dec.{leb}
+use borrow.Author.Tests.{leb-true, le-leb}
 use lib.ListN.{length, get_or, set, length-append, get_or-append}
 use lib.Seq.{get_or-append-add}
 use Rattle.wire.specs.Pick.{pick}
 use Rattle.wire.specs.Tests.{sum_below}
 use Rattle.wire.specs.Bytes.{put}
-use Rattle.wire.proofs.TestLaws.{means, yes, no, sum_more, sum_within, sum_each}
+use Rattle.wire.proofs.TestLaws.{means, yes, iff, sum_more, sum_within, sum_each}
 use Rattle.wire.proofs.PutLaws.{put_one, put_put, put_nil, put_not, put_each_lem, length_put}
 use Rattle.header.specs.Element.{entries_read}
 use Rattle.geometry.specs.Sizes.{stored_size, least_length, tile_length, cap, element_bytes, tile_bytes, plain_tile_length}
@@ -27,13 +29,9 @@ pub small_means : (s : List ℕ) → tile_small s ≡ true → tile_bytes s ≤ 
 unfolding tile_small
 small_means s e = (means _ e).0
 
-pub small_yes : (s : List ℕ) (x : ℕ) → x ≡ min (tile_bytes s) cap → x ≤ 1048576 → true ≡ tile_small s
+pub small_is : (s : List ℕ) (x : ℕ) → x ≡ min (tile_bytes s) cap → leb x 1048576 ≡ tile_small s
 unfolding tile_small
-small_yes s x e h = yes _ (omega arith, tt)
-
-pub small_no : (s : List ℕ) (x : ℕ) → x ≡ min (tile_bytes s) cap → 1048576 < x → false ≡ tile_small s
-unfolding tile_small
-small_no s x e h = no _ (λ p. omega (arith, p.0))
+small_is s x e = iff _ _ (λ p. sym (yes _ (omega (arith, leb-true x 1048576 p), tt))) (λ p. le-leb x 1048576 (omega (arith, (means _ p).0)))
 
 module _ (s : List ℕ) (w : tile_small s ≡ true) where
   -- U of an element, as it is and as it is read

@@ -8,19 +8,15 @@ ghost use Rattle.std.specs.Prelude.{◌≡◌, true};
 ghost use Rattle.geometry.specs.Sizes.{plain_tile_length};
 ghost use Rattle.tile_sizes.specs.TileSizes.{tile_small, length_of_tile, with_sizes};
 
+use check_header::ceilings::MOST_TILE_BYTES;
 use geometry::sizes;
 use header::entries;
-
-const MOST_TILE_BYTES: u64 = 1048576;
 
 // Whether one tile keeps the ceiling.
 fn is_small(s: &[u8]) -> bool
     ensures { result ≡ tile_small s.now }
 {
-    if MOST_TILE_BYTES < sizes::tile_bytes(s) {
-        return false;
-    }
-    true
+    sizes::tile_bytes(s) <= MOST_TILE_BYTES
 }
 
 // The length of a tile record whose elements are all uncompressed.
@@ -28,13 +24,9 @@ fn plain_length(s: &[u8]) -> usize
     requires { tile_small s.now ≡ true }
     ensures { result ≡ plain_tile_length s.now }
 {
-    let n = entries::entries_read(s);
-    let mut sum: u64 = 0;
-    let mut e = 0;
-    while e < n {
-        let u = sizes::element_bytes(s, e);
-        sum += sizes::stored_size(u as u32);
-        e += 1;
+    let mut sum = 0;
+    for e in 0..entries::entries_read(s) {
+        sum += sizes::stored_size(sizes::element_bytes(s, e) as u32);
     }
     sizes::least_length((12 + sum) as u32) as usize
 }
@@ -43,10 +35,7 @@ fn plain_length(s: &[u8]) -> usize
 pub fn plain_tile_length(s: &[u8]) -> usize
     ensures { result ≡ length_of_tile s.now }
 {
-    if is_small(s) {
-        return plain_length(s);
-    }
-    0
+    if is_small(s) { plain_length(s) } else { 0 }
 }
 
 // The uncompressed bytes of each element, in the first places of a list of numbers, where it has as many.
@@ -58,10 +47,8 @@ pub fn element_sizes(s: &[u8], sizes: &mut [u32])
         return;
     }
     if is_small(s) {
-        let mut e = 0;
-        while e < n {
+        for e in 0..n {
             sizes[e] = sizes::element_bytes(s, e) as u32;
-            e += 1;
         }
     }
 }

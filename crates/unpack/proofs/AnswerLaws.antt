@@ -20,14 +20,12 @@ use Rattle.huffman.specs.Nodes.{Nodes}
 use Rattle.predict.specs.Predict.{no_row, tile_cells}
 use Rattle.predict.proofs.InverseLaws.{rows_length}
 use Rattle.predict.proofs.SmallLaws.{cell_small}
+use Rattle.std.specs.Prelude.{Option, Some, None}
+use Rattle.std.specs.Option.{is_some}
 use Rattle.unpack.specs.Unpack.{predictor_of, seed_of, count_of, head_right, tree_in, tree_right, symbols, numbers_in, numbers_of, count_right, numbers_right, values_of, in_range, bits_of_cell, bits_of, Cells, cells, malformed, unpacked, cell_at, cells_in, is_whole}
 use Rattle.unpack.specs.Steps.{fitted, tile_numbers, tile_values, TileGood, Tiled, Rooted, RootGood, Answered}
-use Rattle.unpack.specs.declared.Unpacked.{Unpacked}
-use Rattle.unpack.specs.declared.Unpacked.TheVariants.{Cell, Malformed}
 use Rattle.unpack.specs.declared.rows.Tile.{Tile}
-use Rattle.unpack.specs.declared.rows.Tile.TheVariants as tile
-use Rattle.unpack.specs.declared.reading.Behind.{Behind}
-use Rattle.unpack.specs.declared.reading.Behind.TheVariants as behind
+use Rattle.unpack.proofs.TileLaws.{tile_done}
 use Rattle.unpack.proofs.ValueLaws.{bits_length, fit_in, fit_out}
 use Rattle.unpack.proofs.HeadLaws.{head_means, some_tile}
 
@@ -53,14 +51,14 @@ module _ (c : List ℕ) (rows columns : ℕ) (short : Bool) where
   is_not_lem f = ap (λ (b : Bool). pick b (cells (bits_of short (values_of c rows columns))) malformed) (sym (no tests f))
 
   module _ (inside : ℕ) (d out : List ℕ) where
-    answer_not : (Holds tests → ⊥) → Answered (unpacked c rows columns short) inside d out Malformed
+    answer_not : (Holds tests → ⊥) → Answered (unpacked c rows columns short) inside d out None
     unfolding cell_at is_whole
     answer_not f = rw (is_not_lem f) (record { cell = refl; is = λ w. not_both w refl })
 
-    pub answer_head : (b : Bool) → b ≡ head_right c rows columns → b ≡ false → Answered (unpacked c rows columns short) inside d out Malformed
+    pub answer_head : (b : Bool) → b ≡ head_right c rows columns → b ≡ false → Answered (unpacked c rows columns short) inside d out None
     answer_head b e f = answer_not (λ h. not_both h.0 (sym e ∙ f))
 
-    pub answer_root : (nodes : List ℕ) (r : Behind) → Rooted c nodes r → r ≡ behind.Bad → Answered (unpacked c rows columns short) inside d out Malformed
+    pub answer_root : (nodes : List ℕ) (r : Option ℕ) → Rooted c nodes r → r ≡ None → Answered (unpacked c rows columns short) inside d out None
     unfolding Rooted
     answer_root nodes r e f = answer_not (λ h. not_both h.1.0 (subst (Rooted c nodes) f e))
 
@@ -90,10 +88,10 @@ module _ (c : List ℕ) (rows columns : ℕ) (t : Tree) (start : ℕ) (e : tree_
       let f : take 1 (set row 0 s) ≡ s ∷ [] = take-suc-set row 0 s (omega arith) in
       rw (l, f, ep, es, ea, numbers_same)
 
-module _ (c nodes : List ℕ) (rows columns : ℕ) (short : Bool) (inside start p s : ℕ) (above row d out : List ℕ) (x : Tile) (ep : p ≡ byte_at c 1) (es : s ≡ u32_at c 2)
+module _ (c nodes : List ℕ) (rows columns : ℕ) (short : Bool) (inside start p s : ℕ) (above row d out : List ℕ) (x : Option Tile) (ep : p ≡ byte_at c 1) (es : s ≡ u32_at c 2)
     (ea : above ≡ no_row columns) (er : length row ≡ columns) (w : 1 ≤ columns) (head : head_right c rows columns ≡ true)
     (o : (t : Tree) → Nodes nodes 0 t → Tiled (symbols t c) p short start rows inside above (set row 0 s) d out x) where
-  abbrev Answers : Unpacked → Type 0
+  abbrev Answers : Option ℕ → Type 0
   Answers r = (t : Tree) → Nodes nodes 0 t → tree_in c ≡ got t start → tree_right c ≡ true → Answered (unpacked c rows columns short) inside d out r
 
   abbrev xs : Tree → List ℕ
@@ -108,27 +106,27 @@ module _ (c nodes : List ℕ) (rows columns : ℕ) (short : Bool) (inside start 
   side : rows * length (set row 0 s) ≡ rows * columns
   side = ap (λ (k : ℕ). rows * k) (length-set row 0 s ∙ er)
 
-  pub answer_bad : x ≡ tile.Bad → Answers Malformed
+  pub answer_bad : x ≡ None → Answers None
   unfolding Tiled numbers_right
   answer_bad f t i e g =
       answer_not c rows columns short inside d out
       (λ h.
       let m = means (number_tests c rows columns) h.1.1.0 in
       let l : length (xs t) ≡ rows * length (set row 0 s) - 1 = ap length (numbers_are t e) ∙ m.0 ∙ ap (λ (k : ℕ). k - 1) (sym side) in
-      subst (λ (y : Tile). Tiled (symbols t c) p short start rows inside above (set row 0 s) d out y) f (o t i) l (ap (in_range short) (values_are t e) ∙ h.1.1.1.0))
+      subst (λ (y : Option Tile). Tiled (symbols t c) p short start rows inside above (set row 0 s) d out y) f (o t i) l (ap (in_range short) (values_are t e) ∙ h.1.1.1.0))
 
-  module _ (n v count m : ℕ) (b : Bool) (f : x ≡ tile.Done n v) (ec : count ≡ u32_at c 6) (em : m ≡ rows * columns - 1)
+  module _ (n v count m : ℕ) (b : Bool) (f : x ≡ tile_done n v) (ec : count ≡ u32_at c 6) (em : m ≡ rows * columns - 1)
       (eb : (ys : List ℕ) → n ≡ length (codes ys) → b ≡ count_right count m ys) where
     good : (t : Tree) → Nodes nodes 0 t → TileGood (symbols t c) p short start rows inside above (set row 0 s) d out n v
     unfolding Tiled
-    good t i = subst (λ (y : Tile). Tiled (symbols t c) p short start rows inside above (set row 0 s) d out y) f (o t i)
+    good t i = subst (λ (y : Option Tile). Tiled (symbols t c) p short start rows inside above (set row 0 s) d out y) f (o t i)
 
     counts : (t : Tree) → Nodes nodes 0 t → tree_in c ≡ got t start → b ≡ count_right (count_of c) (rows * columns - 1) (numbers_of c rows columns)
     counts t i e =
         eb (numbers_of c rows columns) ((good t i).bytes ∙ ap (λ (l : List ℕ). length (codes l)) (numbers_are t e))
         ∙ ap₂ (λ (j k : ℕ). count_right j k (numbers_of c rows columns)) ec em
 
-    pub answer_count : b ≡ false → Answers Malformed
+    pub answer_count : b ≡ false → Answers None
     unfolding numbers_right
     answer_count g t i e k =
         answer_not c rows columns short inside d out
@@ -136,7 +134,7 @@ module _ (c nodes : List ℕ) (rows columns : ℕ) (short : Bool) (inside start 
         let q = means (number_tests c rows columns) h.1.1.0 in
         not_both q.1.0 (sym (counts t i e) ∙ g))
 
-    pub answer_good : b ≡ true → Answers (Cell v)
+    pub answer_good : b ≡ true → Answers (Some v)
     unfolding numbers_right cell_at cells_in is_whole
     answer_good g t i e k =
         let q : numbers_right (count_of c) (rows * columns - 1) (numbers_of c rows columns) ≡ true =
@@ -147,15 +145,15 @@ module _ (c nodes : List ℕ) (rows columns : ℕ) (short : Bool) (inside start 
         (ap length (sym (numbers_are t e)) ∙ (good t i).full ∙ ap (λ (j : ℕ). j - 1) side) in
         rw (is_cells c rows columns short (head, (k, (q, (ap (in_range short) (sym (values_are t e)) ∙ (good t i).range, tt)))))
         (record {
-          cell = ap Cell ((good t i).value ∙ ap (λ (l : List ℕ). get_or (bits_of short l) inside 0) (values_are t e));
+          cell = ap Some ((good t i).value ∙ ap (λ (l : List ℕ). get_or (bits_of short l) inside 0) (values_are t e));
           is = λ z. (good t i).is ∙ ap₂ (λ (j : ℕ) (l : List ℕ). fitted j d 0 (bits_of short l)) side (values_are t e) ∙ fit_whole (rows * columns) d (bits_of short (values_of c rows columns)) (bits_length short (values_of c rows columns) ∙ values_long);
         })
 
 -- a whole content
 
 pub answer_tile_lem :
-    (c : List ℕ) (rows columns : ℕ) (short : Bool) (inside : ℕ) (d out nodes : List ℕ) (r : Behind) (start k : ℕ) (x : Unpacked) →
-    Rooted c nodes r → r ≡ behind.At start → k ≡ columns →
+    (c : List ℕ) (rows columns : ℕ) (short : Bool) (inside : ℕ) (d out nodes : List ℕ) (r : Option ℕ) (start k : ℕ) (x : Option ℕ) →
+    Rooted c nodes r → r ≡ Some start → k ≡ columns →
     ((t : Tree) → Nodes nodes 0 t → tree_in c ≡ got t start → tree_right c ≡ true → Answered (unpacked c rows k short) inside d out x) →
     Answered (unpacked c rows columns short) inside d out x
 unfolding Rooted
@@ -167,32 +165,17 @@ answer_tile_lem c rows columns short inside d out nodes r start k x e f g o =
 pub cut_long : (w : ℕ) → w ≤ 4096 → length (take w (no_row 4096)) ≡ w
 cut_long w h = length-take-le w (no_row 4096) h
 
--- every cell: the first answer says whether the second writes
+-- a cell is answered of a whole content
+pub some_whole : (x : Cells) (i : ℕ) → is_some (cell_at x i) ≡ is_whole x
+unfolding cell_at is_whole
+some_whole (cells vs) i = refl
+some_whole malformed i = refl
 
-module _ (x : Cells) (i : ℕ) (r : Unpacked) (e : r ≡ cell_at x i) where
-  pub none_written : (d : List ℕ) → r ≡ Malformed → (false ≡ is_whole x) × (d ≡ put d 0 (cells_in x))
-  unfolding cell_at cells_in is_whole
-  none_written d f = go x (sym e ∙ f)
-    where
-      go : (y : Cells) → cell_at y i ≡ Malformed → (false ≡ is_whole y) × (d ≡ put d 0 (cells_in y))
-      go (cells vs) g = absurd (let z : ◌≡◌ {A = ℕ} 0 1 = cc in omega arith)
-      go malformed g = (refl, sym (put_nil d 0))
-
-  pub all_written : (v : ℕ) (d out : List ℕ) (q : Unpacked) → r ≡ Cell v → Answered x i d out q → (true ≡ is_whole x) × (out ≡ put d 0 (cells_in x))
-  unfolding cell_at is_whole
-  all_written v d out q f a = let w : is_whole x ≡ true = go x (sym e ∙ f) in (sym w, a.is w)
-    where
-      go : (y : Cells) → cell_at y i ≡ Cell v → is_whole y ≡ true
-      go (cells vs) g = refl
-      go malformed g = absurd (let z : ◌≡◌ {A = ℕ} 0 1 = cc in omega arith)
-
--- in one pass
-module _ (x : Cells) (i : ℕ) (d out : List ℕ) (r : Unpacked) (a : Answered x i d out r) where
-  pub lent_none : r ≡ Malformed → (false ≡ is_whole x) × (false ≡ true → out ≡ put d 0 (cells_in x))
-  lent_none f = ((none_written x i r a.cell d f).0, λ g. not_both g refl)
-
-  pub lent_all : (v : ℕ) → r ≡ Cell v → (true ≡ is_whole x) × (true ≡ true → out ≡ put d 0 (cells_in x))
-  lent_all v f = let w = all_written x i r a.cell v d out r f a in (w.0, λ g. w.1)
+-- and of any other there are no cells to write
+pub none_written : (x : Cells) (d : List ℕ) → is_whole x ≡ false → d ≡ put d 0 (cells_in x)
+unfolding cells_in is_whole
+none_written (cells vs) d w = absurd (let z : ◌≡◌ {A = ℕ} 0 1 = cc in omega arith)
+none_written malformed d w = sym (put_nil d 0)
 
 -- for those who hold the cells: there are as many as the tile has, and each is the one that is answered by itself
 
@@ -211,12 +194,12 @@ whole_long c rows columns short = go (passes (tests c rows columns short)) refl
         bits_length short (values_of c rows columns) ∙ long c rows columns (some_tile rows columns s.0 s.1.1.0) m.0
     go false e w = not_both w refl
 
-pub taken_cell : (x : Cells) (i v : ℕ) → cell_at x i ≡ Cell v → get_or (cells_in x) i 0 ≡ v
+pub taken_cell : (x : Cells) (i v : ℕ) → cell_at x i ≡ Some v → get_or (cells_in x) i 0 ≡ v
 unfolding cell_at cells_in
 taken_cell (cells vs) i v e = cc
 taken_cell malformed i v e = let z : ◌≡◌ {A = ℕ} 0 1 = cc in absurd (omega arith)
 
-pub whole_cell : (x : Cells) (i : ℕ) → is_whole x ≡ true → cell_at x i ≡ Cell (get_or (cells_in x) i 0)
+pub whole_cell : (x : Cells) (i : ℕ) → is_whole x ≡ true → cell_at x i ≡ Some (get_or (cells_in x) i 0)
 unfolding is_whole cell_at cells_in
 whole_cell (cells vs) i w = refl
 whole_cell malformed i w = not_both w refl

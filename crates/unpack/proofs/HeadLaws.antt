@@ -15,15 +15,14 @@ use Rattle.wire.proofs.TestLaws.{yes, no, means, either_way, not_both}
 use Rattle.m32.specs.M32.{codes}
 use Rattle.huffman.specs.Tree.{Parsed, got, bad, leaves, tree_at}
 use Rattle.huffman.specs.Symbols.{symbols_of, among, distinct}
-use Rattle.huffman.specs.Nodes.{size, Nodes, outcome, root_outcome, root_nodes, symbols_in}
+use Rattle.huffman.specs.Nodes.{tree_read, size, Nodes, outcome, root_outcome, root_nodes, symbols_in}
 use Rattle.huffman.specs.declared.Read.{Read}
-use Rattle.huffman.specs.declared.Read.TheVariants as read
 use Rattle.huffman.proofs.NodeLaws.{Told, told, told_bad, root_is_laid}
 use Rattle.huffman.proofs.StoredLaws.{read_stored}
 use Rattle.huffman.proofs.SymbolLaws.{nodes_symbols}
+use Rattle.std.specs.Prelude.{Option, Some, None}
 use Rattle.unpack.specs.Unpack.{predictor_of, symbol_count, head_right, tree_in, leaves_read, symbols_read, tree_right, count_right}
 use Rattle.unpack.specs.Steps.{Rooted}
-use Rattle.unpack.specs.declared.reading.Behind.TheVariants as behind
 
 module _ (c : List ℕ) (rows columns : ℕ) where
   abbrev pub head_tests : List Test
@@ -48,7 +47,7 @@ module _ (c : List ℕ) (rows columns : ℕ) where
 
 root_outcome_lem : (n left : ℕ) (x : Parsed) → 511 ≤ n → left ≤ 256 → root_outcome n left x ≡ outcome 0 left x
 unfolding root_outcome
-root_outcome_lem n left x h k = ap (λ (b : Bool). pick b (outcome 0 left x) read.Bad) (sym (yes ((511 ≤? n) ∷ (left ≤? 256) ∷ []) (h, (k, tt))))
+root_outcome_lem n left x h k = ap (λ (b : Bool). pick b (outcome 0 left x) None) (sym (yes ((511 ≤? n) ∷ (left ≤? 256) ∷ []) (h, (k, tt))))
 
 abbrev tree_tests : List ℕ → Parsed → List Test
 tree_tests c x = (leaves_read x ≡? symbol_count c) ∷ is (distinct (symbols_read x)) ∷ []
@@ -61,23 +60,23 @@ tree_yes : (c : List ℕ) (x : Parsed) → tree_in c ≡ x → Holds (tree_tests
 unfolding tree_right
 tree_yes c x e h = rw e (sym (yes (tree_tests c x) h))
 
-module _ (c : List ℕ) (n count : ℕ) (r : Read) (ns : List ℕ) (h : 511 ≤ n) (k : count ≡ byte_at c 10 + 1) (l : count ≤ 256)
+module _ (c : List ℕ) (n count : ℕ) (r : Option Read) (ns : List ℕ) (h : 511 ≤ n) (k : count ≡ byte_at c 10 + 1) (l : count ≤ 256)
     (e : r ≡ root_outcome n count (tree_at c count 88)) where
   same_tree : tree_in c ≡ tree_at c count 88
   unfolding tree_in
   same_tree = rw k
 
-  pub root_bad : r ≡ read.Bad → Rooted c ns behind.Bad
+  pub root_bad : r ≡ None → Rooted c ns None
   unfolding Rooted leaves_read
   root_bad f =
       tree_not c bad (same_tree ∙ told_bad 0 count (tree_at c count 88) (sym (root_outcome_lem n count (tree_at c count 88) h l) ∙ sym e ∙ f))
       (λ w. omega (arith, w.0))
 
-  module _ (q m f : ℕ) (g : r ≡ read.Tree q m f) where
+  module _ (q m f : ℕ) (g : r ≡ tree_read q m f) where
     what : Told 0 count (tree_at c count 88) q m f
     what = told 0 count (tree_at c count 88) q m f (sym (root_outcome_lem n count (tree_at c count 88) h l) ∙ sym e ∙ g)
 
-    pub root_few : (f ≡ 0 → ⊥) → Rooted c ns behind.Bad
+    pub root_few : (f ≡ 0 → ⊥) → Rooted c ns None
     unfolding Rooted leaves_read
     root_few z =
         let t : Told 0 count (tree_at c count 88) q m f = what in
@@ -94,11 +93,11 @@ module _ (c : List ℕ) (n count : ℕ) (r : Read) (ns : List ℕ) (h : 511 ≤ 
           let u : m ≡ size what.tree = omega (arith, what.next) in
           y ∙ ap (λ (i : ℕ). distinct (symbols_in (take i ns))) u ∙ ap distinct (nodes_symbols what.tree ns 0 laid)
 
-      pub root_twice : b ≡ false → Rooted c ns behind.Bad
+      pub root_twice : b ≡ false → Rooted c ns None
       unfolding Rooted symbols_read
       root_twice x = tree_not c (got what.tree q) (same_tree ∙ what.is) (λ w. not_both w.1.0 (sym differ ∙ x))
 
-      pub root_good : b ≡ true → Rooted c ns (behind.At q)
+      pub root_good : b ≡ true → Rooted c ns (Some q)
       unfolding Rooted leaves_read symbols_read
       root_good x =
           let u : leaves what.tree ≤ count = (read_stored c count 88 what.tree q what.is).few in

@@ -10,20 +10,18 @@ use Rattle.wire.specs.Pick.{pick}
 use Rattle.wire.specs.Tests.{◌≤?◌, passes}
 use Rattle.wire.specs.Bytes.{largest_integer}
 use Rattle.wire.proofs.TestLaws.{means}
-use Rattle.m32.specs.M32.{bases, signed, byte, end, first_step, go_on, ended, further_step, read_code}
+use Rattle.m32.specs.M32.{found, bases, signed, byte, end, first_step, go_on, ended, further_step, read_code}
 use Rattle.m32.specs.declared.Partial.{Partial}
 use Rattle.m32.specs.declared.Step.{Step}
 use Rattle.m32.specs.declared.Step.TheVariants.{Number, More, Bad}
 use Rattle.m32.specs.declared.Found.{Found}
-use Rattle.m32.specs.declared.Found.TheVariants.{Nothing}
-use Rattle.m32.specs.declared.Found.TheVariants as found
 use Rattle.m32.proofs.StepLaws.{outcome, is_number, is_bad, asks, lacks, begins, begins_not, longer}
 use Rattle.huffman.specs.Tree.{Tree}
 use Rattle.huffman.specs.Jumps.{Coded, next_symbol}
-use Rattle.huffman.specs.Symbols.{symbol_at}
-use Rattle.huffman.specs.declared.Next.{Next}
-use Rattle.huffman.specs.declared.Next.TheVariants.{Byte, End}
+use Rattle.huffman.specs.Symbols.{given, symbol_at}
+use Rattle.huffman.specs.declared.Symbol.{Symbol}
 use Rattle.huffman.proofs.NextLaws.{next_is_trees}
+use Rattle.std.specs.Prelude.{Option, None}
 use Rattle.unpack.specs.Unpack.{as_byte, symbols}
 
 -- how many symbols more a step may ask for, and one
@@ -50,48 +48,48 @@ lighter u p q y f e =
 
 module _ (c nodes jumps : List ℕ) where
   -- s is the symbol at a bit, by whatever tree the nodes are
-  abbrev Gives : ℕ → Next → Type 0
+  abbrev Gives : ℕ → Option Symbol → Type 0
   Gives at s = (t : Tree) → Coded nodes jumps t → s ≡ symbol_at t c at
 
-  pub by_tree : (at : ℕ) (s : Next) → s ≡ next_symbol c nodes jumps at → Gives at s
+  pub by_tree : (at : ℕ) (s : Option Symbol) → s ≡ next_symbol c nodes jumps at → Gives at s
   by_tree at s e t x = e ∙ next_is_trees c nodes jumps t at x
 
-  a_byte : (t : Tree) (at y q : ℕ) (s : Next) → s ≡ symbol_at t c at → s ≡ Byte y q → symbols t c at ≡ byte y q
+  a_byte : (t : Tree) (at y q : ℕ) (s : Option Symbol) → s ≡ symbol_at t c at → s ≡ given y q → symbols t c at ≡ byte y q
   unfolding symbols
   a_byte t at y q s e f = ap as_byte (sym e ∙ f)
 
-  no_byte : (t : Tree) (at : ℕ) (s : Next) → s ≡ symbol_at t c at → s ≡ End → symbols t c at ≡ end
+  no_byte : (t : Tree) (at : ℕ) (s : Option Symbol) → s ≡ symbol_at t c at → s ≡ None → symbols t c at ≡ end
   unfolding symbols
   no_byte t at s e f = ap as_byte (sym e ∙ f)
 
   module _ (from : ℕ) where
     -- r is the number at the bit `from`
-    abbrev Is : Found → Type 0
+    abbrev Is : Option Found → Type 0
     Is r = (t : Tree) → Coded nodes jumps t → r ≡ read_code (symbols t c) from
 
     -- what the step u comes to at a bit is the number at `from`
     abbrev pub Coming : Step → ℕ → Type 0
     Coming u at = (t : Tree) → Coded nodes jumps t → outcome (symbols t c) u at ≡ read_code (symbols t c) from
 
-    pub came_none : (s : Next) → Gives from s → s ≡ End → Is Nothing
+    pub came_none : (s : Option Symbol) → Gives from s → s ≡ None → Is None
     came_none s g e t h = sym (begins_not (symbols t c) from (no_byte t from s (g t h) e))
 
-    pub came_first : (s : Next) (y q : ℕ) (u : Step) → Gives from s → s ≡ Byte y q → u ≡ first_step y → Coming u q
+    pub came_first : (s : Option Symbol) (y q : ℕ) (u : Step) → Gives from s → s ≡ given y q → u ≡ first_step y → Coming u q
     came_first s y q u g e f t h = rw f (sym (begins (symbols t c) from y q (a_byte t from y q s (g t h) e)))
 
     module _ (u : Step) (at : ℕ) (inv : Coming u at) where
-      pub came_number : (x : ℕ) → u ≡ Number x → Is (found.Number x at)
+      pub came_number : (x : ℕ) → u ≡ Number x → Is (found x at)
       came_number x e t h = sym (is_number (symbols t c) x at) ∙ ap (λ (w : Step). outcome (symbols t c) w at) (sym e) ∙ inv t h
 
       pub came_part : (p : Partial) → u ≡ More p → Coming (More p) at
       came_part p e t h = ap (λ (w : Step). outcome (symbols t c) w at) (sym e) ∙ inv t h
 
-      pub came_bad : u ≡ Bad → Is Nothing
+      pub came_bad : u ≡ Bad → Is None
       came_bad e t h = sym (is_bad (symbols t c) at) ∙ ap (λ (w : Step). outcome (symbols t c) w at) (sym e) ∙ inv t h
 
     module _ (p : Partial) (at : ℕ) (inv : Coming (More p) at) where
-      pub came_ended : (s : Next) → Gives at s → s ≡ End → Is Nothing
+      pub came_ended : (s : Option Symbol) → Gives at s → s ≡ None → Is None
       came_ended s g f t h = sym (lacks (symbols t c) p at (no_byte t at s (g t h) f)) ∙ inv t h
 
-      pub came_more : (s : Next) (y q : ℕ) (v : Step) → Gives at s → s ≡ Byte y q → v ≡ further_step p y → Coming v q
+      pub came_more : (s : Option Symbol) (y q : ℕ) (v : Step) → Gives at s → s ≡ given y q → v ≡ further_step p y → Coming v q
       came_more s y q v g f k t h = rw k (sym (asks (symbols t c) p at y q (a_byte t at y q s (g t h) f)) ∙ inv t h)

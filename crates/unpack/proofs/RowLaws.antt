@@ -10,24 +10,25 @@ use lib.Seq.{take-suc-set, append_snoc, take_all, drop_at}
 use lib.Dec.{leb, eqb}
 use Rattle.wire.specs.Pick.{pick}
 use Rattle.wire.proofs.TestLaws.{not_both}
-use Rattle.m32.specs.M32.{bases, Next, Numbers, no_numbers, in_front, read_code, read_codes, absolute, reached, continued, wide, code_of, codes}
+use Rattle.m32.specs.M32.{found, bases, Next, Numbers, no_numbers, in_front, read_code, read_codes, absolute, reached, continued, wide, code_of, codes}
 use Rattle.m32.specs.declared.Found.{Found}
-use Rattle.m32.specs.declared.Found.TheVariants.{Nothing}
-use Rattle.m32.specs.declared.Found.TheVariants as found
 use Rattle.m32.proofs.BackLaws.{read_more}
 use Rattle.m32.proofs.ReadLaws.{read_none, read_full}
 use Rattle.m32.proofs.CodeLaws.{wide_length}
 use Rattle.huffman.specs.Tree.{Tree}
 use Rattle.huffman.specs.Jumps.{Coded}
 use Rattle.predict.specs.Predict.{row_of}
+use Rattle.std.specs.Prelude.{Option, Some, None}
+use Rattle.unpack.specs.declared.rows.Made.{Made}
 use Rattle.unpack.specs.Unpack.{symbols, in_range}
 use Rattle.unpack.specs.Steps.{filled_from, filling, LineGood, Lined, Rowed, Few}
-use Rattle.unpack.specs.declared.reading.Behind.{Behind}
-use Rattle.unpack.specs.declared.reading.Behind.TheVariants as behind
-use Rattle.unpack.specs.declared.rows.Made.TheVariants as made
+
+-- a row that was made
+abbrev pub row_made : ℕ → ℕ → Option Made
+row_made q n = Some (record { pos = q; bytes = n })
 
 -- a number whose code takes nothing is that of every code behind it
-repeated : (next : ℕ → Next) (n x p : ℕ) → read_code next p ≡ found.Number x p → read_codes next n p ≡ record { numbers = replicate n x; behind = p }
+repeated : (next : ℕ → Next) (n x p : ℕ) → read_code next p ≡ found x p → read_codes next n p ≡ record { numbers = replicate n x; behind = p }
 unfolding read_codes
 repeated next zero x p e = refl
 repeated next (suc n) x p e = read_more next n x p p e ∙ ap (in_front x) (repeated next n x p e)
@@ -42,7 +43,7 @@ module _ (next : ℕ → Next) (start from : ℕ) (a : List ℕ) where
   fill_start = record { numbers = refl; behind = refl }
 
   module _ (row : List ℕ) (i pos : ℕ) (f : Filling next start from a row i pos) (l : length row ≡ length a) (h : from ≤ i) where
-    fill_one : (x q : ℕ) → i < length a → found.Number x q ≡ read_code next pos → Filling next start from a (set row i x) (i + 1) q
+    fill_one : (x q : ℕ) → i < length a → found x q ≡ read_code next pos → Filling next start from a (set row i x) (i + 1) q
     fill_one x q k e =
         let m : length a - i ≡ suc (length a - (i + 1)) = omega arith in
         let r : read_codes next (length a - i) pos ≡ in_front x (read_codes next (length a - (i + 1)) q) = rw m (read_more next (length a - (i + 1)) x pos q (sym e)) in
@@ -62,11 +63,11 @@ module _ (next : ℕ → Next) (start from : ℕ) (a : List ℕ) where
         let q : length (take from a ++ (filling next start from a).numbers) ≡ from + length (filling next start from a).numbers = rw (length-append, length-take) (omega arith) in
         sym q ∙ ap length (sym f.numbers) ∙ p
 
-    fill_short : i < length a → Nothing ≡ read_code next pos → Lined next start from a row behind.Bad
+    fill_short : i < length a → None ≡ read_code next pos → Lined next start from a row None
     unfolding Lined
     fill_short k e n = omega (arith, long (read_none next (length a - i) pos (omega arith) (sym e)) (omega arith))
 
-    fill_end : i ≡ length a → Lined next start from a row (behind.At pos)
+    fill_end : i ≡ length a → Lined next start from a row (Some pos)
     unfolding Lined
     fill_end k =
         let e : read_codes next (length a - i) pos ≡ no_numbers pos = read_full next (length a - i) pos (omega arith) in
@@ -76,11 +77,11 @@ module _ (next : ℕ → Next) (start from : ℕ) (a : List ℕ) where
           is = sym (rw (e, append-nil (take i row)) (take_all i row (omega arith))) ∙ f.numbers;
         }
 
-    fill_same : (x q : ℕ) → i < length a → found.Number x q ≡ read_code next pos → q ≡ pos → Lined next start from a (filled_from row i x) (behind.At pos)
+    fill_same : (x q : ℕ) → i < length a → found x q ≡ read_code next pos → q ≡ pos → Lined next start from a (filled_from row i x) (Some pos)
     unfolding Lined filled_from
     fill_same x q k e u =
         let r : read_codes next (length a - i) pos ≡ record { numbers = replicate (length a - i) x; behind = pos } =
-        repeated next (length a - i) x pos (sym e ∙ ap (found.Number x) u) in
+        repeated next (length a - i) x pos (sym e ∙ ap (found x) u) in
         let g : take i row ++ replicate (length row - i) x ≡ take from a ++ (filling next start from a).numbers =
         rw l (ap (λ (ns : Numbers). take i row ++ ns.numbers) (sym r)) ∙ f.numbers in
         let m : length (take i row ++ replicate (length row - i) x) ≡ length a = rw (length-append, length-take, length-replicate) (omega arith) in
@@ -96,23 +97,23 @@ module _ (c nodes jumps : List ℕ) (start from : ℕ) (a : List ℕ) where
   pub fills_start : Fills a from start
   fills_start t n = fill_start (symbols t c) start from a
 
-  abbrev Lines : List ℕ → Behind → Type 0
+  abbrev Lines : List ℕ → Option ℕ → Type 0
   Lines row r = (t : Tree) → Coded nodes jumps t → Lined (symbols t c) start from a row r
 
   module _ (row : List ℕ) (i pos : ℕ) (f : Fills row i pos) (l : length row ≡ length a) (h : from ≤ i) where
-    abbrev Is : Found → Type 0
+    abbrev Is : Option Found → Type 0
     Is r = (t : Tree) → Coded nodes jumps t → r ≡ read_code (symbols t c) pos
 
-    pub fills_one : (r : Found) (x q : ℕ) → i < length a → Is r → r ≡ found.Number x q → Fills (set row i x) (i + 1) q
+    pub fills_one : (r : Option Found) (x q : ℕ) → i < length a → Is r → r ≡ found x q → Fills (set row i x) (i + 1) q
     fills_one r x q k e g t n = fill_one (symbols t c) start from a row i pos (f t n) l h x q k (sym g ∙ e t n)
 
-    pub fills_short : (r : Found) → i < length a → Is r → r ≡ Nothing → Lines row behind.Bad
+    pub fills_short : (r : Option Found) → i < length a → Is r → r ≡ None → Lines row None
     fills_short r k e g t n = fill_short (symbols t c) start from a row i pos (f t n) l h k (sym g ∙ e t n)
 
-    pub fills_same : (r : Found) (x q : ℕ) → i < length a → Is r → r ≡ found.Number x q → q ≡ pos → Lines (filled_from row i x) (behind.At pos)
+    pub fills_same : (r : Option Found) (x q : ℕ) → i < length a → Is r → r ≡ found x q → q ≡ pos → Lines (filled_from row i x) (Some pos)
     fills_same r x q k e g u t n = fill_same (symbols t c) start from a row i pos (f t n) l h x q k (sym g ∙ e t n) u
 
-    pub fills_end : i ≡ length a → Lines row (behind.At pos)
+    pub fills_end : i ≡ length a → Lines row (Some pos)
     fills_end k t n = fill_end (symbols t c) start from a row i pos (f t n) l h k
 
 -- six bytes a number are enough
@@ -144,27 +145,27 @@ codes_few (x ∷ xs) = omega (arith, length-append (code_of x) (codes xs), code_
 
 -- the row of cells
 
-module _ (c nodes jumps : List ℕ) (start from : ℕ) (a b : List ℕ) (r : Behind) (e : Lines c nodes jumps start from a b r) where
+module _ (c nodes jumps : List ℕ) (start from : ℕ) (a b : List ℕ) (r : Option ℕ) (e : Lines c nodes jumps start from a b r) where
   module _ (p : ℕ) (short : Bool) (above : List ℕ) where
-    pub row_short : (d : List ℕ) → r ≡ behind.Bad → ((t : Tree) → Coded nodes jumps t → Rowed (symbols t c) p short start from above a d made.Bad) × Few made.Bad
+    pub row_short : (d : List ℕ) → r ≡ None → ((t : Tree) → Coded nodes jumps t → Rowed (symbols t c) p short start from above a d None) × Few None
     unfolding Rowed Lined Few
-    row_short d f = ((λ t n g h. subst (λ (x : Behind). Lined (symbols t c) start from a b x) f (e t n) g), tt)
+    row_short d f = ((λ t n g h. subst (λ (x : Option ℕ). Lined (symbols t c) start from a b x) f (e t n) g), tt)
 
-    module _ (d : List ℕ) (s : Bool) (q : ℕ) (f : r ≡ behind.At q) (g : d ≡ row_of p above b) (h : s ≡ in_range short d) where
+    module _ (d : List ℕ) (s : Bool) (q : ℕ) (f : r ≡ Some q) (g : d ≡ row_of p above b) (h : s ≡ in_range short d) where
       line : (t : Tree) → Coded nodes jumps t → LineGood (symbols t c) start from a b q
       unfolding Lined
-      line t n = subst (λ (x : Behind). Lined (symbols t c) start from a b x) f (e t n)
+      line t n = subst (λ (x : Option ℕ). Lined (symbols t c) start from a b x) f (e t n)
 
       same_row : (t : Tree) (n : Coded nodes jumps t) → d ≡ row_of p above (take from a ++ (filling (symbols t c) start from a).numbers)
       same_row t n = g ∙ ap (row_of p above) (line t n).is
 
-      pub row_out : s ≡ false → ((t : Tree) → Coded nodes jumps t → Rowed (symbols t c) p short start from above a d made.Bad) × Few made.Bad
+      pub row_out : s ≡ false → ((t : Tree) → Coded nodes jumps t → Rowed (symbols t c) p short start from above a d None) × Few None
       unfolding Rowed Few
       row_out k = ((λ t n u v. not_both v (ap (in_range short) (sym (same_row t n)) ∙ sym h ∙ k)), tt)
 
       pub row_good :
           (n : ℕ) → s ≡ true → n ≡ length (codes (take (length b - from) (drop from b))) → from ≤ length a → length b ≤ 4096 →
-          ((t : Tree) → Coded nodes jumps t → Rowed (symbols t c) p short start from above a d (made.Row q n)) × Few (made.Row q n)
+          ((t : Tree) → Coded nodes jumps t → Rowed (symbols t c) p short start from above a d (row_made q n)) × Few (row_made q n)
       unfolding Rowed Few
       row_good n k m l o = (
         λ t i.

@@ -13,16 +13,16 @@ use Rattle.huffman.specs.Bits.{bit_at}
 use Rattle.huffman.specs.Tree.{Tree, leaf, branch}
 use Rattle.huffman.specs.Symbols.{symbol_at}
 use Rattle.huffman.specs.Stored.{Symbols}
-use Rattle.huffman.specs.declared.Next as symbol
-use Rattle.huffman.specs.declared.Next.TheVariants.{Byte, End}
+use Rattle.huffman.specs.declared.Symbol.{Symbol}
 use Rattle.huffman.proofs.StoredLaws.{tree_stored}
+use Rattle.std.specs.Prelude.{Option, Some, None}
 use Rattle.unpack.specs.Unpack.{symbol_count, tree_in, as_byte, symbols}
 use Rattle.unpack.specs.Stood.{CodesStood}
 
 -- what a symbol is, 0 where there is none
-abbrev value_of : symbol.Next → ℕ
-value_of (Byte y q) = y
-value_of End = 0
+abbrev value_of : Option Symbol → ℕ
+value_of (Some s) = s.y
+value_of None = 0
 
 small : (t : Tree) (c : List ℕ) (p : ℕ) → Symbols t → value_of (symbol_at t c p) < 256
 unfolding symbol_at
@@ -31,7 +31,7 @@ small (branch l r) c p s = go (eqb (bit_at c p) 2) (eqb (bit_at c p) 0) (small l
   where
     go :
         (a b : Bool) → value_of (symbol_at l c (p + 1)) < 256 → value_of (symbol_at r c (p + 1)) < 256 →
-        value_of (pick a End (pick b (symbol_at l c (p + 1)) (symbol_at r c (p + 1)))) < 256
+        value_of (pick a None (pick b (symbol_at l c (p + 1)) (symbol_at r c (p + 1)))) < 256
     go true b h k = omega arith
     go false true h k = h
     go false false h k = k
@@ -41,9 +41,9 @@ abbrev octet : Next → ℕ
 octet (byte y q) = y
 octet end = 0
 
-same : (x : symbol.Next) → octet (as_byte x) ≡ value_of x
-same (Byte y q) = refl
-same End = refl
+same : (x : Option Symbol) → octet (as_byte x) ≡ value_of x
+same (Some s) = refl
+same None = refl
 
 octets : (t : Tree) (c : List ℕ) → Symbols t → OnlyBytes (symbols t c)
 unfolding symbols

@@ -14,18 +14,21 @@ use Rattle.wire.specs.Bytes.{put}
 use Rattle.wire.proofs.PutLaws.{put_fits, put_nil, put_put, length_put}
 use Rattle.m32.specs.M32.{Next, Numbers, no_numbers, one_more, read_code, read_codes, code_of, codes}
 use Rattle.m32.specs.declared.Found.{Found}
-use Rattle.m32.specs.declared.Found.TheVariants.{Number, Nothing}
 use Rattle.m32.proofs.ReadLaws.{read_full}
 use Rattle.huffman.specs.Tree.{Tree}
 use Rattle.huffman.specs.Jumps.{Coded}
 use Rattle.predict.specs.Predict.{row_of, cell_rows}
+use Rattle.std.specs.Prelude.{Option, Some, None}
 use Rattle.unpack.specs.Unpack.{symbols, all_short, in_range, bits_of}
 use Rattle.unpack.specs.Steps.{filling, Rowed, Few, fitted, tile_numbers, tile_values, Tiled}
 use Rattle.unpack.specs.declared.rows.Made.{Made}
-use Rattle.unpack.specs.declared.rows.Made.TheVariants as made
 use Rattle.unpack.specs.declared.rows.Tile.{Tile}
-use Rattle.unpack.specs.declared.rows.Tile.TheVariants as tile
-use Rattle.unpack.proofs.ValueLaws.{range_append, bits_append, bits_length, bits_same, fit_in, fit_out}
+use Rattle.unpack.proofs.RowLaws.{row_made}
+use Rattle.unpack.proofs.ValueLaws.{range_append, bits_append, bits_length, fit_in, fit_out}
+
+-- a tile that was made
+abbrev pub tile_done : ℕ → ℕ → Option Tile
+tile_done n v = Some (record { bytes = n; value = v })
 
 -- numbers read in two parts
 
@@ -38,12 +41,12 @@ module _ (next : ℕ → Next) where
   split_full (suc a) b at e = let z : suc a + b ≡ suc (a + b) = omega arith in rw z (go (read_code next at) e (λ q. split_full a b q))
     where
       go :
-          (f : Found) → length (one_more f at (λ q. read_codes next a q)).numbers ≡ suc a →
+          (f : Option Found) → length (one_more f at (λ q. read_codes next a q)).numbers ≡ suc a →
           ((q : ℕ) → length (read_codes next a q).numbers ≡ a → (read_codes next (a + b) q).numbers ≡ (read_codes next a q).numbers ++ (read_codes next b (read_codes next a q).behind).numbers) →
           (one_more f at (λ q. read_codes next (a + b) q)).numbers
           ≡ (one_more f at (λ q. read_codes next a q)).numbers ++ (read_codes next b (one_more f at (λ q. read_codes next a q)).behind).numbers
-      go (Number x q) g i = ap (λ (l : List ℕ). x ∷ l) (i q (omega arith))
-      go Nothing g i = absurd (omega arith)
+      go (Some f) g i = ap (λ (l : List ℕ). f.x ∷ l) (i f.at (omega arith))
+      go None g i = absurd (omega arith)
 
   split_short : (a b at : ℕ) → length (read_codes next (a + b) at).numbers ≡ a + b → length (read_codes next a at).numbers ≡ a
   unfolding read_codes
@@ -51,11 +54,11 @@ module _ (next : ℕ → Next) where
   split_short (suc a) b at e = let z : suc a + b ≡ suc (a + b) = omega arith in go (read_code next at) (rw z at e) (λ q. split_short a b q)
     where
       go :
-          (f : Found) → length (one_more f at (λ q. read_codes next (a + b) q)).numbers ≡ suc (a + b) →
+          (f : Option Found) → length (one_more f at (λ q. read_codes next (a + b) q)).numbers ≡ suc (a + b) →
           ((q : ℕ) → length (read_codes next (a + b) q).numbers ≡ a + b → length (read_codes next a q).numbers ≡ a) →
           length (one_more f at (λ q. read_codes next a q)).numbers ≡ suc a
-      go (Number x q) g i = ap suc (i q (omega arith))
-      go Nothing g i = absurd (omega arith)
+      go (Some f) g i = ap suc (i f.at (omega arith))
+      go None g i = absurd (omega arith)
 
 codes_length : (xs ys : List ℕ) → length (codes (xs ++ ys)) ≡ length (codes xs) + length (codes ys)
 unfolding codes
@@ -192,7 +195,7 @@ module _ (next : ℕ → Next) (p : ℕ) (short : Bool) (start rows inside n : �
 
       -- where the next row can't be made, the tile can't
       going_not :
-          (row' : List ℕ) → Rowed next p short pos from above row row' made.Bad → length (tile_numbers next start rows (length r)) ≡ rows * length r - 1 → n ≡ rows * length r →
+          (row' : List ℕ) → Rowed next p short pos from above row row' None → length (tile_numbers next start rows (length r)) ≡ rows * length r - 1 → n ≡ rows * length r →
           in_range short (tile_values next p start rows a r) ≡ true → ⊥
       unfolding Rowed
       going_not row' b e k i =
@@ -207,13 +210,13 @@ module _ (next : ℕ → Next) (p : ℕ) (short : Bool) (start rows inside n : �
           b f (both_second (in_range short g.made) (in_range short (row_of p above ds)) (both_first _ _ u))
 
       going_more :
-          (above' row' out' : List ℕ) (q b v : ℕ) → Rowed next p short pos from above row row' (made.Row q b) →
-          above' ≡ put above 0 (bits_of false row') → out' ≡ fitted n out at (bits_of short row') →
+          (above' row' out' : List ℕ) (q b v : ℕ) → Rowed next p short pos from above row row' (row_made q b) →
+          above' ≡ row' → out' ≡ fitted n out at (bits_of short row') →
           ((vs : List ℕ) → length vs ≡ at → value ≡ get_or (bits_of short vs) inside 0 → v ≡ get_or (bits_of short (vs ++ row')) inside 0) → length row' ≡ length row →
           Going next p short start rows inside n a r d above' row' out' (left - 1) (at + length row') 0 q (bytes + b) v
       unfolding Rowed
       going_more above' row' out' q b v o e f k l =
-          let z : above' ≡ row_of p above ds = e ∙ ap (put above 0) (bits_same row') ∙ put_whole above row' (omega (arith, s.above_long, s.row_long)) ∙ o.is in
+          let z : above' ≡ row_of p above ds = e ∙ o.is in
           let y : (read_codes next ((left - 1) * length r - 0) q).numbers ≡ ys =
           ap₂ (λ (m j : ℕ). (read_codes next m j).numbers) (omega arith) o.behind in
           let m : length (bits_of short g.made) ≡ at = bits_length short g.made ∙ g.long in
@@ -237,7 +240,7 @@ module _ (next : ℕ → Next) (p : ℕ) (short : Bool) (start rows inside n : �
                 ∙ ap (fitted n d 0) (sym (bits_append short g.made row'));
           }
 
-    going_end : left ≤ 0 → 1 ≤ n → n ≡ rows * length r → Tiled next p short start rows inside a r d out (tile.Done bytes value)
+    going_end : left ≤ 0 → 1 ≤ n → n ≡ rows * length r → Tiled next p short start rows inside a r d out (tile_done bytes value)
     unfolding Tiled
     going_end h w k =
         let z : left ≡ 0 = omega arith in
@@ -281,7 +284,7 @@ module _ (c nodes jumps : List ℕ) (p : ℕ) (short : Bool) (start rows inside 
   Goes above row out left at from pos bytes value =
       (t : Tree) → Coded nodes jumps t → Going (symbols t c) p short start rows inside n a r d above row out left at from pos bytes value
 
-  abbrev Tiles : List ℕ → Tile → Type 0
+  abbrev Tiles : List ℕ → Option Tile → Type 0
   Tiles out x = (t : Tree) → Coded nodes jumps t → Tiled (symbols t c) p short start rows inside a r d out x
 
   pub goes_start : Goes a r d rows 0 1 start 0 0
@@ -289,27 +292,27 @@ module _ (c nodes jumps : List ℕ) (p : ℕ) (short : Bool) (start rows inside 
 
   module _ (above row out : List ℕ) (left at from pos bytes value : ℕ) (g : Goes above row out left at from pos bytes value)
       (s : Sizes (length r) n (length d) above row out left at from bytes) where
-    abbrev Rows : List ℕ → Made → Type 0
+    abbrev Rows : List ℕ → Option Made → Type 0
     Rows row' x = (t : Tree) → Coded nodes jumps t → Rowed (symbols t c) p short pos from above row row' x
 
-    pub goes_not : (x : Made) (row' out' : List ℕ) → 0 < left → 1 ≤ length r → n ≡ rows * length r → Rows row' x → x ≡ made.Bad → Tiles out' tile.Bad
+    pub goes_not : (x : Option Made) (row' out' : List ℕ) → 0 < left → 1 ≤ length r → n ≡ rows * length r → Rows row' x → x ≡ None → Tiles out' None
     unfolding Tiled
     goes_not x row' out' h w k o e t i f j =
         going_not (symbols t c) p short start rows inside n a r d above row out left at from pos bytes value (g t i) s h w row'
-        (subst (λ (y : Made). Rowed (symbols t c) p short pos from above row row' y) e (o t i)) f k j
+        (subst (λ (y : Option Made). Rowed (symbols t c) p short pos from above row row' y) e (o t i)) f k j
 
     pub goes_more :
-        (x : Made) (above' row' out' : List ℕ) (q b v : ℕ) → 0 < left → 1 ≤ length r → Rows row' x → x ≡ made.Row q b →
-        above' ≡ put above 0 (bits_of false row') → out' ≡ fitted n out at (bits_of short row') →
+        (x : Option Made) (above' row' out' : List ℕ) (q b v : ℕ) → 0 < left → 1 ≤ length r → Rows row' x → x ≡ row_made q b →
+        above' ≡ row' → out' ≡ fitted n out at (bits_of short row') →
         ((vs : List ℕ) → length vs ≡ at → value ≡ get_or (bits_of short vs) inside 0 → v ≡ get_or (bits_of short (vs ++ row')) inside 0) → length row' ≡ length row →
         Goes above' row' out' (left - 1) (at + length row') 0 q (bytes + b) v
     goes_more x above' row' out' q b v h w o e y z k l t i =
         going_more (symbols t c) p short start rows inside n a r d above row out left at from pos bytes value (g t i) s h w above' row' out' q b v
-        (subst (λ (u : Made). Rowed (symbols t c) p short pos from above row row' u) e (o t i)) y z k l
+        (subst (λ (u : Option Made). Rowed (symbols t c) p short pos from above row row' u) e (o t i)) y z k l
 
-    pub goes_end : left ≤ 0 → 1 ≤ n → n ≡ rows * length r → Tiles out (tile.Done bytes value)
+    pub goes_end : left ≤ 0 → 1 ≤ n → n ≡ rows * length r → Tiles out (tile_done bytes value)
     goes_end h w k t i = going_end (symbols t c) p short start rows inside n a r d above row out left at from pos bytes value (g t i) s h w k
 
-pub few_row : (x : Made) (q b : ℕ) → Few x → x ≡ made.Row q b → b ≤ 24576
+pub few_row : (x : Option Made) (q b : ℕ) → Few x → x ≡ row_made q b → b ≤ 24576
 unfolding Few
 few_row x q b f e = subst Few e f

@@ -4,35 +4,18 @@ use mathlib.Core.Path.{◌≡◌, refl, sym, ap, ◌∙◌}
 use mathlib.Core.List.{List, [], ◌∷◌, ◌++◌, append-nil}
 use mathlib.Core.Bool.{Bool, true, false}
 use native.Mathlib.Omega.{arith}
-use native.Mathlib.Numerals.{add-one}
 use lib.ListN.{length, get_or, set, take, drop, replicate, length-append, length-take, length-drop, drop_of_length-le, get_or-append, get_or-eq_default}
-use lib.Seq.{drop-cons, drop-length, get_or-append-add}
+use lib.Seq.{get_or-append-add}
 use lib.Dec.{leb}
-use borrow.Author.Fill.{fill_none, fill_more}
 use borrow.Author.Tests.{le-leb, lt-leb}
 use borrow.Rule.Slice.PartMut.{mid_of, post_of, put_mid}
+use Rattle.std.specs.Bool.{MatchBool}
+use Rattle.std.specs.List.{AllWithin, HoldsAt}
 use Rattle.wire.specs.Tests.{both}
 use Rattle.wire.specs.Bytes.{put}
 use Rattle.wire.proofs.PutLaws.{put_not, pasted, pasted_none, pasted_more, pasted_all}
 use Rattle.unpack.specs.Unpack.{is_short, all_short, in_range, bits_of_cell, bits_of}
 use Rattle.unpack.specs.Steps.{filled_from, fitted}
-
--- a row of one number under way
-unfoldable pub filled : List ℕ → ℕ → ℕ → List ℕ
-filled d x i = replicate i x ++ drop i d
-
-module _ (d : List ℕ) (x : ℕ) where
-  pub fill_begun : d ≡ filled d x 0
-  unfolding filled
-  fill_begun = fill_none d x
-
-  pub fill_next : (row : List ℕ) (i : ℕ) → row ≡ filled d x i → i < length d → set row i x ≡ filled d x (i + 1)
-  unfolding filled
-  fill_next row i e h = rw e (fill_more i x d h)
-
-  pub fill_all : (row : List ℕ) (i : ℕ) → row ≡ filled d x i → i ≡ length d → row ≡ replicate (length d) x
-  unfolding filled
-  fill_all row i e f = e ∙ rw (f, drop-length d) (append-nil (replicate (length d) x))
 
 -- a part of a row, to its end
 pub fill_part :
@@ -54,23 +37,27 @@ pub short_high : (v : ℕ) → 32767 < v → leb 4294934528 v ≡ is_short v
 unfolding is_short
 short_high v h = rw (lt-leb v 32767 h)
 
-all_cons : (v : ℕ) (vs : List ℕ) → all_short (v ∷ vs) ≡ both (is_short v) (all_short vs)
+-- what is found of each is found of all
+pub shorts : (row : List ℕ) → ((k : ℕ) → k < length row → is_short (get_or row k 0) ≡ true) → true ≡ all_short row
 unfolding all_short
-all_cons v vs = refl
+shorts [] f = refl
+shorts (v ∷ vs) f = rw (f 0 (omega arith)) (shorts vs (λ k h. f (suc k) (omega arith)))
 
-module _ (row : List ℕ) (i : ℕ) (e : all_short (drop i row) ≡ all_short row) where
-  next_short : i < length row → both (is_short (get_or row i 0)) (all_short (drop (i + 1) row)) ≡ all_short row
-  next_short h = sym (all_cons (get_or row i 0) (drop (i + 1) row)) ∙ rw add-one (ap all_short (sym (drop-cons row i 0 h))) ∙ e
+pub no_short : (row : List ℕ) (k : ℕ) → k < length row → is_short (get_or row k 0) ≡ false → false ≡ all_short row
+unfolding all_short
+no_short [] k h e = absurd (omega arith)
+no_short (v ∷ vs) zero h e = rw e
+no_short (v ∷ vs) (suc k) h e = go (is_short v) (no_short vs k (omega arith) e)
+  where
+    go : (b : Bool) → false ≡ all_short vs → false ≡ both b (all_short vs)
+    go true f = f
+    go false f = refl
 
-  pub short_more : (b : Bool) → i < length row → b ≡ is_short (get_or row i 0) → b ≡ true → all_short (drop (i + 1) row) ≡ all_short row
-  short_more b h f g = sym (rw (← f, g)) ∙ next_short h
-
-  pub short_not : (b : Bool) → i < length row → b ≡ is_short (get_or row i 0) → b ≡ false → false ≡ all_short row
-  short_not b h f g = sym (rw (← f, g)) ∙ next_short h
-
-  pub short_all : length row ≤ i → true ≡ all_short row
-  unfolding all_short
-  short_all h = sym (rw (drop_of_length-le row h)) ∙ e
+pub row_shorts :
+    (row : List ℕ) (b : Bool) →
+    MatchBool b (AllWithin (λ v. is_short v ≡ true) row 0 (length row)) ((k : ℕ) × (k < length row) × HoldsAt (λ v. is_short v ≡ false) row k) → b ≡ all_short row
+row_shorts row true h = shorts row (λ k l. h k 0 (omega arith) l)
+row_shorts row false h = no_short row h.0 h.1 (h.2 0)
 
 pub range_short : (short : Bool) (vs : List ℕ) (r : Bool) → short ≡ true → r ≡ all_short vs → r ≡ in_range short vs
 unfolding in_range

@@ -1,5 +1,5 @@
 -- What the functions behind the crate's face come to, a row and a tile at a time. No rule on contents is made here.
-use Rattle.std.specs.Prelude.{ℕ, ◌-◌, ◌*◌, ◌≤◌, ◌≡◌, List, ◌++◌, Bool, true, false, length, get_or, take, replicate, leb}
+use Rattle.std.specs.Prelude.{ℕ, ◌-◌, ◌*◌, ◌≤◌, ◌≡◌, List, ◌++◌, Bool, true, false, Option, Some, None, length, get_or, take, replicate, leb}
 use Rattle.wire.specs.Pick.{pick}
 use Rattle.wire.specs.Bytes.{put}
 use Rattle.m32.specs.M32.{Next, Numbers, read_codes, codes}
@@ -7,13 +7,8 @@ use Rattle.huffman.specs.Tree.{Tree, got}
 use Rattle.huffman.specs.Nodes.{Nodes}
 use Rattle.predict.specs.Predict.{row_of, cell_rows}
 use Rattle.unpack.specs.Unpack.{tree_in, tree_right, in_range, bits_of, Cells, cell_at, cells_in, is_whole}
-use Rattle.unpack.specs.declared.Unpacked.{Unpacked}
-use Rattle.unpack.specs.declared.reading.Behind.{Behind}
-use Rattle.unpack.specs.declared.reading.Behind.TheVariants as behind
 use Rattle.unpack.specs.declared.rows.Made.{Made}
-use Rattle.unpack.specs.declared.rows.Made.TheVariants as made
 use Rattle.unpack.specs.declared.rows.Tile.{Tile}
-use Rattle.unpack.specs.declared.rows.Tile.TheVariants as tile
 
 -- the tree is read and right, and its nodes are there; or it is not right
 pub record RootGood (c nodes : List ℕ) (q : ℕ) : Type 0 where
@@ -22,9 +17,9 @@ pub record RootGood (c nodes : List ℕ) (q : ℕ) : Type 0 where
   pub right : tree_right c ≡ true
   pub laid : Nodes nodes 0 tree
 
-unfoldable pub Rooted : List ℕ → List ℕ → Behind → Type 0
-Rooted c nodes (behind.At q) = RootGood c nodes q
-Rooted c nodes behind.Bad = tree_right c ≡ false
+unfoldable pub Rooted : List ℕ → List ℕ → Option ℕ → Type 0
+Rooted c nodes (Some q) = RootGood c nodes q
+Rooted c nodes None = tree_right c ≡ false
 
 -- a row with one number from a column on
 unfoldable pub filled_from : List ℕ → ℕ → ℕ → List ℕ
@@ -40,9 +35,9 @@ pub record LineGood (next : ℕ → Next) (start from : ℕ) (a b : List ℕ) (q
   pub behind : q ≡ (filling next start from a).behind
   pub is : b ≡ take from a ++ (filling next start from a).numbers
 
-unfoldable pub Lined : (ℕ → Next) → ℕ → ℕ → List ℕ → List ℕ → Behind → Type 0
-Lined next start from a b (behind.At q) = LineGood next start from a b q
-Lined next start from a b behind.Bad = length (filling next start from a).numbers ≡ length a - from → ⊥
+unfoldable pub Lined : (ℕ → Next) → ℕ → ℕ → List ℕ → List ℕ → Option ℕ → Type 0
+Lined next start from a b (Some q) = LineGood next start from a b q
+Lined next start from a b None = length (filling next start from a).numbers ≡ length a - from → ⊥
 
 -- the row of cells that they make, in range; or there are too few, or it is not in range
 pub record RowGood (next : ℕ → Next) (p : ℕ) (short : Bool) (start from : ℕ) (above a b : List ℕ) (q n : ℕ) : Type 0 where
@@ -52,15 +47,15 @@ pub record RowGood (next : ℕ → Next) (p : ℕ) (short : Bool) (start from : 
   pub is : b ≡ row_of p above (take from a ++ (filling next start from a).numbers)
   pub range : in_range short b ≡ true
 
-unfoldable pub Rowed : (ℕ → Next) → ℕ → Bool → ℕ → ℕ → List ℕ → List ℕ → List ℕ → Made → Type 0
-Rowed next p short start from above a b (made.Row q n) = RowGood next p short start from above a b q n
-Rowed next p short start from above a b made.Bad =
+unfoldable pub Rowed : (ℕ → Next) → ℕ → Bool → ℕ → ℕ → List ℕ → List ℕ → List ℕ → Option Made → Type 0
+Rowed next p short start from above a b (Some m) = RowGood next p short start from above a b m.pos m.bytes
+Rowed next p short start from above a b None =
     length (filling next start from a).numbers ≡ length a - from → in_range short (row_of p above (take from a ++ (filling next start from a).numbers)) ≡ true → ⊥
 
 -- each number of a row of at most 4,096 has at most six bytes
-unfoldable pub Few : Made → Type 0
-Few (made.Row q n) = n ≤ 24576
-Few made.Bad = Unit {0}
+unfoldable pub Few : Option Made → Type 0
+Few (Some m) = m.bytes ≤ 24576
+Few None = Unit {0}
 
 -- v in its place where n numbers would fit; else d stays
 unfoldable pub fitted : ℕ → List ℕ → ℕ → List ℕ → List ℕ
@@ -81,12 +76,12 @@ pub record TileGood (next : ℕ → Next) (p : ℕ) (short : Bool) (start rows i
   pub value : v ≡ get_or (bits_of short (tile_values next p start rows above row)) inside 0
   pub is : out ≡ fitted (rows * length row) d 0 (bits_of short (tile_values next p start rows above row))
 
-unfoldable pub Tiled : (ℕ → Next) → ℕ → Bool → ℕ → ℕ → ℕ → List ℕ → List ℕ → List ℕ → List ℕ → Tile → Type 0
-Tiled next p short start rows inside above row d out (tile.Done n v) = TileGood next p short start rows inside above row d out n v
-Tiled next p short start rows inside above row d out tile.Bad =
+unfoldable pub Tiled : (ℕ → Next) → ℕ → Bool → ℕ → ℕ → ℕ → List ℕ → List ℕ → List ℕ → List ℕ → Option Tile → Type 0
+Tiled next p short start rows inside above row d out (Some m) = TileGood next p short start rows inside above row d out m.bytes m.value
+Tiled next p short start rows inside above row d out None =
     length (tile_numbers next start rows (length row)) ≡ rows * length row - 1 → in_range short (tile_values next p start rows above row) ≡ true → ⊥
 
 -- a cell is answered, and where the content is whole its cells are in their place
-pub record Answered (x : Cells) (inside : ℕ) (d out : List ℕ) (r : Unpacked) : Type 0 where
+pub record Answered (x : Cells) (inside : ℕ) (d out : List ℕ) (r : Option ℕ) : Type 0 where
   pub cell : r ≡ cell_at x inside
   pub is : is_whole x ≡ true → out ≡ put d 0 (cells_in x)

@@ -1,17 +1,14 @@
 -- What the content of a compressed element of a tile holds (G 6 and 6.2): the L bytes behind its length field. What is quoted is
 -- document 02, Req 01. A number is that of its 32 bits, so a negative one counts 4294967296 more.
-use Rattle.std.specs.Prelude.{ℕ, ◌+◌, ◌-◌, ◌*◌, ◌%◌, List, [], ◌∷◌, map, Bool, true, false, length, get_or, leb}
+use Rattle.std.specs.Prelude.{ℕ, ◌+◌, ◌-◌, ◌*◌, ◌%◌, List, [], ◌∷◌, map, Bool, true, false, Option, Some, None, length, get_or, leb}
 use Rattle.wire.specs.Pick.{pick}
 use Rattle.wire.specs.Tests.{◌≤?◌, ◌≡?◌, is, both, passes}
 use Rattle.wire.specs.Bytes.{byte_at, u32_at}
 use Rattle.m32.specs.M32.{Next, byte, end, read_codes, codes}
 use Rattle.huffman.specs.Tree.{Tree, Parsed, got, bad, leaves, tree_at}
 use Rattle.huffman.specs.Symbols.{symbol_at, symbols_of, among, distinct}
-use Rattle.huffman.specs.declared.Next as symbol
-use Rattle.huffman.specs.declared.Next.TheVariants.{Byte, End}
+use Rattle.huffman.specs.declared.Symbol.{Symbol}
 use Rattle.predict.specs.Predict.{tile_cells}
-use Rattle.unpack.specs.declared.Unpacked.{Unpacked}
-use Rattle.unpack.specs.declared.Unpacked.TheVariants.{Cell, Malformed}
 
 -- The head: G 6's table, and the byte that introduces the tree (G 6.2, step 1).
 
@@ -56,9 +53,9 @@ tree_right c = passes ((leaves_read (tree_in c) ≡? symbol_count c) ∷ is (dis
 
 -- The numbers, at the bit behind the tree: the symbols that the bits give are the bytes of M32 codes.
 
-abbrev pub as_byte : symbol.Next → Next
-as_byte (Byte y q) = byte y q
-as_byte End = end
+abbrev pub as_byte : Option Symbol → Next
+as_byte (Some s) = byte s.y s.pos
+as_byte None = end
 
 unfoldable pub symbols : Tree → List ℕ → ℕ → Next
 symbols t c p = as_byte (symbol_at t c p)
@@ -123,12 +120,12 @@ unpacked c rows columns short =
     ∷ []))
     (cells (bits_of short (values_of c rows columns))) malformed
 
--- a cell by its number in the tile, 0 past the last
-unfoldable pub cell_at : Cells → ℕ → Unpacked
-cell_at (cells vs) i = Cell (get_or vs i 0)
-cell_at malformed i = Malformed
+-- a cell by its number in the tile, 0 past the last; none of a malformed content
+unfoldable pub cell_at : Cells → ℕ → Option ℕ
+cell_at (cells vs) i = Some (get_or vs i 0)
+cell_at malformed i = None
 
--- and all of them; none of a malformed content
+-- and all of them
 unfoldable pub cells_in : Cells → List ℕ
 cells_in (cells vs) = vs
 cells_in malformed = []

@@ -4,8 +4,6 @@ ghost use Rattle.m32.specs.M32.{codes};
 ghost use Rattle.unpack.specs.Unpack.{head_right, count_right};
 ghost use Rattle.unpack.specs.Steps.{Rooted};
 
-use crate::reading::Behind;
-
 // Whether the sides are those of a tile, and the head is whole and names a predictor.
 pub fn head_right(c: &[u8], rows: u32, columns: u32) -> bool
     ensures { result ≡ head_right c.now rows columns }
@@ -28,23 +26,19 @@ pub fn head_right(c: &[u8], rows: u32, columns: u32) -> bool
     wire::byte_at(c, 1) <= 2
 }
 
-// Reads the tree into 511 nodes, and finds whether it has the leaves that the head tells and no symbol twice.
-pub fn read_root(c: &[u8], nodes: &mut [u32]) -> Behind
+// Reads the tree into 511 nodes, and gives the bit behind it, if it has the leaves that the head tells and no symbol twice.
+pub fn read_root(c: &[u8], nodes: &mut [u32]) -> Option<usize>
     ensures { 511 ≤ length nodes.old → Rooted c.now nodes.new result }
 {
     let count = wire::byte_at(c, 10) + 1;
-    match huffman::tree_of(c, 88, count, nodes) {
-        huffman::Read::Bad => Behind::Bad,
-        huffman::Read::Tree { pos, next, left } => {
-            if left != 0 {
-                return Behind::Bad;
-            }
-            if huffman::symbols_distinct(nodes, next) {
-                return Behind::At(pos);
-            }
-            Behind::Bad
-        }
+    let tree = huffman::tree_of(c, 88, count, nodes)?;
+    if tree.left != 0 {
+        return None;
     }
+    if huffman::symbols_distinct(nodes, tree.next) {
+        return Some(tree.pos);
+    }
+    None
 }
 
 // Whether the count field is the number of numbers or of their bytes.

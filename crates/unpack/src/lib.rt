@@ -13,15 +13,14 @@ ghost use Rattle.unpack.specs.Unpack.{unpacked, cell_at, cells_in, is_whole};
 
 use rows::unpack_into;
 
-// A cell of a content, or that the content is malformed.
-#[derive(Clone, Copy)]
-pub enum Unpacked {
-    Cell(u32),
-    Malformed,
-}
-
-// The bits of the cell with the number `inside` in a tile, 0 past the last, or that the content is malformed. It takes no lent room.
-pub fn unpack_cell(content: &[u8], rows: u32, columns: u32, short: bool, inside: usize) -> Unpacked
+// The bits of the cell with the number `inside` in a tile, 0 past the last; none of a malformed content. It takes no lent room.
+pub fn unpack_cell(
+    content: &[u8],
+    rows: u32,
+    columns: u32,
+    short: bool,
+    inside: usize,
+) -> Option<u32>
     ensures { result ≡ cell_at (unpacked content.now rows columns short) inside }
 {
     let mut none = [0u32; 1];
@@ -34,13 +33,11 @@ pub fn unpack_all(content: &[u8], rows: u32, columns: u32, short: bool, out: &mu
     ensures answer { result ≡ is_whole (unpacked content.now rows columns short) }
     ensures holds { out.new ≡ put out.old 0 (cells_in (unpacked content.now rows columns short)) }
 {
-    match unpack_cell(content, rows, columns, short, 0) {
-        Unpacked::Malformed => false,
-        Unpacked::Cell(_) => {
-            unpack_into(content, rows, columns, short, 0, out);
-            true
-        }
+    if unpack_cell(content, rows, columns, short, 0).is_none() {
+        return false;
     }
+    unpack_into(content, rows, columns, short, 0, out);
+    true
 }
 
 // The same in one pass, for memory that is lent. Where the content is malformed, what the memory then holds is free.
@@ -48,8 +45,5 @@ pub fn unpack_lent(content: &[u8], rows: u32, columns: u32, short: bool, memory:
     ensures answer { result ≡ is_whole (unpacked content.now rows columns short) }
     ensures holds { result ≡ true → memory.new ≡ put memory.old 0 (cells_in (unpacked content.now rows columns short)) }
 {
-    match unpack_into(content, rows, columns, short, 0, memory) {
-        Unpacked::Malformed => false,
-        Unpacked::Cell(_) => true,
-    }
+    unpack_into(content, rows, columns, short, 0, memory).is_some()
 }

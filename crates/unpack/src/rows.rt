@@ -6,24 +6,22 @@ ghost use Rattle.huffman.specs.Jumps.{most_nodes, Coded};
 ghost use Rattle.unpack.specs.Unpack.{predictor_of, head_right, tree_in, tree_right, symbols, unpacked};
 ghost use Rattle.unpack.specs.Steps.{Lined, Rowed, Few, Tiled, Answered};
 
-use crate::Unpacked;
 use crate::head::{count_right, head_right, read_root};
-use crate::reading::{Behind, number_at};
-use crate::values::{cell_or, clear, fill_from, in_range, put_bits, put_of_tile};
-use m32::Found;
+use crate::reading::number_at;
+use crate::values::{cell_or, in_range, put_of_tile};
 
 // A row that was made: the bit behind its numbers, and how many bytes their codes have.
 #[derive(Clone, Copy)]
-pub enum Made {
-    Row { pos: usize, bytes: usize },
-    Bad,
+pub struct Made {
+    pub pos: usize,
+    pub bytes: usize,
 }
 
 // A tile whose rows were all made: how many bytes the codes of its numbers have, and the cell that was asked for.
 #[derive(Clone, Copy)]
-pub enum Tile {
-    Done { bytes: usize, value: u32 },
-    Bad,
+pub struct Tile {
+    pub bytes: usize,
+    pub value: u32,
 }
 
 // What is to be made: by which predictor, whether of Shorts, how many rows and cells, and which cell is asked for.
@@ -45,27 +43,21 @@ fn read_row(
     start: usize,
     from: usize,
     row: &mut [u32],
-) -> Behind
+) -> Option<usize>
     requires { from ≤ length row.old }
     ensures { (t : Tree) → Coded nodes.now jumps.now t → Lined (symbols t c.now) start from row.old row.new result }
 {
-    let mut i = from;
     let mut pos = start;
-    while i < row.len() {
-        match number_at(c, nodes, jumps, pos) {
-            Found::Nothing => return Behind::Bad,
-            Found::Number { x, at } => {
-                if at == pos {
-                    fill_from(row, i, x);
-                    return Behind::At(pos);
-                }
-                row[i] = x;
-                pos = at;
-            }
+    for i in from..row.len() {
+        let number = number_at(c, nodes, jumps, pos)?;
+        if number.at == pos {
+            row[i..].fill(number.x);
+            return Some(pos);
         }
-        i += 1;
+        row[i] = number.x;
+        pos = number.at;
     }
-    Behind::At(pos)
+    Some(pos)
 }
 
 // Reads the numbers of a row from column `from` on, and makes its cells from the row above.
@@ -78,22 +70,18 @@ fn next_row(
     from: usize,
     above: &[u32],
     row: &mut [u32],
-) -> Made
+) -> Option<Made>
     requires { (from ≤ length row.old) × (length row.old ≤ 4096) }
     ensures is { (t : Tree) → Coded nodes.now jumps.now t → Rowed (symbols t c.now) plan.predictor plan.short start from above.now row.old row.new result }
     ensures few { Few result }
 {
-    match read_row(c, nodes, jumps, start, from, row) {
-        Behind::Bad => Made::Bad,
-        Behind::At(pos) => {
-            let bytes = m32::writing::codes_length(&row[from..]);
-            predict::predict_row(plan.predictor, above, row);
-            if in_range(plan.short, row) {
-                return Made::Row { pos, bytes };
-            }
-            Made::Bad
-        }
+    let pos = read_row(c, nodes, jumps, start, from, row)?;
+    let bytes = m32::writing::codes_length(&row[from..]);
+    predict::predict_row(plan.predictor, above, row);
+    if in_range(plan.short, row) {
+        return Some(Made { pos, bytes });
     }
+    None
 }
 
 // Makes every row. The first column of `row` holds the seed, and `above` what stands above the first row.
@@ -106,33 +94,27 @@ fn unpack_rows(
     above: &mut [u32],
     row: &mut [u32],
     out: &mut [u32],
-) -> Tile
+) -> Option<Tile>
     requires sides { (1 ≤ plan.rows) × ((plan.rows ≤ 4096) × ((1 ≤ length row.old) × (length row.old ≤ 4096))) }
     requires shape { (length above.old ≡ length row.old) × ((plan.cells ≡ plan.rows * length row.old) × (plan.cells ≤ 16777216)) }
     ensures { (t : Tree) → Coded nodes.now jumps.now t → Tiled (symbols t c.now) plan.predictor plan.short start plan.rows plan.inside above.old row.old out.old out.new result }
 {
-    let mut left = plan.rows;
     let mut at = 0;
     let mut from = 1;
     let mut pos = start;
     let mut bytes = 0;
     let mut value = 0;
-    while 0 < left {
-        match next_row(c, nodes, jumps, plan, pos, from, above, row) {
-            Made::Bad => return Tile::Bad,
-            Made::Row { pos: q, bytes: n } => {
-                pos = q;
-                bytes += n;
-                value = cell_or(value, at, plan.short, row, plan.inside);
-                put_of_tile(out, plan.cells, at, plan.short, row);
-                put_bits(above, 0, false, row);
-            }
-        }
+    'rows: for _ in 0..plan.rows {
+        let made = next_row(c, nodes, jumps, plan, pos, from, above, row)?;
+        pos = made.pos;
+        bytes += made.bytes;
+        value = cell_or(value, at, plan.short, row, plan.inside);
+        put_of_tile(out, plan.cells, at, plan.short, row);
+        above.copy_from_slice(row);
         at += row.len();
         from = 0;
-        left -= 1;
     }
-    Tile::Done { bytes, value }
+    Some(Tile { bytes, value })
 }
 
 // The same by the nodes alone, with room for jumps, of which as many are made as there is room for.
@@ -145,7 +127,7 @@ fn rows_with(
     above: &mut [u32],
     row: &mut [u32],
     out: &mut [u32],
-) -> Tile
+) -> Option<Tile>
     requires few { length nodes.now ≤ most_nodes }
     requires sides { (1 ≤ plan.rows) × ((plan.rows ≤ 4096) × ((1 ≤ length row.old) × (length row.old ≤ 4096))) }
     requires shape { (length above.old ≡ length row.old) × ((plan.cells ≡ plan.rows * length row.old) × (plan.cells ≤ 16777216)) }
@@ -164,7 +146,7 @@ fn all_rows(
     above: &mut [u32],
     row: &mut [u32],
     out: &mut [u32],
-) -> Tile
+) -> Option<Tile>
     requires few { length nodes.now ≤ most_nodes }
     requires sides { (1 ≤ plan.rows) × ((plan.rows ≤ 4096) × ((1 ≤ length row.old) × (length row.old ≤ 4096))) }
     requires shape { (length above.old ≡ length row.old) × ((plan.cells ≡ plan.rows * length row.old) × (plan.cells ≤ 16777216)) }
@@ -185,24 +167,20 @@ fn unpack_tile(
     above: &mut [u32],
     row: &mut [u32],
     out: &mut [u32],
-) -> Unpacked
+) -> Option<u32>
     requires few { length nodes.now ≤ most_nodes }
     requires head { head_right c.now plan.rows (length row.old) ≡ true }
     requires shape { (length above.old ≡ length row.old) × ((plan.cells ≡ plan.rows * length row.old) × (plan.predictor ≡ predictor_of c.now)) }
     ensures { (t : Tree) → Nodes nodes.now 0 t → tree_in c.now ≡ got t start → tree_right c.now ≡ true → Answered (unpacked c.now plan.rows (length row.old) plan.short) plan.inside out.old out.new result }
 {
-    clear(above);
+    above.fill(0);
     row[0] = wire::u32_at(c, 2);
-    match all_rows(c, nodes, plan, start, above, row, out) {
-        Tile::Bad => Unpacked::Malformed,
-        Tile::Done { bytes, value } => {
-            let count = wire::u32_at(c, 6);
-            if count_right(count, plan.cells - 1, bytes) {
-                return Unpacked::Cell(value);
-            }
-            Unpacked::Malformed
-        }
+    let tile = all_rows(c, nodes, plan, start, above, row, out)?;
+    let count = wire::u32_at(c, 6);
+    if count_right(count, plan.cells - 1, tile.bytes) {
+        return Some(tile.value);
     }
+    None
 }
 
 // The cell with the number `inside` in the tile, and into `out` all of them, where the content is not malformed.
@@ -213,35 +191,31 @@ pub fn unpack_into(
     short: bool,
     inside: usize,
     out: &mut [u32],
-) -> Unpacked
+) -> Option<u32>
     ensures { Answered (unpacked c.now rows columns short) inside out.old out.new result }
 {
-    if head_right(c, rows, columns) {
-        let mut nodes = [0u32; 511];
-        match read_root(c, &mut nodes) {
-            Behind::Bad => return Unpacked::Malformed,
-            Behind::At(start) => {
-                let width = columns as usize;
-                let mut above = [0u32; 4096];
-                let mut row = [0u32; 4096];
-                let plan = Plan {
-                    predictor: wire::byte_at(c, 1),
-                    short,
-                    rows: rows as usize,
-                    cells: rows as usize * width,
-                    inside,
-                };
-                return unpack_tile(
-                    c,
-                    &nodes,
-                    start,
-                    plan,
-                    &mut above[..width],
-                    &mut row[..width],
-                    out,
-                );
-            }
-        }
+    if !head_right(c, rows, columns) {
+        return None;
     }
-    Unpacked::Malformed
+    let mut nodes = [0u32; 511];
+    let start = read_root(c, &mut nodes)?;
+    let width = columns as usize;
+    let mut above = [0u32; 4096];
+    let mut row = [0u32; 4096];
+    let plan = Plan {
+        predictor: wire::byte_at(c, 1),
+        short,
+        rows: rows as usize,
+        cells: rows as usize * width,
+        inside,
+    };
+    unpack_tile(
+        c,
+        &nodes,
+        start,
+        plan,
+        &mut above[..width],
+        &mut row[..width],
+        out,
+    )
 }

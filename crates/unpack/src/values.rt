@@ -1,35 +1,8 @@
 // The numbers of cells: their range, their bits, and where they go.
-ghost use Rattle.std.specs.Prelude.{◌≡◌, List, ◌++◌, ℕ, ◌≤◌, length, get_or, replicate};
+ghost use Rattle.std.specs.Prelude.{◌≡◌, List, ◌++◌, ℕ, length, get_or};
 ghost use Rattle.wire.specs.Bytes.{put};
-ghost use Rattle.predict.specs.Predict.{no_row};
 ghost use Rattle.unpack.specs.Unpack.{is_short, all_short, in_range, bits_of_cell, bits_of};
-ghost use Rattle.unpack.specs.Steps.{filled_from, fitted};
-
-// Makes a row of one number.
-pub fn fill(row: &mut [u32], x: u32)
-    ensures { row.new ≡ replicate (length row.old) x }
-{
-    let mut i = 0;
-    while i < row.len() {
-        row[i] = x;
-        i += 1;
-    }
-}
-
-// Makes a row of zeros, as it stands above the first.
-pub fn clear(row: &mut [u32])
-    ensures { row.new ≡ no_row (length row.old) }
-{
-    fill(row, 0);
-}
-
-// One number from a column on.
-pub(crate) fn fill_from(row: &mut [u32], from: usize, x: u32)
-    requires { from ≤ length row.old }
-    ensures { row.new ≡ filled_from row.old from x }
-{
-    fill(&mut row[from..], x);
-}
+ghost use Rattle.unpack.specs.Steps.{fitted};
 
 // Whether a number is a Short's.
 fn is_short(v: u32) -> bool
@@ -45,15 +18,7 @@ fn is_short(v: u32) -> bool
 fn all_short(row: &[u32]) -> bool
     ensures { result ≡ all_short row.now }
 {
-    let mut i = 0;
-    while i < row.len() {
-        if is_short(row[i]) {
-            i += 1;
-        } else {
-            return false;
-        }
-    }
-    true
+    row.iter().all(|v| is_short(*v))
 }
 
 // Whether the numbers of a row are in the range of their type.
@@ -86,10 +51,8 @@ pub fn put_bits(out: &mut [u32], at: usize, short: bool, row: &[u32])
     if out.len() - row.len() < at {
         return;
     }
-    let mut i = 0;
-    while i < row.len() {
-        out[at + i] = cell_bits(short, row[i]);
-        i += 1;
+    for (i, v) in row.iter().enumerate() {
+        out[at + i] = cell_bits(short, *v);
     }
 }
 

@@ -1,12 +1,14 @@
 -- One byte more, and the loop. Assumes nothing.
 use Prim.Native.Nat.{ℕ, zero, suc, ◌+◌, ◌-◌, ◌≤◌, ◌<◌}
-use mathlib.Core.Path.{◌≡◌, refl}
+use mathlib.Core.Path.{◌≡◌, refl, ◌∙◌}
 use mathlib.Core.List.{List, [], ◌∷◌}
 use mathlib.Core.Bool.{Bool, true, false}
+use borrow.Author.Tests.{ne_eqb}
 use native.Mathlib.Omega.{arith}
 use native.Mathlib.Numerals.{add-one}
 use lib.ListN.{length, get_or, drop, drop_of_length-le}
 use lib.Seq.{drop-cons}
+use Rattle.std.specs.Prelude.{nat_eq}
 use Rattle.utf8.specs.Utf8.{octet, tail, rows, never, following, goes_on, utf8}
 use Rattle.utf8.specs.inner.Wanted.{tails, wanted_of}
 use Rattle.utf8.proofs.OctetLaws.{octet_out}
@@ -50,15 +52,14 @@ pub loop_begin : (p : ℕ → Bool) (s : List ℕ) → goes_from (wanted_of 0 p)
 unfolding goes_from utf8 wanted_of
 loop_begin p s = refl
 
-pub loop_step : (v w : List (ℕ → Bool)) (s : List ℕ) (i : ℕ) → i < length s → ((bs : List ℕ) → goes_on v bs ≡ goes_on w (get_or s i 0 ∷ bs)) → goes_from v s (i + 1) ≡ goes_from w s i
+pub loop_step :
+    (v w : List (ℕ → Bool)) (s : List ℕ) (i x : ℕ) → i < length s → x ≡ get_or s i 0 → ((bs : List ℕ) → goes_on v bs ≡ goes_on w (x ∷ bs)) →
+    goes_from v s (i + 1) ≡ goes_from w s i
 unfolding goes_from
-loop_step v w s i h f = rw (add-one, drop-cons s i 0) (f (drop (suc i) s))
+loop_step v w s i x h e f = rw (add-one, drop-cons s i 0, ← e) (f (drop (suc i) s))
 
-module _ (p : ℕ → Bool) (left : ℕ) (s : List ℕ) (i : ℕ) (e : goes_from (wanted_of left p) s i ≡ utf8 s) (h : length s ≤ i) where
-  pub loop_yes : left ≡ 0 → true ≡ utf8 s
-  unfolding goes_from goes_on wanted_of
-  loop_yes k = rw (k, drop_of_length-le s h) at e
-
-  pub loop_no : (left ≡ 0 → ⊥) → false ≡ utf8 s
-  unfolding goes_from goes_on
-  loop_no k = rw (wanted_more left p k, drop_of_length-le s h) at e
+-- where all bytes are read, they are UTF-8 just if none is wanted
+pub loop_end : (p : ℕ → Bool) (left : ℕ) (s : List ℕ) (i : ℕ) → goes_from (wanted_of left p) s i ≡ utf8 s → length s ≤ i → nat_eq left 0 ≡ utf8 s
+unfolding goes_from goes_on wanted_of
+loop_end p zero s i e h = rw (drop_of_length-le s h) at e
+loop_end p (suc left) s i e h = ne_eqb (suc left) 0 (λ z. omega arith) ∙ rw (drop_of_length-le s h) at e

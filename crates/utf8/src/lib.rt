@@ -5,6 +5,7 @@ ghost use Rattle.std.specs.Prelude.{◌≡◌, List, ◌∷◌, ℕ};
 ghost use Rattle.utf8.specs.Utf8.{rows, following, goes_on, utf8};
 ghost use Rattle.utf8.specs.inner.Wanted.{wanted};
 
+// No str::from_utf8: its contract is in the words of std, so this table would have to be proved to be the same grammar.
 // How many bytes are still wanted, and the lowest and the highest that the next may be.
 #[derive(Clone, Copy)]
 struct Wanted(u32, u32, u32);
@@ -51,13 +52,8 @@ pub fn is_utf8(text: &[u8]) -> bool
     ensures { result ≡ utf8 text.now }
 {
     let mut w = Wanted(0, 0x80, 0xBF);
-    let mut i = 0;
-    while i < text.len() {
-        w = step(w, text[i] as u32);
-        i += 1;
+    for b in text {
+        w = step(w, u32::from(*b));
     }
-    if w.0 == 0 {
-        return true;
-    }
-    false
+    w.0 == 0
 }

@@ -293,15 +293,15 @@ same_self (z ∷ zs) = rw (eq-eqb z z refl) (same_self zs)
 pub is_same : (x y : List ℕ) → x ≡ y → same_bytes x y ≡ true
 is_same x y e = rw e (same_self y)
 
--- a position that is clipped to the list's end reads as the position itself
+-- a position that is clipped to a bound behind the list's end reads as the position itself
 
-pub clipped_number : (w : ℕ) (s : List ℕ) (at p : ℕ) → 0 < w → p ≡ min at (length s) → number_at w s p ≡ number_at w s at
-clipped_number w s at p h e =
-    by_cases (dec_le at (length s)) (λ k. let f : p ≡ at = omega arith in rw f)
-    (λ n. let f : p ≡ length s = omega arith in rw f (sym (number_out w s (length s) (omega arith)) ∙ number_out w s at (omega arith)))
+pub saturated_number : (w : ℕ) (s : List ℕ) (at p m : ℕ) → 0 < w → length s ≤ m → p ≡ min at m → number_at w s p ≡ number_at w s at
+saturated_number w s at p m h l e =
+    by_cases (dec_le at m) (λ k. let f : p ≡ at = omega arith in rw f)
+    (λ n. sym (number_out w s p (omega arith)) ∙ number_out w s at (omega arith))
 
-pub clipped_byte : (s : List ℕ) (at p : ℕ) → p ≡ min at (length s) → byte_at s p ≡ byte_at s at
-clipped_byte s at p e = number_one s p ∙ clipped_number 1 s at p (omega arith) e ∙ sym (number_one s at)
+pub saturated_byte : (s : List ℕ) (at p m : ℕ) → length s ≤ m → p ≡ min at m → byte_at s p ≡ byte_at s at
+saturated_byte s at p m l e = number_one s p ∙ saturated_number 1 s at p m (omega arith) l e ∙ sym (number_one s at)
 
 -- lists that begin with the same bytes
 

@@ -9,6 +9,9 @@ use native.Mathlib.Decide.{dec_le}
 use native.Mathlib.Omega.{arith}
 use lib.ListN.{length}
 use lib.Dec.{eqb}
+use Rattle.std.specs.Prelude.{position, not, ◌==◌, nat_lt, cond, Some, None}
+use Rattle.std.specs.List.{zip, position_or_len}
+use Rattle.std.proofs.lemmas.Slice.Zip.{length-zip}
 use borrow.Author.Tests.{eqb-true, eqb-false, eq-eqb, ne_eqb}
 use Rattle.wire.specs.declared.Compared.{Compared}
 use Rattle.wire.specs.Pick.{pick}
@@ -61,6 +64,17 @@ unfolding agreeing
 all_agree [] = refl
 all_agree (x ∷ xs) = rw (eq-eqb x x refl) (ap suc (all_agree xs))
 
+-- as many pairs agree as stand before the first that differs
+agree_first : (a b : List ℕ) → position_or_len (λ p. not (p.0 == p.1)) (zip a b) ≡ agreeing a b
+unfolding agreeing
+agree_first [] ys = refl
+agree_first (x ∷ xs) [] = refl
+agree_first (x ∷ xs) (y ∷ ys) = go (eqb x y) (agree_first xs ys)
+  where
+    go : (q : Bool) → position_or_len (λ p. not (p.0 == p.1)) (zip xs ys) ≡ agreeing xs ys → cond (not (not q)) (1 + position_or_len (λ p. not (p.0 == p.1)) (zip xs ys)) 0 ≡ pick q (suc (agreeing xs ys)) 0
+    go true e = omega arith
+    go false e = refl
+
 module _ (a b : List ℕ) where
   apart_not : {C : Type 0} {k : ℕ} → Apart a b k → a ≡ b → C
   apart_not {k} p e = absurd (p.other (ap (λ (l : List ℕ). byte_at l k) e))
@@ -106,6 +120,18 @@ module _ (a b : List ℕ) where
 
   pub told_first : {n k : ℕ} → Apart a b k → n ≡ k + 1 → record { equal = false; pairs = n } ≡ compared a b
   told_first p m = told (not_same (apart_not p)) (m ∙ sym (pairs_first p))
+
+  first_other : length a ≡ length b → position (λ p. not (p.0 == p.1)) (zip a b) ≡ cond (nat_lt (agreeing a b) (length a)) (Some (agreeing a b)) None
+  first_other l = let z : length (zip a b) ≡ length a = length-zip a b ∙ omega arith in rw (agree_first a b, z) refl
+
+  pub told_some : {k : ℕ} → length a ≡ length b → Some k ≡ position (λ p. not (p.0 == p.1)) (zip a b) → record { equal = false; pairs = k + 1 } ≡ compared a b
+  told_some {k} l e = ⊎_elim
+      (λ q. absurd (grind (arith, e ∙ first_other l, pairs_all q, all_agree a, ap (agreeing a) q)))
+      (λ p. told_first p (grind (arith, e ∙ first_other l, p.inside)))
+      (equal_or_apart a b l)
+
+  pub told_no_other : length a ≡ length b → None ≡ position (λ p. not (p.0 == p.1)) (zip a b) → record { equal = true; pairs = length a } ≡ compared a b
+  told_no_other l e = ⊎_elim (λ q. told_all q refl) (λ p. absurd (grind (arith, e ∙ first_other l, p.inside))) (equal_or_apart a b l)
 
   pub told_equal : {c : Compared} → c ≡ compared a b → c.equal ≡ same_bytes a b
   unfolding compared

@@ -9,3 +9,5 @@ pub mod ListLaws
 pub mod CountLaws
 pub mod BigLaws
 pub mod RunLaws
+pub mod RangeLaws
+pub mod StdLaws

@@ -10,6 +10,9 @@ use mathlib.Core.Path.{◌≡◌, refl, sym, ap, ap₂, ◌∙◌}
 use mathlib.Core.List.{List, [], ◌∷◌, ◌++◌, append_assoc}
 use lib.ListN.{length, take, drop, set, get_or, length-append, length-take, length-drop, get_or-append}
 use lib.Dec.{leb}
+use borrow.Rule.Slice.PartMut.{put_mid}
+use Rattle.std.proofs.lemmas.Slice.{put_mid-paste}
+use Rattle.std.proofs.lemmas.List.Edits.{paste_all}
 use lib.Seq.{get_or-take, take_at, drop-append-add, drop-drop, paste, paste-zero, paste-suc, take-length, set_split}
 use borrow.Author.Tests.{le-leb, lt-leb}
 use Rattle.wire.specs.Pick.{pick}
@@ -216,6 +219,15 @@ module _ (d : List ℕ) (at : ℕ) (s : List ℕ) where
   pub pasted_all : (i : ℕ) → i ≡ length s → at + length s ≤ length d → pasted d at s i ≡ put d at s
   unfolding pasted
   pasted_all i e h = rw (e, take-length) (sym (put_fits d at s h))
+
+-- a part that is overwritten by as many bytes as it has
+pub mid_put : (d : List ℕ) (at n : ℕ) (v : List ℕ) {w : List ℕ} → w ≡ v → length v ≡ n → at + n ≤ length d → put_mid at (at + n - at) d w ≡ put d at v
+mid_put d at n v e l h =
+    put_mid-paste at (at + n - at) d _ v n e (omega arith) (omega arith)
+    ∙ paste_all d at v n (omega arith)
+    ∙ sym (append_assoc (take at d) v (drop (at + n) d))
+    ∙ ap (λ (i : ℕ). take at d ++ v ++ drop (at + i) d) (sym l)
+    ∙ sym (put_fits d at v (omega arith))
 
 -- what is n long and does not fit is not written
 pub put_out : (d : List ℕ) (at : ℕ) (v : List ℕ) {n : ℕ} → length v ≡ n → length d < at + n → d ≡ put d at v

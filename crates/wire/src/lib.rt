@@ -4,8 +4,10 @@
 pub mod big;
 pub mod writing;
 
-ghost use Rattle.std.specs.Prelude.{◌≡◌, ◌+◌, ◌<◌, min, length, get_or};
-ghost use Rattle.wire.specs.Bytes.{byte_at, part, number_at, part_at, same_bytes};
+ghost use Rattle.std.specs.Prelude.{◌≡◌, ◌==◌, not, ◌+◌, ◌<◌, length, get_or, position, IfSome};
+ghost use Rattle.std.specs.List.{zip};
+ghost use Rattle.wire.specs.Bytes.{byte_at, part, number, number_at, part_at, same_bytes};
+ghost use Rattle.wire.specs.Big.{big_from, big_at};
 ghost use Rattle.wire.specs.Compare.{compared};
 
 // The largest Integer (G Table 4): a four-byte number above it is a negative one.
@@ -19,57 +21,37 @@ pub fn byte_at(s: &[u8], at: usize) -> u32
     if at < s.len() { s[at] as u32 } else { 0 }
 }
 
+// The N bytes at a position, as both orders read them; zeros where they do not lie whole in the slice.
+pub(crate) fn bytes_at<const N: usize>(s: &[u8], at: usize) -> [u8; N]
+    ensures lowest_first { number result ≡ number_at N s.now at }
+    ensures highest_first { big_from 0 result ≡ big_at N s.now at }
+{
+    match part_of(s, at, N).first_chunk() {
+        Some(bytes) => *bytes,
+        None => [0; N],
+    }
+}
+
 // The number of two bytes at a position.
 pub fn u16_at(s: &[u8], at: usize) -> u32
     ensures is { result ≡ number_at 2 s.now at }
     ensures small { result < 65536 }
 {
-    if s.len() < 2 {
-        return 0;
-    }
-    if s.len() - 2 < at {
-        return 0;
-    }
-    byte_at(s, at) + 256 * byte_at(s, at + 1)
+    u32::from(u16::from_le_bytes(bytes_at(s, at)))
 }
 
 // The number of four bytes at a position.
 pub fn u32_at(s: &[u8], at: usize) -> u32
     ensures { result ≡ number_at 4 s.now at }
 {
-    if s.len() < 4 {
-        return 0;
-    }
-    if s.len() - 4 < at {
-        return 0;
-    }
-    u16_at(s, at) + 65536 * u16_at(s, at + 2)
+    u32::from_le_bytes(bytes_at(s, at))
 }
 
 // The number of eight bytes at a position.
 pub fn u64_at(s: &[u8], at: usize) -> u64
     ensures { result ≡ number_at 8 s.now at }
 {
-    if s.len() < 8 {
-        return 0;
-    }
-    if s.len() - 8 < at {
-        return 0;
-    }
-    u32_at(s, at) as u64 + 4294967296 * (u32_at(s, at + 4) as u64)
-}
-
-// The position d behind another, or the slice's end where that comes first.
-fn clipped(s: &[u8], at: usize, d: usize) -> usize
-    ensures { result ≡ min (at + d) (length s.now) }
-{
-    if s.len() <= at {
-        return s.len();
-    }
-    if s.len() - at <= d {
-        return s.len();
-    }
-    at + d
+    u64::from_le_bytes(bytes_at(s, at))
 }
 
 // The same reads, d behind a position, however large the sum.
@@ -77,36 +59,33 @@ pub fn byte_off(s: &[u8], at: usize, d: usize) -> u32
     ensures is { result ≡ byte_at s.now (at + d) }
     ensures small { result < 256 }
 {
-    byte_at(s, clipped(s, at, d))
+    byte_at(s, at.saturating_add(d))
 }
 
 pub fn u16_off(s: &[u8], at: usize, d: usize) -> u32
     ensures is { result ≡ number_at 2 s.now (at + d) }
     ensures small { result < 65536 }
 {
-    u16_at(s, clipped(s, at, d))
+    u16_at(s, at.saturating_add(d))
 }
 
 pub fn u32_off(s: &[u8], at: usize, d: usize) -> u32
     ensures { result ≡ number_at 4 s.now (at + d) }
 {
-    u32_at(s, clipped(s, at, d))
+    u32_at(s, at.saturating_add(d))
 }
 
 pub fn u64_off(s: &[u8], at: usize, d: usize) -> u64
     ensures { result ≡ number_at 8 s.now (at + d) }
 {
-    u64_at(s, clipped(s, at, d))
+    u64_at(s, at.saturating_add(d))
 }
 
 // A number of a slice of numbers, 0 past the end.
 pub fn number_in(numbers: &[u32], i: usize) -> u32
     ensures { result ≡ get_or numbers.now i 0 }
 {
-    if i < numbers.len() {
-        return numbers[i];
-    }
-    0
+    numbers.get(i).copied().unwrap_or(0)
 }
 
 // The n bytes from a position on, as that part of the slice itself; the empty part where they do not lie whole in it.
@@ -126,10 +105,19 @@ pub fn part_of(s: &[u8], at: usize, n: usize) -> &[u8]
 }
 
 // What a comparison tells: whether the bytes are the same, and how many pairs of them it read.
+// No Result: the pairs count where the bytes are the same and where they differ, so each arm would say them.
 #[derive(Clone, Copy)]
 pub struct Compared {
     pub equal: bool,
     pub pairs: usize,
+}
+
+// The first place where two slices differ, as far as both go.
+fn first_other(a: &[u8], b: &[u8]) -> Option<usize>
+    ensures is { result ≡ position (λ p. not (p.0 == p.1)) (zip a.now b.now) }
+    ensures inside { IfSome result (λ i. i < length a.now) }
+{
+    a.iter().zip(b).position(|(x, y)| x != y)
 }
 
 // Compares two slices, pair by pair, up to the first that differs; none where the lengths differ.
@@ -142,26 +130,21 @@ pub fn compare(a: &[u8], b: &[u8]) -> Compared
             pairs: 0,
         };
     }
-    let mut i = 0;
-    while i < a.len() {
-        if a[i] != b[i] {
-            return Compared {
-                equal: false,
-                pairs: i + 1,
-            };
-        }
-        i += 1;
-    }
-    Compared {
-        equal: true,
-        pairs: i,
+    match first_other(a, b) {
+        Some(i) => Compared {
+            equal: false,
+            pairs: i + 1,
+        },
+        None => Compared {
+            equal: true,
+            pairs: a.len(),
+        },
     }
 }
 
-// Whether two slices hold the same bytes.
+// Whether two slices hold the same bytes. Not `==`: each comparison of names goes through `compare`, which counts what it reads.
 pub fn same_bytes(a: &[u8], b: &[u8]) -> bool
     ensures { result ≡ same_bytes a.now b.now }
 {
-    let c = compare(a, b);
-    c.equal
+    compare(a, b).equal
 }

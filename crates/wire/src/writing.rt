@@ -11,49 +11,18 @@ pub fn put_byte(out: &mut [u8], at: usize, v: u8)
     }
 }
 
-// The two lowest bytes of a number, lowest first.
-fn put_u16(out: &mut [u8], at: usize, v: u32)
-    ensures { out.new ≡ put out.old at (bytes_of 2 v) }
-{
-    let n = out.len();
-    if n < 2 {
-        return;
-    }
-    if n - 2 < at {
-        return;
-    }
-    put_byte(out, at, (v % 256) as u8);
-    put_byte(out, at + 1, (v / 256 % 256) as u8);
-}
-
-// The four bytes of a number.
+// The four bytes of a number, lowest first.
 pub fn put_u32(out: &mut [u8], at: usize, v: u32)
     ensures { out.new ≡ put out.old at (bytes_of 4 v) }
 {
-    let n = out.len();
-    if n < 4 {
-        return;
-    }
-    if n - 4 < at {
-        return;
-    }
-    put_u16(out, at, v);
-    put_u16(out, at + 2, v / 65536);
+    put_bytes(out, at, &v.to_le_bytes());
 }
 
 // The eight bytes of a number.
 pub fn put_u64(out: &mut [u8], at: usize, v: u64)
     ensures { out.new ≡ put out.old at (bytes_of 8 v) }
 {
-    let n = out.len();
-    if n < 8 {
-        return;
-    }
-    if n - 8 < at {
-        return;
-    }
-    put_u32(out, at, (v % 4294967296) as u32);
-    put_u32(out, at + 4, (v / 4294967296) as u32);
+    put_bytes(out, at, &v.to_le_bytes());
 }
 
 // A whole slice.
@@ -66,11 +35,7 @@ pub fn put_bytes(out: &mut [u8], at: usize, src: &[u8])
     if out.len() - src.len() < at {
         return;
     }
-    let mut i = 0;
-    while i < src.len() {
-        out[at + i] = src[i];
-        i += 1;
-    }
+    out[at..at + src.len()].copy_from_slice(src);
 }
 
 // Zeros: padding and reserved fields.
@@ -83,9 +48,5 @@ pub fn put_zeros(out: &mut [u8], at: usize, n: usize)
     if out.len() - n < at {
         return;
     }
-    let mut i = 0;
-    while i < n {
-        out[at + i] = 0;
-        i += 1;
-    }
+    out[at..at + n].fill(0);
 }

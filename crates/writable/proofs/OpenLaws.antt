@@ -1,4 +1,5 @@
 -- A page is open for writing exactly when it is sound, opened, and so on; so it is sound. Assumes nothing.
+use Rattle.std.specs.Prelude.{None, Ok, Option, Result, Some, ⊤}
 use Prim.Native.Nat.{ℕ}
 use mathlib.Core.Path.{◌≡◌, refl, sym}
 use mathlib.Core.List.{List, [], ◌∷◌}
@@ -12,11 +13,7 @@ use Rattle.wire.specs.Lists.{every}
 use Rattle.wire.proofs.TestLaws.{means, yes}
 use Rattle.answer.specs.declared.Refusal.{Refusal}
 use Rattle.answer.specs.declared.Refusal.TheVariants.{Opened, Chain, Checksum, Body}
-use Rattle.answer.specs.declared.Verdict.{Verdict}
-use Rattle.answer.specs.declared.Verdict.TheVariants.{Accepted}
 use Rattle.answer.specs.Refusals.{refusal_number, verdict_number, gate}
-use Rattle.record.specs.declared.Found.{Found}
-use Rattle.record.specs.declared.Found.TheVariants.{At, Nothing}
 use Rattle.record.specs.Record.{content_at}
 use Rattle.record.specs.Chain.{records, records_of}
 use Rattle.bodies.specs.TileDirectory.{tile_directory_at, first_row, first_column}
@@ -33,12 +30,12 @@ use Rattle.writable.specs.Writable.{is_opened, records_right, directory_full, no
 
 -- stages 1 to 5
 
-gate_through : (b : Bool) (r : Refusal) (v : Verdict) → verdict_number (gate b r v) ≡ 5 → (refusal_number r ≡ 5 → ⊥) → (b ≡ true) × (verdict_number v ≡ 5)
+gate_through : (b : Bool) (r : Refusal) (v : Result ⊤ Refusal) → verdict_number (gate b r v) ≡ 5 → (refusal_number r ≡ 5 → ⊥) → (b ≡ true) × (verdict_number v ≡ 5)
 unfolding gate
 gate_through true r v e z = (refl, e)
 gate_through false r v e z = absurd (z e)
 
-gate_shut : (b : Bool) → verdict_number (gate b Opened Accepted) ≡ 5 → b ≡ false
+gate_shut : (b : Bool) → verdict_number (gate b Opened (Ok tt)) ≡ 5 → b ≡ false
 unfolding gate
 gate_shut true e = absurd (omega arith)
 gate_shut false e = refl
@@ -58,19 +55,19 @@ header_opened s h c = rw (h.block, h.version, h.header, h.ceilings, c)
 
 -- stages 6 to 8
 
-pub records_pass : (s : List ℕ) → records_right s ≡ true → check_records s Accepted ≡ Accepted
+pub records_pass : (s : List ℕ) → records_right s ≡ true → check_records s (Ok tt) ≡ Ok tt
 unfolding records_right check_records unless
 records_pass s e = go (chain_fault s) (checksum_fault s) (body_fault s) (means _ e).0
   where
     go :
-        (f g h : Found) → verdict_number (unless f Chain (unless g Checksum (unless h Body Accepted))) ≡ 0 →
-        unless f Chain (unless g Checksum (unless h Body Accepted)) ≡ Accepted
-    go (At x) g h z = absurd (omega arith)
-    go Nothing (At x) h z = absurd (omega arith)
-    go Nothing Nothing (At x) z = absurd (omega arith)
-    go Nothing Nothing Nothing z = refl
+        (f g h : Option ℕ) → verdict_number (unless f Chain (unless g Checksum (unless h Body (Ok tt)))) ≡ 0 →
+        unless f Chain (unless g Checksum (unless h Body (Ok tt))) ≡ Ok tt
+    go (Some x) g h z = absurd (omega arith)
+    go None (Some x) h z = absurd (omega arith)
+    go None None (Some x) z = absurd (omega arith)
+    go None None None z = refl
 
-pub pass_records : (s : List ℕ) → check_records s Accepted ≡ Accepted → records_right s ≡ true
+pub pass_records : (s : List ℕ) → check_records s (Ok tt) ≡ Ok tt → records_right s ≡ true
 unfolding records_right passes
 pass_records s e = rw e
 
@@ -114,7 +111,7 @@ means_open s xs o =
     let n : no_file_space s ≡ true = sym (yes _ (o.no_reference, (records_none s 3 o.no_directory, tt))) in
     let d : directories_open s ≡ true = sym (yes _ (p.tile_directory, (o.full, (p.metadata_directory_lem, (n, tt))))) in
     let j : nothing_to_join (pieces s) ≡ true = rw (records_are s xs p) o.none_adjoin in
-    sym (yes _ (header_opened s p.headed o.opened, (pass_records s (sound_records s xs p Accepted), (d, (j, tt)))))
+    sym (yes _ (header_opened s p.headed o.opened, (pass_records s (sound_records s xs p (Ok tt)), (d, (j, tt)))))
 
 pub open_exactly : OpenExactly
 open_exactly s = (open_means s, means_open s (records s))

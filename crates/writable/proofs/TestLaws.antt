@@ -1,13 +1,13 @@
 -- Functions that ask one test behind the other. Assumes nothing.
+use Rattle.std.specs.Prelude.{Ok, Result, ⊤}
+use Rattle.answer.specs.declared.Refusal.{Refusal}
 use Prim.Native.Nat.{ℕ}
 use mathlib.Core.Path.{◌≡◌, sym, ◌∙◌}
 use mathlib.Core.List.{List, [], ◌∷◌}
 use mathlib.Core.Bool.{Bool, true, false}
 use Rattle.wire.specs.Tests.{Test, ◌≡?◌, is, passes}
 use Rattle.wire.proofs.TestLaws.{yes, no, not_both, either_way}
-use Rattle.answer.specs.declared.Verdict.{Verdict}
 use Rattle.answer.specs.Refusals.{verdict_number}
-use Rattle.answer.specs.declared.Verdict.TheVariants.{Accepted}
 use Rattle.header.specs.Fields.{file_space_reference}
 use Rattle.geometry.specs.Tiles.{tiles_across, tiles_down}
 use Rattle.bodies.specs.TileDirectory.{tile_directory_at, listed_rows, listed_columns}
@@ -35,7 +35,7 @@ pub ruleset asked = (first_not, first_holds, last_is)
 
 -- numbers of verdicts
 
-module _ (v w : Verdict) (p : v ≡ w) (n : ℕ) (q : n ≡ verdict_number v) where
+module _ (v w : Result ⊤ Refusal) (p : v ≡ w) (n : ℕ) (q : n ≡ verdict_number v) where
   pub opened_not : (n ≡ 5 → ⊥) → false ≡ is_opened w
   unfolding is_opened
   opened_not h = no _ (λ y. h (q ∙ rw p y.0))
@@ -44,7 +44,7 @@ module _ (v w : Verdict) (p : v ≡ w) (n : ℕ) (q : n ≡ verdict_number v) wh
   unfolding is_opened
   opened_is h = yes _ (rw (← p) (sym q ∙ h), tt)
 
-module _ (s : List ℕ) (v : Verdict) (p : v ≡ check_records s Accepted) (n : ℕ) (q : n ≡ verdict_number v) where
+module _ (s : List ℕ) (v : Result ⊤ Refusal) (p : v ≡ check_records s (Ok tt)) (n : ℕ) (q : n ≡ verdict_number v) where
   pub records_not : (n ≡ 0 → ⊥) → false ≡ records_right s
   unfolding records_right
   records_not h = no _ (λ y. h (q ∙ rw p y.0))

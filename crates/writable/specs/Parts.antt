@@ -1,7 +1,6 @@
 -- Req 03: a sound page, accepted or open for writing, as its front and its pieces, with what an edit of it asks for (`Edit`).
-use Rattle.std.specs.Prelude.{ℕ, ◌≤◌, ◌≡◌, List, ◌++◌, length, take}
+use Rattle.std.specs.Prelude.{ℕ, ◌≤◌, ◌≡◌, List, ◌++◌, length, take, None}
 use Rattle.wire.specs.Bytes.{Bytes, Same, largest_integer}
-use Rattle.record.specs.declared.Found.TheVariants.{Nothing}
 use Rattle.record.specs.Chain.{header_end, joined, WellFormed}
 use Rattle.header.specs.Fields.{file_space_reference, metadata_reference, tile_directory_reference}
 use Rattle.check_header.specs.Ceilings.{most_file_bytes}
@@ -27,8 +26,8 @@ pub record Parted (s f : List ℕ) (rs : List (List ℕ)) : Type 0 where
   pub each : Bytes s → AllOf Piece rs
   pub room : length (joined rs) ≤ largest_integer
   -- stages 7 and 8 of the page so put together
-  pub checksums : checksum_fault (f ++ joined rs) ≡ Nothing
-  pub bodies : body_fault (f ++ joined rs) ≡ Nothing
+  pub checksums : checksum_fault (f ++ joined rs) ≡ None
+  pub bodies : body_fault (f ++ joined rs) ≡ None
 
 abbrev pub SoundParted : Type 0
 SoundParted = (s : List ℕ) → Sound s → Parted s (take (header_end s) s) (pieces s)

@@ -1,8 +1,7 @@
 -- Req 03, reading 18: a page that is open for writing. It need not have been opened by us.
-use Rattle.std.specs.Prelude.{ℕ, ◌≡◌, List, [], ◌∷◌, Bool, true, false, length}
+use Rattle.std.specs.Prelude.{ℕ, ◌≡◌, List, [], ◌∷◌, Bool, true, false, length, Ok, Result, ⊤}
+use Rattle.answer.specs.declared.Refusal.{Refusal}
 use Rattle.wire.specs.Tests.{◌≡?◌, is, passes}
-use Rattle.answer.specs.declared.Verdict.{Verdict}
-use Rattle.answer.specs.declared.Verdict.TheVariants.{Accepted}
 use Rattle.answer.specs.Refusals.{verdict_number}
 use Rattle.header.specs.Fields.{file_space_reference}
 use Rattle.record.specs.Types.{file_space_directory_type}
@@ -18,12 +17,12 @@ use Rattle.page_check.specs.Accepted.{SoundBy}
 use Rattle.pieces.specs.Pieces.{pieces_of, pieces, nothing_to_join}
 
 -- stages 1 to 4 pass, the opened time is not zero: stages 1 to 5 answer 5
-unfoldable pub is_opened : Verdict → Bool
+unfoldable pub is_opened : Result ⊤ Refusal → Bool
 is_opened v = passes ((verdict_number v ≡? 5) ∷ [])
 
 -- stages 6 to 8 pass
 unfoldable pub records_right : List ℕ → Bool
-records_right s = passes ((verdict_number (check_records s Accepted) ≡? 0) ∷ [])
+records_right s = passes ((verdict_number (check_records s (Ok tt)) ≡? 0) ∷ [])
 
 -- Req 03, reading 6: the tile directory is full, it lists every tile of the grid. Where it is right its rectangle then starts at 0
 unfoldable pub directory_full : List ℕ → Bool

@@ -17,7 +17,7 @@ pub fn difference(a: usize, b: usize) -> usize
     a - b
 }
 
-// A record's head: its length, its type and three reserved bytes.
+// A record's head: its length, its type and three reserved bytes. The type is the byte that is written.
 pub fn put_head(out: &mut [u8], at: usize, n: u32, kind: u8)
     ensures { out.new ≡ put out.old at (record_head n kind) }
 {

@@ -3,14 +3,14 @@ use Rattle.answer.proofs.ValueLaws.{value_coded, value_float, value_short, value
 use borrow.Author.Rules.{rules}
 use Rattle.answer.proofs.value_of.Goals as goal
 
-pub returns-then-kind-eq1 : goal.returns-then-kind-eq1
-returns-then-kind-eq1 c = search (rules, value_coded)
+pub returns-in-1 : goal.returns-in-1
+returns-in-1 c = search (rules, value_coded)
 
-pub returns-then-kind-eq2 : goal.returns-then-kind-eq2
-returns-then-kind-eq2 c = search (rules, value_float)
+pub returns-in-2 : goal.returns-in-2
+returns-in-2 c = search (rules, value_float)
 
-pub returns-then-kind-eq3 : goal.returns-then-kind-eq3
-returns-then-kind-eq3 c = search (rules, value_short)
+pub returns-in-3 : goal.returns-in-3
+returns-in-3 c = search (rules, value_short)
 
-pub returns : goal.returns
-returns c = search (rules, value_integer)
+pub returns-in_default : goal.returns-in_default
+returns-in_default c = search (rules, value_integer)

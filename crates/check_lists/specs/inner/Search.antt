@@ -1,11 +1,9 @@
 -- For `list_right`, `first_unlisted` and private functions of lists.rt; no rule of stage 9 rests on it.
 -- The two lists by their names, and the first record that is not listed once.
-use Rattle.std.specs.Prelude.{ℕ, List, [], ◌∷◌, Bool}
+use Rattle.std.specs.Prelude.{ℕ, List, [], ◌∷◌, Bool, None, Option}
 use Rattle.wire.specs.Pick.{pick}
 use Rattle.wire.specs.Tests.{◌≡?◌, ◌≢?◌, is, passes}
 use Rattle.wire.specs.Lists.{count_below}
-use Rattle.record.specs.declared.Found.{Found}
-use Rattle.record.specs.declared.Found.TheVariants.{Nothing}
 use Rattle.record.specs.Record.{type_at}
 use Rattle.record.specs.Chain.{first_record, header_end}
 use Rattle.record.specs.Types.{free_type, metadata_type}
@@ -58,5 +56,5 @@ unfoldable pub not_listed_once : List ℕ → ListKind → ℕ → Bool
 not_listed_once s list x = passes ((type_at s x ≡? listed_kind list) ∷ (count_below (list_count s list) (list_entry_is s list x) ≢? 1) ∷ [])
 
 -- the first such record; nothing where the entries do not fit
-unfoldable pub first_unlisted : List ℕ → ListKind → Found
-first_unlisted s list = pick (list_fits s list) (first_record s (header_end s) (not_listed_once s list)) Nothing
+unfoldable pub first_unlisted : List ℕ → ListKind → Option ℕ
+first_unlisted s list = pick (list_fits s list) (first_record s (header_end s) (not_listed_once s list)) None

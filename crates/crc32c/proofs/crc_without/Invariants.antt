@@ -1,5 +1,5 @@
 -- `crc32c::crc_without` meets its contract: the state, and the bytes that are still to come, give the whole. Assumes nothing.
-use Prim.Native.Nat.{◌+◌, ◌≤◌, ◌-◌}
+use Prim.Native.Nat.{◌+◌, ◌≤◌}
 use mathlib.Core.Path.{◌≡◌}
 use lib.ListN.{length}
 use Rattle.crc32c.specs.Crc.{crc_over}
@@ -8,7 +8,4 @@ use Rattle.crc32c.proofs.crc_without.Given as goal
 
 abbrev pub invariant-loop-i : goal.invariant-loop-i
 invariant-loop-i l =
-    (l.i ≤ l.n) × (l.at + l.n ≤ length l.s) × (crc_from l.c (part_without l.s l.at l.n l.from l.to) l.i ≡ crc_over 0xFFFF_FFFF (part_without l.s l.at l.n l.from l.to))
-
-abbrev pub decreases-loop-i : goal.decreases-loop-i
-decreases-loop-i l = l.n - l.i
+    (l.at + l.n ≤ length l.s) × (crc_from l.c (part_without l.s l.at l.n l.from l.to) l.i ≡ crc_over 0xFFFF_FFFF (part_without l.s l.at l.n l.from l.to))

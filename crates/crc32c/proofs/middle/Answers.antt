@@ -3,6 +3,6 @@ use Rattle.crc32c.proofs.Linear.{more, by_table}
 use Rattle.crc32c.proofs.middle.Goals as goal
 
 pub returns : goal.returns
-returns c = more 6 36 _ _ _ _ c.bits_42-a.ensures
-    (more 6 30 _ _ _ _ c.bits_36-b.ensures
-    (by_table 6 24 _ _ c.bits_30-c.ensures))
+returns c = more 6 36 _ _ _ _ c.after_sixes-a.ensures
+    (more 6 30 _ _ _ _ c.after_sixes-b.ensures
+    (by_table 6 24 _ _ c.after_sixes-c.ensures))

@@ -2,5 +2,5 @@
 
 use Rattle.deeds.proofs.deed_fills.Goals as goal
 
-pub returns-in-Graded : goal.returns-in-Graded
-returns-in-Graded c = rw c.in-Graded.is
+pub returns-in-Ok : goal.returns-in-Ok
+returns-in-Ok c = rw c.in-Ok.is

@@ -2,8 +2,8 @@
 use mathlib.Core.Path.{◌∙◌}
 use Rattle.deeds.proofs.deed_number.Goals as goal
 
-pub returns-in-Graded : goal.returns-in-Graded
-returns-in-Graded c = c.grade_number.ensures ∙ rw c.in-Graded.is
+pub returns-in-Ok : goal.returns-in-Ok
+returns-in-Ok c = c.grade_number.ensures ∙ rw c.in-Ok.is
 
-pub returns-in-Refused : goal.returns-in-Refused
-returns-in-Refused c = c.refusal_number.ensures ∙ rw c.in-Refused.is
+pub returns-in-Err : goal.returns-in-Err
+returns-in-Err c = c.refusal_number.ensures ∙ rw c.in-Err.is

@@ -1,4 +1,5 @@
 -- `huffman::read_tree` meets its contract. Assumes nothing.
+use mathlib.Core.Path.{◌∙◌}
 use native.Mathlib.Omega.{arith}
 use lib.ListN.{length-set}
 use Rattle.huffman.proofs.NodeLaws.{near, done_none, done_past, done_short, done_leaf, done_left, done_branch}
@@ -24,33 +25,33 @@ returns-then-bit-eq1 t c =
 
 pub overflow_cast-nodes : goal.overflow_cast-nodes
 overflow_cast-nodes t c =
-    let k = near _ _ _ _ _ c.read_tree.ensures.is _ _ _ c.requires.0 (omega arith) c.in-Tree.is in
+    let k = near _ _ _ _ _ c.read_tree.ensures.is _ _ _ c.requires.0 (omega arith) (c.in_ok-child.was) in
     omega (arith, k.room)
 
 pub overflow_add-nodes : goal.overflow_add-nodes
 overflow_add-nodes t c =
-    let k = near _ _ _ _ _ c.read_tree.ensures.is _ _ _ c.requires.0 (omega arith) c.in-Tree.is in
+    let k = near _ _ _ _ _ c.read_tree.ensures.is _ _ _ c.requires.0 (omega arith) (c.in_ok-child.was) in
     omega (arith, k.room)
 
-pub overflow_add-l : goal.overflow_add-l
-overflow_add-l t c =
-    let k = near _ _ _ _ _ c.read_tree.ensures.is _ _ _ c.requires.0 (omega arith) c.in-Tree.is in
+pub overflow_add-child : goal.overflow_add-child
+overflow_add-child t c =
+    let k = near _ _ _ _ _ c.read_tree.ensures.is _ _ _ c.requires.0 (omega arith) (c.in_ok-child.was) in
     omega (arith, k.room)
 
-pub read_tree-requires-in-Tree : goal.read_tree-requires-in-Tree
-read_tree-requires-in-Tree t c =
-    let k = near _ _ _ _ _ c.read_tree.ensures.is _ _ _ c.requires.0 (omega arith) c.in-Tree.is in
+pub read_tree-requires-2 : goal.read_tree-requires-2
+read_tree-requires-2 t c =
+    let k = near _ _ _ _ _ c.read_tree.ensures.is _ _ _ c.requires.0 (omega arith) (c.in_ok-child.was) in
     (omega (arith, k.falls), (k.room, simp length-set (omega (arith, c.read_tree.auto.nodes, c.requires.1))))
 
-pub returns-in-Bad : goal.returns-in-Bad
-returns-in-Bad t c =
-    let all_of = done_left _ _ _ _ _ c.read_tree.ensures.is _ _ (omega arith) (omega (arith, c.bit_at-bit.ensures.is)) c.in-Bad.is c.read_tree.ensures.below in
-    record { is = all_of.0; holds = all_of.1.0; below = all_of.1.1 }
+pub returns-in_err-child : goal.returns-in_err-child
+returns-in_err-child t c =
+    let all_of = done_left _ _ _ _ _ c.read_tree.ensures.is _ _ (omega arith) (omega (arith, c.bit_at-bit.ensures.is)) c.in_err-child.was c.read_tree.ensures.below in
+    record { is = c.from_residual.ensures ∙ all_of.0; holds = all_of.1.0; below = all_of.1.1 }
 
-pub returns-in-Tree : goal.returns-in-Tree
-returns-in-Tree t c =
+pub returns : goal.returns
+returns t c =
     let all_of =
     done_branch _ _ _ _ _ c.read_tree.ensures.is _ _ _ _ _ _ _ (omega arith) (omega (arith, c.bit_at-bit.ensures.is)) (omega (arith, c.read_tree.auto.nodes))
-    c.in-Tree.is c.read_tree.ensures.holds c.read_tree.ensures.below
-    (c.read_tree-in-Tree.ensures.is, (c.read_tree-in-Tree.ensures.holds, c.read_tree-in-Tree.ensures.below)) in
+    (c.in_ok-child.was) c.read_tree.ensures.holds c.read_tree.ensures.below
+    (c.read_tree-2.ensures.is, (c.read_tree-2.ensures.holds, c.read_tree-2.ensures.below)) in
     record { is = all_of.0; holds = all_of.1.0; below = all_of.1.1 }

@@ -8,9 +8,6 @@ use Rattle.huffman.proofs.symbols_distinct.Goals as goal
 pub loop-i-init : goal.loop-i-init
 loop-i-init c = (refl, pass_start _ _)
 
-pub returns-then-nodes-i : goal.returns-then-nodes-i
-returns-then-nodes-i c = pass_end _ _ _ _ c.loop-i.invariant.1 (rw length-take (omega arith))
-
 pub overflow_cast-node : goal.overflow_cast-node
 overflow_cast-node c = omega (arith, c.type_inv.nodes c.loop-i.i)
 

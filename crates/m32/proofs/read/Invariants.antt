@@ -2,12 +2,7 @@
 use Rattle.m32.proofs.ReadLaws.{Reading}
 use Rattle.m32.specs.M32.{bytes_next}
 use lib.ListN.{length}
-use Prim.Native.Nat.{◌-◌, ◌≤◌}
-use mathlib.Core.Path.{◌≡◌}
 use Rattle.m32.proofs.read.Given as goal
 
 abbrev pub invariant-loop-i : goal.invariant-loop-i
-invariant-loop-i l = (l.i ≤ length l.initial.out) × ((length l.out ≡ length l.initial.out) × Reading (bytes_next l.bytes) (length l.initial.out) l.initial.out l.out l.i l.at)
-
-abbrev pub decreases-loop-i : goal.decreases-loop-i
-decreases-loop-i l = length l.initial.out - l.i
+invariant-loop-i l = Reading (bytes_next l.bytes) (length l.initial.out) l.initial.out l.out l.i l.at

@@ -7,11 +7,11 @@ use Rattle.replay.proofs.do_entries.Goals as goal
 pub loop-at-init : goal.loop-at-init
 loop-at-init c = (going_first _ _ _ (record { small = λ i. omega (arith, c.type_inv.buf i) }) c.requires.0 c.requires.1, refl)
 
-pub shape_of-buf-in-Refused : goal.shape_of-buf-in-Refused
-shape_of-buf-in-Refused c = c.do_entry.auto.buf ∙ c.loop-at.invariant.1
+pub shape_of-buf-in-Err : goal.shape_of-buf-in-Err
+shape_of-buf-in-Err c = c.do_entry.auto.buf ∙ c.loop-at.invariant.1
 
-pub returns-in-Refused : goal.returns-in-Refused
-returns-in-Refused c = let all_of = going_stop _ _ _ _ c.loop-at.invariant.0 c.loop-at-test.true (record { small = λ i. omega (arith, c.type_inv.log i) }) c.do_entry.ensures.answer c.do_entry.ensures.buffer _ c.in-Refused.is in record { answer = all_of.0; buffer = all_of.1 }
+pub returns-in-Err : goal.returns-in-Err
+returns-in-Err c = let all_of = going_stop _ _ _ _ c.loop-at.invariant.0 c.loop-at-test.true (record { small = λ i. omega (arith, c.type_inv.log i) }) c.do_entry.ensures.answer c.do_entry.ensures.buffer _ c.in-Err.is in record { answer = all_of.0; buffer = all_of.1 }
 
 pub overflow_add-entries : goal.overflow_add-entries
 overflow_add-entries c = omega (arith, c.loop-at.invariant.0.few)
@@ -20,7 +20,7 @@ pub loop-at-smaller : goal.loop-at-smaller
 loop-at-smaller c = going_less _ _ _ _ c.loop-at.invariant.0 c.loop-at-test.true (record { small = λ i. omega (arith, c.type_inv.log i) }) c.do_entry.ensures.answer c.do_entry.ensures.buffer c.end_of_entry-at.ensures
 
 pub loop-at-preserved : goal.loop-at-preserved
-loop-at-preserved c = (going_on _ _ _ _ c.loop-at.invariant.0 c.loop-at-test.true (record { small = λ i. omega (arith, c.type_inv.log i) }) c.do_entry.ensures.answer c.do_entry.ensures.buffer _ c.in-Length.is c.end_of_entry-at.ensures, c.do_entry.auto.buf ∙ c.loop-at.invariant.1)
+loop-at-preserved c = (going_on _ _ _ _ c.loop-at.invariant.0 c.loop-at-test.true (record { small = λ i. omega (arith, c.type_inv.log i) }) c.do_entry.ensures.answer c.do_entry.ensures.buffer _ c.in-Ok.is c.end_of_entry-at.ensures, c.do_entry.auto.buf ∙ c.loop-at.invariant.1)
 
 pub shape_of-buf : goal.shape_of-buf
 shape_of-buf c = c.loop-at.invariant.1

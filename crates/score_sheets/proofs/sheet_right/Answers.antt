@@ -1,6 +1,5 @@
 -- `score_sheets::sheet_right` meets its contract. Assumes nothing.
-use Rattle.score_sheets.proofs.SheetLaws.{sides_small, right_head, right_rows, right_columns, right_length, right_scores}
-use native.Mathlib.Omega.{arith}
+use Rattle.score_sheets.proofs.SheetLaws.{right_head, right_rows, right_columns, right_length, right_scores}
 use Rattle.score_sheets.proofs.sheet_right.Goals as goal
 
 pub returns-then-rows-eq0 : goal.returns-then-rows-eq0
@@ -8,15 +7,6 @@ returns-then-rows-eq0 c = right_rows _ _ c.head_right.ensures c.if-head_right.tr
 
 pub returns-then-columns-eq0 : goal.returns-then-columns-eq0
 returns-then-columns-eq0 c = right_columns _ _ c.head_right.ensures c.if-head_right.true _ _ c.sheet_rows-rows.ensures.is c.sheet_columns-columns.ensures.is c.if-columns-eq0.true
-
-pub overflow_mul-n : goal.overflow_mul-n
-overflow_mul-n c = let e = sides_small _ _ c.sheet_rows-rows.ensures.small c.sheet_columns-columns.ensures.small in omega arith
-
-pub overflow_mul-n-then-head_right : goal.overflow_mul-n-then-head_right
-overflow_mul-n-then-head_right c = let e = sides_small _ _ c.sheet_rows-rows.ensures.small c.sheet_columns-columns.ensures.small in omega arith
-
-pub overflow_add-n : goal.overflow_add-n
-overflow_add-n c = let e = sides_small _ _ c.sheet_rows-rows.ensures.small c.sheet_columns-columns.ensures.small in omega arith
 
 pub returns-then-n-sheet : goal.returns-then-n-sheet
 returns-then-n-sheet c = right_length _ _ c.head_right.ensures c.if-head_right.true _ _ c.sheet_rows-rows.ensures.is c.sheet_columns-columns.ensures.is c.if-n-sheet.true

@@ -4,6 +4,3 @@ use Rattle.score_sheets.proofs.sheet_rows.Goals as goal
 
 pub returns-clause-is : goal.returns-clause-is
 returns-clause-is c = rows_read _ _ c.u16_at.ensures.is
-
-pub returns-clause-small : goal.returns-clause-small
-returns-clause-small c = c.u16_at.ensures.small

@@ -4,10 +4,10 @@ use Rattle.sheets.proofs.SheetLaws.{out_unchecked}
 use Rattle.sheets.proofs.sheet_of.Goals as goal
 
 pub sheet_accepted-requires : goal.sheet_accepted-requires
-sheet_accepted-requires c = sym c.check.ensures ∙ c.in-Accepted.is
+sheet_accepted-requires c = sym c.check.ensures ∙ c.in-Ok.is
 
-pub returns-in-Refused-clause-answer : goal.returns-in-Refused-clause-answer
-returns-in-Refused-clause-answer c = out_unchecked _ _ _ _ (sym c.check.ensures ∙ c.in-Refused.is)
+pub returns-in-Err-clause-answer : goal.returns-in-Err-clause-answer
+returns-in-Err-clause-answer c = out_unchecked _ _ _ _ (sym c.check.ensures ∙ c.in-Err.is)
 
-pub returns-in-Refused-clause-buffer : goal.returns-in-Refused-clause-buffer
-returns-in-Refused-clause-buffer c = refl
+pub returns-in-Err-clause-buffer : goal.returns-in-Err-clause-buffer
+returns-in-Err-clause-buffer c = refl

@@ -9,5 +9,5 @@ plain_length-requires c = sym c.is_small.ensures ∙ c.if-is_small.true
 pub returns-then-is_small : goal.returns-then-is_small
 returns-then-is_small c = length_is _ (sym c.is_small.ensures ∙ c.if-is_small.true) _ c.plain_length.ensures
 
-pub returns : goal.returns
-returns c = length_none _ (sym c.is_small.ensures ∙ c.if-is_small.false)
+pub returns-else-is_small : goal.returns-else-is_small
+returns-else-is_small c = length_none _ (sym c.is_small.ensures ∙ c.if-is_small.false)

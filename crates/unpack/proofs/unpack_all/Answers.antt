@@ -1,9 +1,16 @@
 -- `unpack::unpack_all` meets its contract. Assumes nothing.
-use Rattle.unpack.proofs.AnswerLaws.{none_written, all_written}
+use mathlib.Core.Path.{sym, ap, ◌∙◌}
+use Rattle.std.specs.Option.{is_some}
+use Rattle.std.proofs.Common.{not}
+use Rattle.unpack.proofs.AnswerLaws.{some_whole, none_written}
 use Rattle.unpack.proofs.unpack_all.Goals as goal
 
-pub returns-in-Malformed : goal.returns-in-Malformed
-returns-in-Malformed c = let all_of = none_written _ _ _ c.unpack_cell.ensures _ c.in-Malformed.is in record { answer = all_of.0; holds = all_of.1 }
+pub returns-then-is_none : goal.returns-then-is_none
+returns-then-is_none c =
+    let w = sym (some_whole _ _) ∙ ap is_some (sym c.unpack_cell.ensures) ∙ c.is_none.ensures ∙ ap not c.if-is_none.true in
+    record { answer = sym w; holds = none_written _ _ w }
 
-pub returns-in-Cell : goal.returns-in-Cell
-returns-in-Cell c = let all_of = all_written _ _ _ c.unpack_cell.ensures _ _ _ _ c.in-Cell.is c.unpack_into.ensures in record { answer = all_of.0; holds = all_of.1 }
+pub returns : goal.returns
+returns c =
+    let w = sym (some_whole _ _) ∙ ap is_some (sym c.unpack_cell.ensures) ∙ c.is_none.ensures ∙ ap not c.if-is_none.false in
+    record { answer = sym w; holds = c.unpack_into.ensures.is w }

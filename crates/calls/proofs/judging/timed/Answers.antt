@@ -10,10 +10,10 @@ pub returns-then-time-eq0 : goal.returns-then-time-eq0
 unfolding answered
 returns-then-time-eq0 c = time_zero _ _ _ _ (omega arith)
 
-pub returns-in-Refused : goal.returns-in-Refused
+pub returns-in-Err : goal.returns-in-Err
 unfolding answered
-returns-in-Refused c = time_set _ _ _ _ (λ z. omega arith) (refusal_handed _ _ _ c.room_left.ensures _ _ c.in-Refused.is)
+returns-in-Err c = time_set _ _ _ _ (λ z. omega arith) (refusal_handed _ _ _ c.room_left.ensures _ _ c.in-Err.is)
 
-pub returns-in-Accepted : goal.returns-in-Accepted
+pub returns-in-Ok : goal.returns-in-Ok
 unfolding answered
-returns-in-Accepted c = time_set _ _ _ _ (λ z. omega arith) (answer_behind _ _ _ c.room_left.ensures _ _ c.in-Accepted.is (λ z. refl))
+returns-in-Ok c = time_set _ _ _ _ (λ z. omega arith) (answer_behind _ _ _ c.room_left.ensures _ _ c.in-Ok.is (λ z. refl))

@@ -5,12 +5,12 @@ use Rattle.calls.proofs.on.close_on.Goals as goal
 
 pub closing_cut-left-requires : goal.closing_cut-left-requires
 unfolding change_on line_of
-closing_cut-left-requires c = on_workable (Call.Closing _) _ _ _ c.judge_close.ensures c.in-Length.is
+closing_cut-left-requires c = on_workable (Call.Closing _) _ _ _ c.judge_close.ensures c.in-Ok.is
 
-pub returns-in-Refused : goal.returns-in-Refused
+pub returns-in-Err : goal.returns-in-Err
 unfolding change_on line_of
-returns-in-Refused c = let all_of = on_refused _ _ _ c.judge_close.ensures _ c.in-Refused.is in record { answer = all_of.0; made = all_of.1.0; buffer = all_of.1.1 }
+returns-in-Err c = let all_of = on_refused _ _ _ c.judge_close.ensures _ c.in-Err.is in record { answer = all_of.0; made = all_of.1.0; buffer = all_of.1.1 }
 
-pub returns-in-Length : goal.returns-in-Length
+pub returns-in-Ok : goal.returns-in-Ok
 unfolding change_on line_of
-returns-in-Length c = let all_of = on_made _ _ _ c.judge_close.ensures _ c.in-Length.is c.closing_cut-left.ensures.left c.closing_cut-left.ensures.holds in record { answer = all_of.0; made = all_of.1.0; buffer = all_of.1.1 }
+returns-in-Ok c = let all_of = on_made _ _ _ c.judge_close.ensures _ c.in-Ok.is c.closing_cut-left.ensures.left c.closing_cut-left.ensures.holds in record { answer = all_of.0; made = all_of.1.0; buffer = all_of.1.1 }

@@ -1,4 +1,5 @@
 -- `cells::lookups::look_up` meets its contract. Assumes nothing.
+use Rattle.std.specs.Prelude.{Err}
 use native.Mathlib.Omega.{arith}
 use mathlib.Core.Path.{sym, ◌∙◌}
 use Rattle.answer.specs.declared.Cell.TheVariants as cell
@@ -42,8 +43,8 @@ returns-then-sides_lawful c = looked_found _ _ _ c.sides_lawful.ensures c.if-in_
 
 pub returns-then-in_grid : goal.returns-then-in_grid
 unfolding looked_up
-returns-then-in_grid c = guarded_unlawful cell.Refused _ _ _ c.in_grid.ensures.is _ _ c.sides_lawful.ensures c.if-in_grid.true c.if-sides_lawful.false
+returns-then-in_grid c = guarded_unlawful Err _ _ _ c.in_grid.ensures.is _ _ c.sides_lawful.ensures c.if-in_grid.true c.if-sides_lawful.false
 
 pub returns : goal.returns
 unfolding looked_up
-returns c = guarded_outside cell.Refused _ _ _ c.in_grid.ensures.is _ c.if-in_grid.false
+returns c = guarded_outside Err _ _ _ c.in_grid.ensures.is _ c.if-in_grid.false

@@ -1,7 +1,7 @@
 -- `cells::lookups::look_up_content` meets its contract. Assumes nothing.
+use Rattle.std.specs.Prelude.{Err}
 use native.Mathlib.Omega.{arith}
 use mathlib.Core.Path.{refl, sym, ◌∙◌}
-use Rattle.answer.specs.declared.Content.TheVariants as content
 use Rattle.cells.specs.inner.Lookups.{looked_tile}
 use Rattle.tile_routes.specs.Ways.{found_by}
 use Rattle.cells.proofs.CellLaws.{tiles_mean, sides_mean, count_small}
@@ -22,12 +22,12 @@ content_reached-requires c = sym c.sides_lawful.ensures ∙ c.if-sides_lawful.tr
 
 pub returns-then-sides_lawful : goal.returns-then-sides_lawful
 unfolding looked_tile
-returns-then-sides_lawful c = tile_looked _ _ _ c.sides_lawful.ensures c.if-in_tiles.true c.if-sides_lawful.true content.Refused _ (found_by _ _) _ _ c.in_tiles.ensures.is _ _ _ refl c.found_by-found.ensures c.content_reached.ensures
+returns-then-sides_lawful c = tile_looked _ _ _ c.sides_lawful.ensures c.if-in_tiles.true c.if-sides_lawful.true Err _ (found_by _ _) _ _ c.in_tiles.ensures.is _ _ _ refl c.found_by-found.ensures c.content_reached.ensures
 
 pub returns-then-in_tiles : goal.returns-then-in_tiles
 unfolding looked_tile
-returns-then-in_tiles c = guarded_unlawful content.Refused _ _ _ c.in_tiles.ensures.is _ _ c.sides_lawful.ensures c.if-in_tiles.true c.if-sides_lawful.false
+returns-then-in_tiles c = guarded_unlawful Err _ _ _ c.in_tiles.ensures.is _ _ c.sides_lawful.ensures c.if-in_tiles.true c.if-sides_lawful.false
 
 pub returns : goal.returns
 unfolding looked_tile
-returns c = guarded_outside content.Refused _ _ _ c.in_tiles.ensures.is _ c.if-in_tiles.false
+returns c = guarded_outside Err _ _ _ c.in_tiles.ensures.is _ c.if-in_tiles.false

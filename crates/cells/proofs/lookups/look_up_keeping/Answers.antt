@@ -1,4 +1,5 @@
 -- `cells::lookups::look_up_keeping` meets its contract. Assumes nothing.
+use Rattle.std.specs.Prelude.{Err}
 use native.Mathlib.Omega.{arith}
 use mathlib.Core.Path.{refl, sym, ◌∙◌}
 use Rattle.answer.specs.declared.Held.TheVariants as held
@@ -19,7 +20,7 @@ overflow_cast-e c = record { fits = omega (arith, c.in_tiles.ensures.small c.if-
 
 pub returns-then-sides_lawful-clause-is : goal.returns-then-sides_lawful-clause-is
 unfolding looked_tile
-returns-then-sides_lawful-clause-is c = tile_looked _ _ _ c.sides_lawful.ensures c.if-in_tiles.true c.if-sides_lawful.true held.Refused _ (found_by _ _) _ _ c.in_tiles.ensures.is _ _ _ refl c.found_by-found.ensures c.hold_reached.ensures.is
+returns-then-sides_lawful-clause-is c = tile_looked _ _ _ c.sides_lawful.ensures c.if-in_tiles.true c.if-sides_lawful.true Err _ (found_by _ _) _ _ c.in_tiles.ensures.is _ _ _ refl c.found_by-found.ensures c.hold_reached.ensures.is
 
 pub returns-then-sides_lawful-clause-holds : goal.returns-then-sides_lawful-clause-holds
 unfolding looked_tile
@@ -27,8 +28,8 @@ returns-then-sides_lawful-clause-holds c = c.hold_reached.ensures.holds
 
 pub returns-then-in_tiles : goal.returns-then-in_tiles
 unfolding looked_tile
-returns-then-in_tiles c = let all_of = refused_said _ _ _ _ (guarded_unlawful held.Refused _ _ _ c.in_tiles.ensures.is _ _ c.sides_lawful.ensures c.if-in_tiles.true c.if-sides_lawful.false) in record { is = all_of.0; holds = all_of.1 }
+returns-then-in_tiles c = let all_of = refused_said _ _ _ _ (guarded_unlawful Err _ _ _ c.in_tiles.ensures.is _ _ c.sides_lawful.ensures c.if-in_tiles.true c.if-sides_lawful.false) in record { is = all_of.0; holds = all_of.1 }
 
 pub returns : goal.returns
 unfolding looked_tile
-returns c = let all_of = refused_said _ _ _ _ (guarded_outside held.Refused _ _ _ c.in_tiles.ensures.is _ c.if-in_tiles.false) in record { is = all_of.0; holds = all_of.1 }
+returns c = let all_of = refused_said _ _ _ _ (guarded_outside Err _ _ _ c.in_tiles.ensures.is _ c.if-in_tiles.false) in record { is = all_of.0; holds = all_of.1 }

@@ -1,4 +1,5 @@
 -- `cells::many::cell_held` meets its contract. Assumes nothing.
+use Rattle.std.specs.Prelude.{Err}
 use native.Mathlib.Omega.{arith}
 use mathlib.Core.Path.{sym, ◌∙◌}
 use Rattle.answer.specs.declared.Cell.TheVariants as cell
@@ -24,12 +25,12 @@ told_by-requires c = sym c.sides_lawful.ensures ∙ c.if-sides_lawful.true
 
 pub returns-then-sides_lawful : goal.returns-then-sides_lawful
 unfolding held_cell
-returns-then-sides_lawful c = guarded_answer cell.Refused _ _ _ c.in_grid.ensures.is _ _ c.sides_lawful.ensures c.if-in_grid.true _ c.if-sides_lawful.true c.told_by.ensures
+returns-then-sides_lawful c = guarded_answer Err _ _ _ c.in_grid.ensures.is _ _ c.sides_lawful.ensures c.if-in_grid.true _ c.if-sides_lawful.true c.told_by.ensures
 
 pub returns-then-in_grid : goal.returns-then-in_grid
 unfolding held_cell
-returns-then-in_grid c = guarded_unlawful cell.Refused _ _ _ c.in_grid.ensures.is _ _ c.sides_lawful.ensures c.if-in_grid.true c.if-sides_lawful.false
+returns-then-in_grid c = guarded_unlawful Err _ _ _ c.in_grid.ensures.is _ _ c.sides_lawful.ensures c.if-in_grid.true c.if-sides_lawful.false
 
 pub returns : goal.returns
 unfolding held_cell
-returns c = guarded_outside cell.Refused _ _ _ c.in_grid.ensures.is _ c.if-in_grid.false
+returns c = guarded_outside Err _ _ _ c.in_grid.ensures.is _ c.if-in_grid.false

@@ -6,8 +6,8 @@ use Rattle.cells.proofs.tile_cells.content_reached.Goals as goal
 pub returns-then-x-s : goal.returns-then-x-s
 returns-then-x-s c = search (rules, reached_none, reached_at)
 
-pub returns-in-Nothing : goal.returns-in-Nothing
-returns-in-Nothing c = search (rules, reached_none, reached_at)
+pub returns-in-None : goal.returns-in-None
+returns-in-None c = search (rules, reached_none, reached_at)
 
 pub returns-else-x-s : goal.returns-else-x-s
 returns-else-x-s c = search (rules, reached_none, reached_at, content_lost)

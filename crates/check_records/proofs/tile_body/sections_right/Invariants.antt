@@ -1,5 +1,4 @@
 -- `check_records::tile_body::sections_right` meets its contract. Assumes nothing.
-use Prim.Native.Nat.{◌≤◌, ◌-◌}
 use mathlib.Core.Path.{◌≡◌}
 use mathlib.Core.Bool.{true}
 use Rattle.wire.specs.Tests.{all_below}
@@ -9,7 +8,4 @@ use Rattle.check_records.specs.TileBody.{section_right}
 use Rattle.check_records.proofs.tile_body.sections_right.Given as goal
 
 abbrev pub invariant-loop-e : goal.invariant-loop-e
-invariant-loop-e l = (l.e ≤ l.n) × ((all_below l.e (section_right l.s l.at) ≡ true) × ((l.p ≡ section_at l.s l.at l.e) × (l.q ≡ entry_start l.s l.e)))
-
-abbrev pub decreases-loop-e : goal.decreases-loop-e
-decreases-loop-e l = l.n - l.e
+invariant-loop-e l = (all_below l.e (section_right l.s l.at) ≡ true) × ((l.p ≡ section_at l.s l.at l.e) × (l.q ≡ entry_start l.s l.e))

@@ -1,10 +1,6 @@
 -- `correct::tiles::put_cells_cut` meets its contract. Assumes nothing.
-use Prim.Native.Nat.{◌-◌, ◌≤◌}
 use Rattle.correct.proofs.CellLaws.{Over}
 use Rattle.correct.proofs.tiles.put_cells_cut.Given as goal
 
 abbrev pub invariant-loop-e : goal.invariant-loop-e
-invariant-loop-e l = (l.e ≤ l.m) × Over l.k l.initial.out l.x l.sizes l.cells l.e l.p l.from l.left l.out
-
-abbrev pub decreases-loop-e : goal.decreases-loop-e
-decreases-loop-e l = l.m - l.e
+invariant-loop-e l = Over l.k l.initial.out l.x l.sizes l.cells l.e l.p l.from l.left l.out

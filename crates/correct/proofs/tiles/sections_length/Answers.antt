@@ -4,19 +4,19 @@ use Rattle.correct.proofs.TileLaws.{measured_none, next_small, measured_more, me
 use Rattle.correct.proofs.tiles.sections_length.Goals as goal
 
 pub loop-e-init : goal.loop-e-init
-loop-e-init c = (omega arith, measured_none _ _)
+loop-e-init c = measured_none _ _
 
 pub stored_length-sum-requires : goal.stored_length-sum-requires
-stored_length-sum-requires c = omega (arith, next_small c.loop-e.invariant.1 _ c.number_in-u.ensures c.part_of-n.ensures.holds (omega arith))
+stored_length-sum-requires c = omega (arith, next_small c.loop-e.invariant _ c.number_in-u.ensures c.part_of-n.ensures.holds (omega arith))
 
 pub overflow_add-sum : goal.overflow_add-sum
-overflow_add-sum c = let w = measured_more c.loop-e.invariant.1 _ c.number_in-u.ensures c.part_of-n.ensures.holds (omega arith) _ c.stored_length-sum.ensures in omega (arith, w.long_small, c.requires)
+overflow_add-sum c = let w = measured_more c.loop-e.invariant _ c.number_in-u.ensures c.part_of-n.ensures.holds (omega arith) _ c.stored_length-sum.ensures in omega (arith, w.long_small, c.requires)
 
 pub overflow_add-from : goal.overflow_add-from
-overflow_add-from c = let w = measured_more c.loop-e.invariant.1 _ c.number_in-u.ensures c.part_of-n.ensures.holds (omega arith) _ c.stored_length-sum.ensures in omega (arith, w.start_small, c.requires)
+overflow_add-from c = let w = measured_more c.loop-e.invariant _ c.number_in-u.ensures c.part_of-n.ensures.holds (omega arith) _ c.stored_length-sum.ensures in omega (arith, w.start_small, c.requires)
 
 pub loop-e-preserved : goal.loop-e-preserved
-loop-e-preserved c = (omega arith, measured_more c.loop-e.invariant.1 _ c.number_in-u.ensures c.part_of-n.ensures.holds (omega arith) _ c.stored_length-sum.ensures)
+loop-e-preserved c = measured_more c.loop-e.invariant _ c.number_in-u.ensures c.part_of-n.ensures.holds (omega arith) _ c.stored_length-sum.ensures
 
 pub returns : goal.returns
-returns c = let all_of = measured_all c.loop-e.invariant.1 _ (omega arith) (omega arith) c.requires in record { is = all_of.0; small = all_of.1 }
+returns c = let all_of = measured_all c.loop-e.invariant _ (omega arith) (omega arith) c.requires in record { is = all_of.0; small = all_of.1 }

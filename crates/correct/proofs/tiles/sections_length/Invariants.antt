@@ -1,10 +1,6 @@
 -- `correct::tiles::sections_length` meets its contract. Assumes nothing.
-use Prim.Native.Nat.{◌-◌, ◌≤◌}
 use Rattle.correct.proofs.TileLaws.{Measured}
 use Rattle.correct.proofs.tiles.sections_length.Given as goal
 
 abbrev pub invariant-loop-e : goal.invariant-loop-e
-invariant-loop-e l = (l.e ≤ l.m) × Measured l.sizes l.cells l.e l.from l.sum
-
-abbrev pub decreases-loop-e : goal.decreases-loop-e
-decreases-loop-e l = l.m - l.e
+invariant-loop-e l = Measured l.sizes l.cells l.e l.from l.sum

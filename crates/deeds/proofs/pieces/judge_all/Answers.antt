@@ -1,4 +1,6 @@
 -- `deeds::pieces::judge_all` meets its contract. Assumes nothing.
+use mathlib.Core.Path.{◌≡◌}
+use Rattle.std.specs.Prelude.{Err}
 use borrow.Author.Rules.{rules}
 use native.Mathlib.Omega.{arith}
 use mathlib.Core.Path.{refl}
@@ -17,17 +19,17 @@ judge_tile-requires-clause-accepts c = c.requires
 pub judge_tile-requires-clause-at : goal.judge_tile-requires-clause-at
 judge_tile-requires-clause-at c = c.loop-p.invariant.1.0.piece c.loop-p-test.true
 
-pub returns-in-Refused : goal.returns-in-Refused
-returns-in-Refused c = walk_refused _ _ _ _ c.requires (c.loop-p.invariant.1.0.piece c.loop-p-test.true) _ _ c.judge_tile.ensures c.loop-p.invariant.1.1.0 _ c.in-Refused.is
+pub returns-in_err-u : goal.returns-in_err-u
+returns-in_err-u c = let e : c.from_residual.result ≡ Err c.in_err-u.field-0.0 = search rules in rw e (walk_refused _ _ _ _ c.requires (c.loop-p.invariant.1.0.piece c.loop-p-test.true) _ _ c.judge_tile.ensures c.loop-p.invariant.1.1.0 _ c.in_err-u.was)
 
 pub join-t-requires : goal.join-t-requires
-join-t-requires c = walk_fits _ _ _ _ c.requires (c.loop-p.invariant.1.0.piece c.loop-p-test.true) _ _ c.judge_tile.ensures c.loop-p.invariant.1.1.0 _ _ c.in-Tallied.is c.loop-p.invariant.1.1.1
+join-t-requires c = walk_fits _ _ _ _ c.requires (c.loop-p.invariant.1.0.piece c.loop-p-test.true) _ _ c.judge_tile.ensures c.loop-p.invariant.1.1.0 _ _ c.in_ok-u.was c.loop-p.invariant.1.1.1
 
 pub loop-p-smaller : goal.loop-p-smaller
 loop-p-smaller c = let w = walk_next _ _ c.requires _ _ _ c.loop-p.invariant.1.0 c.loop-p-test.true c.next_piece-p.ensures in let i = (c.loop-p.invariant.1.0.piece c.loop-p-test.true).sides in walk_less _ w.1 i.0 i.1.0 i.1.1.0
 
 pub loop-p-preserved : goal.loop-p-preserved
-loop-p-preserved c = let w = walk_next _ _ c.requires _ _ _ c.loop-p.invariant.1.0 c.loop-p-test.true c.next_piece-p.ensures in (search rules, (w.0, walk_more _ _ _ _ c.requires (c.loop-p.invariant.1.0.piece c.loop-p-test.true) _ _ c.judge_tile.ensures c.loop-p.invariant.1.1.0 _ _ c.in-Tallied.is c.loop-p.invariant.1.1.1 _ c.join-t.ensures w.1))
+loop-p-preserved c = let w = walk_next _ _ c.requires _ _ _ c.loop-p.invariant.1.0 c.loop-p-test.true c.next_piece-p.ensures in (search rules, (w.0, walk_more _ _ _ _ c.requires (c.loop-p.invariant.1.0.piece c.loop-p-test.true) _ _ c.judge_tile.ensures c.loop-p.invariant.1.1.0 _ _ c.in_ok-u.was c.loop-p.invariant.1.1.1 _ c.join-t.ensures w.1))
 
 pub returns : goal.returns
 returns c = let w = c.loop-p.invariant.1.0 in let e = c.loop-p-test.false in walk_counted _ _ _ _ _ _ _ _ c.loop-p.invariant.1.1.0 c.loop-p.invariant.1.1.1 (omega (arith, w.to_last)) (w.ended (omega (arith, w.to_last))) w.sides

@@ -8,22 +8,19 @@ use Rattle.deeds.proofs.PieceLaws.{answered_cell}
 use Rattle.deeds.proofs.pieces.look_up_row.Goals as goal
 
 pub overflow_add-row : goal.overflow_add-row
-overflow_add-row c = record { fits = omega (arith, rectangle_small _ _ c.requires.accepts, c.requires.at.sides, c.requires.row) }
+overflow_add-row c = record { fits = omega (arith, rectangle_small _ _ c.requires.ready.accepts, c.requires.ready.at.sides, c.requires.row) }
 
 pub loop-c-init : goal.loop-c-init
-loop-c-init c = (omega arith, (omega (arith, c.requires.at.sides), run_begins _ _ _ _ _ _ _ c.no_cells-t.ensures (λ r d h. omega arith)))
+loop-c-init c = run_begins _ _ _ _ _ _ _ c.no_cells-t.ensures (λ r d h. omega arith)
 
 pub overflow_add-a : goal.overflow_add-a
-overflow_add-a c = record { fits = omega (arith, rectangle_small _ _ c.requires.accepts, c.requires.at.sides) }
+overflow_add-a c = record { fits = omega (arith, rectangle_small _ _ c.requires.ready.accepts, c.requires.ready.at.sides) }
 
 pub with_cell-t-requires : goal.with_cell-t-requires
-with_cell-t-requires c = let m = rectangle_small _ _ c.requires.accepts in let i = c.requires.at.sides in run_fits _ _ _ _ _ _ _ c.loop-c.invariant.1.1 (omega (arith, c.requires.row)) (omega arith)
-
-pub overflow_add-c : goal.overflow_add-c
-overflow_add-c c = record { fits = omega (arith, c.requires.at.sides) }
+with_cell-t-requires c = let m = rectangle_small _ _ c.requires.ready.accepts in let i = c.requires.ready.at.sides in run_fits _ _ _ _ _ _ _ c.loop-c.invariant (omega (arith, c.requires.row)) (omega arith)
 
 pub loop-c-preserved : goal.loop-c-preserved
-loop-c-preserved c = let i = c.requires.at.sides in (omega arith, (omega arith, run_next _ _ _ _ _ _ _ _ _ c.loop-c.invariant.1.1 (answered_cell _ _ _ _ _ _ _ _ _ c.held_cell-x.ensures c.requires.answered (omega (arith, c.requires.row))) c.with_cell-t.ensures (omega arith) refl (search (rules, c.well_formed.1.1.1.1.1.0)) (search (rules, c.well_formed.1.1.1.1.1.0))))
+loop-c-preserved c = let i = c.requires.ready.at.sides in run_next _ _ _ _ _ _ _ _ _ c.loop-c.invariant (answered_cell _ _ _ _ _ _ _ _ _ c.held_cell-cell.ensures c.requires.ready.answered (omega (arith, c.requires.row))) c.with_cell-t.ensures (omega arith) refl (search (rules, c.well_formed.1.0)) (search (rules, c.well_formed.1.0))
 
 pub returns : goal.returns
-returns c = run_ends _ _ _ _ _ _ _ _ _ c.loop-c.invariant.1.1 c.of_run.ensures (omega arith)
+returns c = run_ends _ _ _ _ _ _ _ _ _ c.loop-c.invariant c.of_run.ensures (omega arith)

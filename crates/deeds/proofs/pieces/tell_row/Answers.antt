@@ -8,28 +8,24 @@ use Rattle.deeds.proofs.pieces.tell_row.Goals as goal
 
 pub loop-c-init : goal.loop-c-init
 unfolding numbered_tally
-loop-c-init c = (omega arith, run_begins _ _ _ _ _ _ _ c.no_cells-t.ensures (λ r d h. omega arith))
+loop-c-init c = run_begins _ _ _ _ _ _ _ c.no_cells-t.ensures (λ r d h. omega arith)
 
-pub overflow_add-start : goal.overflow_add-start
+pub overflow_add-inside : goal.overflow_add-inside
 unfolding numbered_tally
-overflow_add-start c = record { fits = omega arith }
+overflow_add-inside c = record { fits = omega arith }
 
-pub overflow_cast-start : goal.overflow_cast-start
+pub overflow_cast-inside : goal.overflow_cast-inside
 unfolding numbered_tally
-overflow_cast-start c = record { fits = omega arith }
+overflow_cast-inside c = record { fits = omega arith }
 
 pub with_cell-t-requires : goal.with_cell-t-requires
 unfolding numbered_tally
-with_cell-t-requires c = run_fits _ _ _ _ _ _ _ c.loop-c.invariant.1 (omega arith) (omega arith)
-
-pub overflow_add-c : goal.overflow_add-c
-unfolding numbered_tally
-overflow_add-c c = record { fits = omega arith }
+with_cell-t-requires c = run_fits _ _ _ _ _ _ _ c.loop-c.invariant (omega arith) (omega arith)
 
 pub loop-c-preserved : goal.loop-c-preserved
 unfolding numbered_tally
-loop-c-preserved c = (omega arith, run_next _ _ 0 _ _ _ _ _ _ c.loop-c.invariant.1 c.numbered_cell-x.ensures c.with_cell-t.ensures (omega arith) refl (search rules) (search rules))
+loop-c-preserved c = run_next _ _ 0 _ _ _ _ _ _ c.loop-c.invariant c.numbered_cell-cell.ensures c.with_cell-t.ensures (omega arith) refl (search rules) (search rules)
 
 pub returns : goal.returns
 unfolding numbered_tally
-returns c = run_ends _ _ _ _ _ _ _ _ _ c.loop-c.invariant.1 c.of_run.ensures (omega arith)
+returns c = run_ends _ _ _ _ _ _ _ _ _ c.loop-c.invariant c.of_run.ensures (omega arith)

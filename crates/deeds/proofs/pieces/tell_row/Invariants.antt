@@ -5,7 +5,4 @@ use Rattle.deeds.proofs.RunLaws.{Runs}
 use Rattle.deeds.proofs.pieces.tell_row.Given as goal
 
 abbrev pub invariant-loop-c : goal.invariant-loop-c
-invariant-loop-c l = (l.c ≤ l.n) × Runs l.rule l.t (numbered_tally l.rule l.file l.kind l.fill l.held l.memory l.tile l.start l.c)
-
-abbrev pub decreases-loop-c : goal.decreases-loop-c
-decreases-loop-c l = l.n - l.c
+invariant-loop-c l = Runs l.rule l.t (numbered_tally l.rule l.x.file.now l.x.kind l.x.fill l.x.held l.x.memory.now l.x.p.tile l.start l.c)

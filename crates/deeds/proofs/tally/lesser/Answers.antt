@@ -7,7 +7,7 @@ pub returns-in-None : goal.returns-in-None
 returns-in-None c = lesser_first _ _ c.in-None.is
 
 pub returns-in-None-b : goal.returns-in-None-b
-returns-in-None-b c = lesser_alone _ _ _ c.in-Score.is c.in-None-b.is
+returns-in-None-b c = lesser_alone _ _ _ c.in-Some.is c.in-None-b.is
 
-pub returns-in-Score-b : goal.returns-in-Score-b
-returns-in-Score-b c = lesser_both _ _ _ c.in-Score.is _ _ c.in-Score-b.is (search rules) (search rules) c.least.ensures
+pub returns-in-Some-b : goal.returns-in-Some-b
+returns-in-Some-b c = lesser_both _ _ _ c.in-Some.is _ _ c.in-Some-b.is (search rules) (search rules) c.least.ensures

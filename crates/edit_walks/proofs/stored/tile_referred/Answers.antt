@@ -6,10 +6,10 @@ pub is_tile-requires : goal.is_tile-requires
 is_tile-requires c = c.byte_off.ensures.is
 
 pub returns-then-is_tile : goal.returns-then-is_tile
-returns-then-is_tile c = referred_at _ _ _ c.tile_directory_at-at.ensures c.found_by.ensures _ c.in-At.is c.is_tile.ensures c.if-is_tile.true
+returns-then-is_tile c = referred_at _ _ _ c.tile_directory_at-at.ensures c.found_by.ensures _ c.in-Some.is c.is_tile.ensures c.if-is_tile.true
 
-pub returns-in-Nothing : goal.returns-in-Nothing
-returns-in-Nothing c = referred_none _ _ _ c.tile_directory_at-at.ensures c.found_by.ensures c.in-Nothing.is
+pub returns-in-None : goal.returns-in-None
+returns-in-None c = referred_none _ _ _ c.tile_directory_at-at.ensures c.found_by.ensures c.in-None.is
 
 pub returns-else-is_tile : goal.returns-else-is_tile
-returns-else-is_tile c = referred_not _ _ _ c.tile_directory_at-at.ensures c.found_by.ensures _ c.in-At.is c.is_tile.ensures c.if-is_tile.false
+returns-else-is_tile c = referred_not _ _ _ c.tile_directory_at-at.ensures c.found_by.ensures _ c.in-Some.is c.is_tile.ensures c.if-is_tile.false

@@ -3,8 +3,8 @@ use borrow.Author.Rules.{rules}
 use Rattle.explain.proofs.ListedLaws.{asked_at, asked_end}
 use Rattle.explain.proofs.listed.asked_from.Goals as goal
 
-pub returns-in-At : goal.returns-in-At
-returns-in-At c = search (rules, asked_at)
+pub returns-in-Some : goal.returns-in-Some
+returns-in-Some c = search (rules, asked_at)
 
 pub returns : goal.returns
 returns c = search (rules, asked_end)

@@ -1,12 +1,7 @@
 -- `explain::over::others` meets its contract. Assumes nothing.
-use mathlib.Core.Path.{refl}
-use Rattle.explain.specs.DirectoryRows.{ask_rows, askable}
+use Rattle.std.proofs.Common.{rules}
+use Rattle.explain.specs.DirectoryRows.{other_rows}
 use Rattle.explain.proofs.over.others.Goals as goal
 
-pub over-requires : goal.over-requires
-unfolding ask_rows askable
-over-requires c = refl
-
 pub returns : goal.returns
-unfolding ask_rows askable
-returns c = c.over.ensures
+returns c = c.over.ensures (other_rows c.args.rule c.args.reference) (λ k x h i r q. search rules)

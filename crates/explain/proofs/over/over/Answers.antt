@@ -1,47 +1,34 @@
 -- `explain::over::over` meets its contract. Assumes nothing.
-use borrow.Author.Rules.{rules}
+use Rattle.std.proofs.Common.{◌≡◌, ◌∙◌, Err, rules}
 use native.Mathlib.Omega.{arith}
-use Rattle.explain.proofs.OverLaws.{ask_room, asking}
+use Rattle.record.proofs.ChainLaws.{less}
+use Rattle.record.proofs.TallyLaws.{tag_other}
+use Rattle.explain.proofs.OverLaws.{asked, told_begin, told_room, told_stay, told_next, told_found, told_over}
 use Rattle.explain.proofs.over.over.Goals as goal
 
-pub header_end-requires : goal.header_end-requires
-header_end-requires c = search (rules, asking)
-
 pub loop-own-init : goal.loop-own-init
-loop-own-init c = search (rules, asking)
-
-pub step-requires : goal.step-requires
-step-requires c = search (rules, asking)
-
-pub enum_known-own : goal.enum_known-own
-enum_known-own c = search (rules, asking)
+loop-own-init g c = told_begin c.header_end.ensures
 
 pub returns-in_default : goal.returns-in_default
-returns-in_default c = search (rules, asking)
+returns-in_default g c = told_over c.loop-own.invariant c.step.ensures (tag_other _ c.in_default.not-Record)
 
-pub ask_row-requires : goal.ask_row-requires
-ask_row-requires c = search (rules, asking)
+pub ask-requires : goal.ask-requires
+ask-requires g c = asked _ _ (λ k x. g.F.Fn.pre c.args.ask (k, (x, tt))) c.requires c.loop-own.invariant.few c.in-Record.is c.step.ensures
 
-pub enum_known-x : goal.enum_known-x
-enum_known-x c = search (rules, asking)
-
-pub returns-in-Broken : goal.returns-in-Broken
-returns-in-Broken c = search (rules, asking)
-
-pub enum_told-1 : goal.enum_told-1
-enum_told-1 c = search (rules, asking)
+pub returns-in_err-ask : goal.returns-in_err-ask
+returns-in_err-ask g c = let e : c.from_residual.result ≡ Err c.in_err-ask.field-0.0 = search rules in λ f h. e ∙ told_found c.loop-own.invariant c.in-Record.is c.step.ensures c.if-own-kind.true c.ask.ensures c.in_err-ask.was f h
 
 pub overflow_add-k : goal.overflow_add-k
-overflow_add-k c = record { fits = omega (arith, ask_room c.loop-own.invariant c.in-Record.is c.step.ensures) }
+overflow_add-k g c = record { fits = omega (arith, told_room c.loop-own.invariant c.in-Record.is c.step.ensures) }
 
-pub loop-own-smaller-in_default-ask_row : goal.loop-own-smaller-in_default-ask_row
-loop-own-smaller-in_default-ask_row c = search (rules, asking)
+pub loop-own-smaller-in_ok-ask : goal.loop-own-smaller-in_ok-ask
+loop-own-smaller-in_ok-ask g c = search (rules, less)
 
-pub loop-own-preserved-in_default-ask_row : goal.loop-own-preserved-in_default-ask_row
-loop-own-preserved-in_default-ask_row c = search (rules, asking)
+pub loop-own-preserved-in_ok-ask : goal.loop-own-preserved-in_ok-ask
+loop-own-preserved-in_ok-ask g c = told_next c.loop-own.invariant c.in-Record.is c.step.ensures c.if-own-kind.true c.ask.ensures c.in_ok-ask.was
 
 pub loop-own-smaller : goal.loop-own-smaller
-loop-own-smaller c = search (rules, asking)
+loop-own-smaller g c = search (rules, less)
 
 pub loop-own-preserved : goal.loop-own-preserved
-loop-own-preserved c = search (rules, asking)
+loop-own-preserved g c = told_stay c.loop-own.invariant c.in-Record.is c.step.ensures c.if-own-kind.false

@@ -1,12 +1,7 @@
 -- `explain::over::tile_records_listed` meets its contract. Assumes nothing.
-use mathlib.Core.Path.{refl}
-use Rattle.explain.specs.DirectoryRows.{ask_rows, askable}
+use Rattle.std.proofs.Common.{rules}
+use Rattle.explain.specs.DirectoryRows.{listed_tile_rows}
 use Rattle.explain.proofs.over.tile_records_listed.Goals as goal
 
-pub over-requires : goal.over-requires
-unfolding ask_rows askable
-over-requires c = refl
-
 pub returns : goal.returns
-unfolding ask_rows askable
-returns c = c.over.ensures
+returns c = c.over.ensures (listed_tile_rows c.args.s.now) (λ k x h i r q. search rules)

@@ -1,13 +1,22 @@
 -- `fronts::judge::ceilings_told` meets its contract. Assumes nothing.
-use mathlib.Core.Path.{sym, ◌∙◌}
-use Rattle.fronts.proofs.JudgeLaws.{sides_back, allowed_given, counts_given, ceilings_sides, ceilings_last}
+use mathlib.Core.Path.{ap, sym, ◌∙◌}
+use Prim.Native.Nat.{◌/◌}
+use lib.ListN.{length}
+use Rattle.fronts.specs.declared.sides.Sides.{Sides}
+use Rattle.fronts.specs.Given.{stated_by}
+use Rattle.fronts.specs.Judged.{counts_allowed}
+use Rattle.fronts.specs.Writing.{told, allowed}
+use Rattle.fronts.proofs.JudgeLaws.{ceilings_sides, ceilings_last}
 use Rattle.fronts.proofs.judge.ceilings_told.Goals as goal
 
 pub counts_allowed-requires : goal.counts_allowed-requires
-counts_allowed-requires c = ((sides_back c.args.page.now _ _ _ _ c.number_in-rows.ensures c.number_in-columns.ensures c.number_in-height.ensures c.number_in-width.ensures c.requires), sym c.sides_allowed.ensures ∙ c.if-sides_allowed.true)
+counts_allowed-requires c = (ap told c.of-sides.ensures ∙ c.requires, sym c.are_allowed.ensures ∙ c.if-are_allowed.true)
 
-pub returns-then-sides_allowed : goal.returns-then-sides_allowed
-returns-then-sides_allowed c = ceilings_last c.args.page.now c.args.elements.now _ (allowed_given c.args.page.now _ _ _ _ c.number_in-rows.ensures c.number_in-columns.ensures c.number_in-height.ensures c.number_in-width.ensures _ c.sides_allowed.ensures) _ c.if-sides_allowed.true (counts_given c.args.page.now _ _ _ _ c.number_in-rows.ensures c.number_in-columns.ensures c.number_in-height.ensures c.number_in-width.ensures c.args.elements.now _ c.counts_allowed.ensures)
+pub returns-then-are_allowed : goal.returns-then-are_allowed
+returns-then-are_allowed c =
+    let es = c.args.elements.now in
+    ceilings_last c.args.page.now es _ (c.are_allowed.ensures ∙ ap allowed c.of-sides.ensures) _ c.if-are_allowed.true
+    (λ ts. c.counts_allowed.ensures ts ∙ ap (λ (s : Sides). counts_allowed s.rows s.columns s.tile_rows s.tile_columns (length es / 14) (stated_by es ts)) c.of-sides.ensures)
 
 pub returns : goal.returns
-returns c = ceilings_sides c.args.page.now c.args.elements.now _ (allowed_given c.args.page.now _ _ _ _ c.number_in-rows.ensures c.number_in-columns.ensures c.number_in-height.ensures c.number_in-width.ensures _ c.sides_allowed.ensures) c.if-sides_allowed.false
+returns c = ceilings_sides c.args.page.now c.args.elements.now _ (c.are_allowed.ensures ∙ ap allowed c.of-sides.ensures) c.if-are_allowed.false

@@ -1,21 +1,13 @@
 -- `fronts::judge::each_told` meets its contract. Assumes nothing.
-use native.Mathlib.Omega.{arith}
-use Rattle.wire.proofs.TestLaws.{below_none, each_more, each_not, each_all}
-use Rattle.fronts.proofs.CountLaws.{summed_less}
+use mathlib.Core.Path.{refl}
 use borrow.Author.Rules.{rules}
+use Rattle.std.proofs.iter.Serving.{serving}
+use Rattle.wire.proofs.RangeLaws.{all_range}
+use Rattle.fronts.proofs.CountLaws.{summed_less}
 use Rattle.fronts.proofs.judge.each_told.Goals as goal
 
-pub loop-e-init : goal.loop-e-init
-loop-e-init c = (omega arith, below_none _)
-
-pub element_told-requires : goal.element_told-requires
-element_told-requires c = summed_less _ _ _ c.requires (omega arith)
-
-pub loop-e-preserved : goal.loop-e-preserved
-loop-e-preserved c = (omega arith, search (rules, each_more))
-
-pub returns-else-element_told : goal.returns-else-element_told
-returns-else-element_told c = search (rules, each_not)
+pub all-requires-clause-callable : goal.all-requires-clause-callable
+all-requires-clause-callable c = grind (serving, summed_less)
 
 pub returns : goal.returns
-returns c = search (rules, each_all)
+returns c = all_range _ _ _ _ _ _ c.all.ensures.ran refl (λ x b q k. search rules)

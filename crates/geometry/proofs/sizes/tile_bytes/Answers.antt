@@ -6,13 +6,13 @@ use Rattle.geometry.proofs.SizeLaws.{sum_begin, sum_step, tile_bytes_is}
 use Rattle.geometry.proofs.sizes.tile_bytes.Goals as goal
 
 pub loop-e-init : goal.loop-e-init
-loop-e-init c = (omega arith, (omega arith, sum_begin _))
+loop-e-init c = (omega arith, sum_begin _)
 
 pub capped-sum-requires : goal.capped-sum-requires
 capped-sum-requires c = (search (rules, under), search (rules, under))
 
 pub loop-e-preserved : goal.loop-e-preserved
-loop-e-preserved c = (omega arith, (omega arith, search (rules, sum_step)))
+loop-e-preserved c = (omega arith, search (rules, sum_step))
 
 pub returns : goal.returns
-returns c = tile_bytes_is _ _ _ _ c.loop-e.invariant.1.0 (omega arith) (omega arith) c.loop-e.invariant.1.1
+returns c = tile_bytes_is _ _ _ _ c.loop-e.invariant.0 (omega arith) (omega arith) c.loop-e.invariant.1

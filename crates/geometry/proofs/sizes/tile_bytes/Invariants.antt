@@ -1,5 +1,5 @@
 -- `geometry::sizes::tile_bytes` meets its contract. Assumes nothing.
-use Prim.Native.Nat.{◌≤◌, ◌-◌, min}
+use Prim.Native.Nat.{min}
 use mathlib.Core.Path.{◌≡◌}
 use Rattle.wire.specs.Tests.{sum_below}
 use Rattle.header.specs.Element.{entries_read}
@@ -7,7 +7,4 @@ use Rattle.geometry.specs.Sizes.{element_bytes, cap}
 use Rattle.geometry.proofs.sizes.tile_bytes.Given as goal
 
 abbrev pub invariant-loop-e : goal.invariant-loop-e
-invariant-loop-e l = (l.e ≤ l.n) × ((l.n ≡ entries_read l.s) × (l.sum ≡ min (sum_below l.e (element_bytes l.s)) cap))
-
-abbrev pub decreases-loop-e : goal.decreases-loop-e
-decreases-loop-e l = l.n - l.e
+invariant-loop-e l = (l.e-end ≡ entries_read l.s) × (l.sum ≡ min (sum_below l.e (element_bytes l.s)) cap)

@@ -2,8 +2,8 @@
 use Rattle.gvrs_c.proofs.DescriptionLaws.{element_told_lem, element_refused}
 use Rattle.gvrs_c.proofs.description.element_numbers.Goals as goal
 
-pub returns-in-Element : goal.returns-in-Element
-returns-in-Element c = element_told_lem _ _ _ _ _ _ _ c.in-Element.is
+pub returns-in-Ok : goal.returns-in-Ok
+returns-in-Ok c = element_told_lem _ _ c.in-Ok.is
 
-pub returns-in-Refused : goal.returns-in-Refused
-returns-in-Refused c = element_refused _ _ _ c.in-Refused.is c.refusal_place-place.ensures
+pub returns-in-Err : goal.returns-in-Err
+returns-in-Err c = element_refused _ _ _ c.in-Err.is c.refusal_place-place.ensures

@@ -2,8 +2,8 @@
 use Rattle.gvrs_c.proofs.DescriptionLaws.{page_told, page_refused}
 use Rattle.gvrs_c.proofs.description.page_numbers.Goals as goal
 
-pub returns-in-Page : goal.returns-in-Page
-returns-in-Page c = page_told _ _ _ c.in-Page.is c.in_order.ensures
+pub returns-in-Ok : goal.returns-in-Ok
+returns-in-Ok c = page_told _ _ _ c.in-Ok.is c.in_order.ensures
 
-pub returns-in-Refused : goal.returns-in-Refused
-returns-in-Refused c = page_refused _ _ _ c.in-Refused.is c.refusal_place-place.ensures
+pub returns-in-Err : goal.returns-in-Err
+returns-in-Err c = page_refused _ _ _ c.in-Err.is c.refusal_place-place.ensures

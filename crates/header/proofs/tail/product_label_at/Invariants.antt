@@ -1,5 +1,5 @@
 -- `header::tail::product_label_at` meets its contract. Assumes nothing.
-use Prim.Native.Nat.{◌+◌, ◌≤◌}
+use Prim.Native.Nat.{◌+◌, ◌-◌, ◌≤◌}
 use mathlib.Core.Path.{◌≡◌}
 use lib.ListN.{length}
 use Rattle.wire.specs.Items.{advance}
@@ -7,8 +7,5 @@ use Rattle.header.specs.Element.{string_end, longest_entry}
 use Rattle.header.specs.Tail.{product_label_at}
 use Rattle.header.proofs.tail.product_label_at.Given as goal
 
-abbrev pub invariant-loop-left : goal.invariant-loop-left
-invariant-loop-left l = (advance (string_end l.s) l.limit l.left l.at ≡ product_label_at l.s) × ((l.at ≤ length l.s + longest_entry + 4) × (l.limit ≤ length l.s))
-
-abbrev pub decreases-loop-left : goal.decreases-loop-left
-decreases-loop-left l = l.left
+abbrev pub invariant-loop : goal.invariant-loop
+invariant-loop l = (advance (string_end l.s) l.limit (l.end - l.counter) l.at ≡ product_label_at l.s) × ((l.at ≤ length l.s + longest_entry + 4) × (l.limit ≤ length l.s))

@@ -1,11 +1,8 @@
 -- `huffman::bits::octet_by_bits` meets its contract. Assumes nothing.
 use Rattle.huffman.specs.Bits.{bits_at}
-use Prim.Native.Nat.{◌+◌, ◌-◌, ◌≤◌}
+use Prim.Native.Nat.{◌+◌, ◌-◌}
 use mathlib.Core.Path.{◌≡◌}
 use Rattle.huffman.proofs.bits.octet_by_bits.Given as goal
 
 abbrev pub invariant-loop-k : goal.invariant-loop-k
-invariant-loop-k l = (l.k ≤ 8) × (l.v ≡ bits_at l.c (l.i + l.k) (8 - l.k))
-
-abbrev pub decreases-loop-k : goal.decreases-loop-k
-decreases-loop-k l = l.k
+invariant-loop-k l = l.v ≡ bits_at l.c (l.i + l.k) (8 - l.k)

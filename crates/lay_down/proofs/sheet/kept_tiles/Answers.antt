@@ -14,9 +14,6 @@ loop-tile-init c = (search rules, keeping_none _ _ _ c.requires.1)
 pub keep_tile-n-requires : goal.keep_tile-n-requires
 keep_tile-n-requires c = let w = front_of_lem _ c.requires.0 in let v = c.loop-tile.invariant.1 in (c.requires.0, (omega (arith, w.tiles, c.tile_count-count.ensures), omega (arith, v.few, v.room, w.tiles, c.tile_count-count.ensures)))
 
-pub overflow_add-tile : goal.overflow_add-tile
-overflow_add-tile c = let w = front_of_lem _ c.requires.0 in omega (arith, w.tiles, c.tile_count-count.ensures)
-
 pub loop-tile-preserved : goal.loop-tile-preserved
 loop-tile-preserved c = let w = front_of_lem _ c.requires.0 in (search rules, keeping_more _ _ _ _ _ _ _ c.loop-tile.invariant.1 (omega (arith, w.tiles, c.tile_count-count.ensures)) c.keep_tile-n.ensures.count c.keep_tile-n.ensures.list)
 

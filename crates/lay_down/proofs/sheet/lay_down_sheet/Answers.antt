@@ -4,7 +4,7 @@ use Rattle.lay_down.proofs.SheetWriting.{sheet_front}
 use Rattle.lay_down.proofs.sheet.lay_down_sheet.Goals as goal
 
 pub lay_sheet-requires : goal.lay_sheet-requires
-lay_sheet-requires c = sym c.check_front.ensures ∙ c.in-Accepted.is
+lay_sheet-requires c = sym c.check_front.ensures ∙ c.in-Ok.is
 
-pub returns-in-Refused-clause-answer : goal.returns-in-Refused-clause-answer
-returns-in-Refused-clause-answer c = sheet_front _ _ _ _ _ _ c.check_front.ensures c.in-Refused.is
+pub returns-in-Err-clause-answer : goal.returns-in-Err-clause-answer
+returns-in-Err-clause-answer c = sheet_front _ _ _ _ _ _ c.check_front.ensures c.in-Err.is

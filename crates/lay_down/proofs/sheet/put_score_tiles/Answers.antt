@@ -6,20 +6,20 @@ use borrow.Author.Rules.{rules}
 use native.Mathlib.Omega.{arith}
 use Rattle.lay_down.proofs.sheet.put_score_tiles.Goals as goal
 
-pub loop-k-init : goal.loop-k-init
-loop-k-init c = (search rules, scoring_none _ _ _ _)
+pub loop-tile-init : goal.loop-tile-init
+loop-tile-init c = (search rules, scoring_none _ _ _ _)
 
 pub put_score_tile-requires : goal.put_score_tile-requires
-put_score_tile-requires c = let v = c.loop-k.invariant.1 in let h = c.loop-k-test.true in ((c.requires.ready.0, (c.requires.kept.1.1, (scoring_tile _ _ _ (front_of_lem _ c.requires.ready.0) c.requires.kept.1.0 _ h, omega (arith, v.kept, scoring_fits _ _ _ _ _ _ _ v (front_of_lem _ c.requires.ready.0) _ c.requires.kept.0 c.requires.ready.1.0 c.requires.ready.1.1 h)))), c.requires.kept.0)
+put_score_tile-requires c = let v = c.loop-tile.invariant.1 in let h = c.loop-tile-test.true in ((c.requires.ready.0, (c.requires.kept.1.1, (scoring_tile _ _ _ (front_of_lem _ c.requires.ready.0) c.requires.kept.1.0 _ h, omega (arith, v.kept, scoring_fits _ _ _ _ _ _ _ v (front_of_lem _ c.requires.ready.0) _ c.requires.kept.0 c.requires.ready.1.0 c.requires.ready.1.1 h)))), c.requires.kept.0)
 
 pub overflow_add-at : goal.overflow_add-at
-overflow_add-at c = omega (arith, scoring_fits _ _ _ _ _ _ _ c.loop-k.invariant.1 (front_of_lem _ c.requires.ready.0) _ c.requires.kept.0 c.requires.ready.1.0 c.requires.ready.1.1 c.loop-k-test.true)
+overflow_add-at c = omega (arith, scoring_fits _ _ _ _ _ _ _ c.loop-tile.invariant.1 (front_of_lem _ c.requires.ready.0) _ c.requires.kept.0 c.requires.ready.1.0 c.requires.ready.1.1 c.loop-tile-test.true)
 
-pub loop-k-preserved : goal.loop-k-preserved
-loop-k-preserved c = (search rules, scoring_more _ _ _ _ _ _ _ c.loop-k.invariant.1 (front_of_lem _ c.requires.ready.0) _ c.requires.kept.0 c.requires.ready.1.0 c.requires.ready.1.1 c.loop-k-test.true _ c.requires.kept.1.0 c.requires.kept.1.1 c.put_score_tile.ensures)
+pub loop-tile-preserved : goal.loop-tile-preserved
+loop-tile-preserved c = (search rules, scoring_more _ _ _ _ _ _ _ c.loop-tile.invariant.1 (front_of_lem _ c.requires.ready.0) _ c.requires.kept.0 c.requires.ready.1.0 c.requires.ready.1.1 c.loop-tile-test.true _ c.requires.kept.1.0 c.requires.kept.1.1 c.put_score_tile.ensures)
 
 pub shape_of-out : goal.shape_of-out
-shape_of-out c = c.loop-k.invariant.1.kept
+shape_of-out c = c.loop-tile.invariant.1.kept
 
 pub returns : goal.returns
-returns c = tiling_all _ _ _ _ _ _ _ _ c.loop-k.invariant.1 (omega arith)
+returns c = tiling_all _ _ _ _ _ _ _ _ c.loop-tile.invariant.1 (omega arith)

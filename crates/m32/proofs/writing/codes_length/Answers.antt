@@ -5,11 +5,11 @@ use mathlib.Core.Path.{sym, ap, ◌∙◌}
 use native.Mathlib.Omega.{arith}
 use Rattle.m32.proofs.writing.codes_length.Goals as goal
 
-pub loop-i-init : goal.loop-i-init
-loop-i-init c = (omega arith, (ap length (sym (to_none _)), omega arith))
+pub loop-x-init : goal.loop-x-init
+loop-x-init c = (ap length (sym (to_none _)), omega arith)
 
-pub loop-i-preserved : goal.loop-i-preserved
-loop-i-preserved c = (omega arith, (count_more _ _ _ _ (omega arith) c.loop-i.invariant.1.0 c.length_of-n.ensures.is, omega arith))
+pub loop-x-preserved : goal.loop-x-preserved
+loop-x-preserved c = (count_more _ _ _ _ (omega arith) c.loop-x.invariant.0 c.length_of-n.ensures.is, omega arith)
 
 pub returns : goal.returns
-returns c = c.loop-i.invariant.1.0 ∙ ap length (to_all _ _ (omega arith))
+returns c = c.loop-x.invariant.0 ∙ ap length (to_all _ _ (omega arith))

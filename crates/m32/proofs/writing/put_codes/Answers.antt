@@ -1,22 +1,21 @@
 -- `m32::writing::put_codes` meets its contract. Assumes nothing.
-use Prim.Native.Nat.{◌+◌}
-use borrow.Author.Rules.{rules}
 use Rattle.m32.proofs.WriteLaws.{to_none, to_all, to_within, count_more, put_more}
+use Prim.Native.Nat.{◌+◌}
 use Rattle.wire.proofs.PutLaws.{put_nil}
 use Rattle.wire.specs.Bytes.{put}
 use lib.ListN.{length}
-use mathlib.Core.Path.{refl, sym, ap, ◌∙◌}
+use mathlib.Core.Path.{sym, ap, ◌∙◌}
 use native.Mathlib.Omega.{arith}
 use Rattle.m32.proofs.writing.put_codes.Goals as goal
 
-pub loop-i-init : goal.loop-i-init
-loop-i-init c = (omega arith, (c.requires, (refl, (ap length (sym (to_none _)), sym (put_nil _ _) ∙ ap (put _ _) (sym (to_none _))))))
+pub loop-x-init : goal.loop-x-init
+loop-x-init c = (ap length (sym (to_none _)), sym (put_nil _ _) ∙ ap (put _ _) (sym (to_none _)))
 
 pub overflow_add-at : goal.overflow_add-at
-overflow_add-at c = omega (arith, count_more _ _ _ _ (omega arith) c.loop-i.invariant.1.1.1.0 c.length_of-at.ensures.is, to_within c.args.xs.now (c.loop-i.i + 1))
+overflow_add-at c = omega (arith, count_more _ _ _ _ (omega arith) c.loop-x.invariant.0 c.length_of-at.ensures.is, to_within c.args.xs.now (c.loop-x.x-index + 1))
 
-pub loop-i-preserved : goal.loop-i-preserved
-loop-i-preserved c = (omega arith, (c.loop-i.invariant.1.0, (search rules, (count_more _ _ _ _ (omega arith) c.loop-i.invariant.1.1.1.0 c.length_of-at.ensures.is, put_more _ _ _ _ _ _ (omega arith) c.loop-i.invariant.1.0 c.loop-i.invariant.1.1.1.0 c.loop-i.invariant.1.1.1.1 c.put_code.ensures))))
+pub loop-x-preserved : goal.loop-x-preserved
+loop-x-preserved c = (count_more _ _ _ _ (omega arith) c.loop-x.invariant.0 c.length_of-at.ensures.is, put_more _ _ _ _ _ _ (omega arith) c.requires c.loop-x.invariant.0 c.loop-x.invariant.1 c.put_code.ensures)
 
 pub returns : goal.returns
-returns c = c.loop-i.invariant.1.1.1.1 ∙ ap (put _ _) (to_all _ _ (omega arith))
+returns c = c.loop-x.invariant.1 ∙ ap (put _ _) (to_all _ _ (omega arith))

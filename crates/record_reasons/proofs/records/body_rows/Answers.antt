@@ -2,7 +2,7 @@
 use borrow.Author.Rules.{rules}
 use native.Mathlib.Omega.{arith}
 use Rattle.record.specs.Chain.{records}
-use Rattle.record_reasons.proofs.LoopLaws.{explain_room, explaining}
+use Rattle.record_reasons.proofs.LoopLaws.{explain_room, explaining, body_next}
 use Rattle.record_reasons.proofs.records.body_rows.Goals as goal
 
 pub header_end-requires : goal.header_end-requires
@@ -29,17 +29,9 @@ pub body_row-requires : goal.body_row-requires
 unfolding records
 body_row-requires c = search (rules, explaining)
 
-pub enum_known-fault : goal.enum_known-fault
+pub returns-in_err-refused_by : goal.returns-in_err-refused_by
 unfolding records
-enum_known-fault c = search (rules, explaining)
-
-pub returns-in-Broken : goal.returns-in-Broken
-unfolding records
-returns-in-Broken c = search (rules, explaining)
-
-pub enum_told-1 : goal.enum_told-1
-unfolding records
-enum_told-1 c = search (rules, explaining)
+returns-in_err-refused_by c = search (rules, explaining)
 
 pub overflow_add-k : goal.overflow_add-k
 unfolding records
@@ -51,4 +43,4 @@ loop-kind-smaller c = search (rules, explaining)
 
 pub loop-kind-preserved : goal.loop-kind-preserved
 unfolding records
-loop-kind-preserved c = search (rules, explaining)
+loop-kind-preserved c = body_next c.in-Record.is c.step.ensures c.loop-kind.invariant c.body_row.ensures c.refused_by.ensures c.in_ok-refused_by.was

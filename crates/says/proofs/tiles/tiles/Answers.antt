@@ -4,16 +4,16 @@ use Rattle.says.proofs.ItemLaws.{list_refused, list_accepted, none_listed, numbe
 use Rattle.says.proofs.tiles.tiles.Goals as goal
 
 pub list_tiles-requires : goal.list_tiles-requires
-list_tiles-requires c = sym c.check.ensures ∙ c.in-Accepted.is
+list_tiles-requires c = sym c.check.ensures ∙ c.in-Ok.is
 
-pub returns-in-Refused-clause-is : goal.returns-in-Refused-clause-is
-returns-in-Refused-clause-is c = list_refused _ _ _ _ _ _ c.check.ensures _ c.in-Refused.is
+pub returns-in-Err-clause-is : goal.returns-in-Err-clause-is
+returns-in-Err-clause-is c = list_refused _ _ _ _ _ _ c.check.ensures _ c.in-Err.is
 
-pub returns-in-Refused-clause-numbers : goal.returns-in-Refused-clause-numbers
-returns-in-Refused-clause-numbers c = none_listed _ _ _ _ _ _ c.check.ensures _ _ _ c.in-Refused.is
+pub returns-in-Err-clause-numbers : goal.returns-in-Err-clause-numbers
+returns-in-Err-clause-numbers c = none_listed _ _ _ _ _ _ c.check.ensures _ _ _ c.in-Err.is
 
-pub returns-in-Accepted-clause-is : goal.returns-in-Accepted-clause-is
-returns-in-Accepted-clause-is c = list_accepted _ _ _ _ _ _ c.check.ensures _ c.in-Accepted.is c.list_tiles.ensures.is
+pub returns-in-Ok-clause-is : goal.returns-in-Ok-clause-is
+returns-in-Ok-clause-is c = list_accepted _ _ _ _ _ _ c.check.ensures _ c.in-Ok.is c.list_tiles.ensures.is
 
-pub returns-in-Accepted-clause-numbers : goal.returns-in-Accepted-clause-numbers
-returns-in-Accepted-clause-numbers c = numbers_listed _ _ _ _ _ _ c.check.ensures _ _ _ c.in-Accepted.is c.list_tiles.ensures.numbers
+pub returns-in-Ok-clause-numbers : goal.returns-in-Ok-clause-numbers
+returns-in-Ok-clause-numbers c = numbers_listed _ _ _ _ _ _ c.check.ensures _ _ _ c.in-Ok.is c.list_tiles.ensures.numbers

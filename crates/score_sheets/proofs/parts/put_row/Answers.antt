@@ -1,7 +1,6 @@
 -- `score_sheets::parts::put_row` meets its contract. Assumes nothing.
 use mathlib.Core.Path.{refl}
 use mathlib.Core.Logic.{inl, inr}
-use Rattle.score_sheets.proofs.SheetLaws.{row_small}
 use Rattle.score_sheets.proofs.PartLaws.{row_past, row_cut}
 use native.Mathlib.Omega.{arith}
 use Rattle.score_sheets.proofs.parts.put_row.Goals as goal
@@ -11,18 +10,6 @@ returns-then-sheet_rows-row c = row_past _ _ _ _ _ _ _ _ c.sheet_rows.ensures.is
 
 pub returns-then-columns-column : goal.returns-then-columns-column
 returns-then-columns-column c = row_past _ _ _ _ _ _ _ _ c.sheet_rows.ensures.is c.sheet_columns-columns.ensures.is _ c.put_unread-then-columns-column.ensures (inr c.if-columns-column.true)
-
-pub overflow_mul-row : goal.overflow_mul-row
-overflow_mul-row c = let e = row_small c.args.row _ _ (omega arith) c.sheet_rows.ensures.small c.sheet_columns-columns.ensures.small in omega arith
-
-pub overflow_add-row : goal.overflow_add-row
-overflow_add-row c = let e = row_small c.args.row _ _ (omega arith) c.sheet_rows.ensures.small c.sheet_columns-columns.ensures.small in omega arith
-
-pub put_run-requires : goal.put_run-requires
-put_run-requires c = let e = row_small c.args.row _ _ (omega arith) c.sheet_rows.ensures.small c.sheet_columns-columns.ensures.small in (omega (arith, c.places_left-wide.ensures), omega (arith, c.places_left-wide.ensures, c.requires))
-
-pub put_unread-requires-2 : goal.put_unread-requires-2
-put_unread-requires-2 c = omega (arith, c.places_left-wide.ensures, c.requires, c.put_run.auto.out)
 
 pub returns : goal.returns
 returns c = row_cut _ _ _ _ _ _ _ _ c.sheet_rows.ensures.is c.sheet_columns-columns.ensures.is _ _ _ _ (omega arith) (omega arith) c.places_left-wide.ensures refl c.put_run.ensures c.put_unread-2.ensures c.requires

@@ -14,9 +14,6 @@ put_unread-requires-clause-room c = room_still c.loop-r.invariant.1.1 c.requires
 pub put_unread-requires-clause-inside : goal.put_unread-requires-clause-inside
 put_unread-requires-clause-inside c = (omega arith, (omega arith, omega arith))
 
-pub overflow_add-r : goal.overflow_add-r
-overflow_add-r c = record { fits = omega arith }
-
 pub loop-r-preserved : goal.loop-r-preserved
 loop-r-preserved c = (omega arith, (omega arith, filled_under c.loop-r.invariant.1.1 c.put_unread.ensures (omega arith) (omega arith) (omega arith)))
 

@@ -8,7 +8,7 @@ use native.Mathlib.Omega.{arith}
 use Rattle.sheets.proofs.put.put_all.Goals as goal
 
 pub loop-p-init : goal.loop-p-init
-loop-p-init c = let w = walk_first _ _ c.requires.accepts.0 _ _ c.first_piece-p.ensures (omega arith) in (refl, (w.0, ((c.shape_of-shape.ensures.tile_columns, (c.kind_of-kind.ensures, c.fill_pattern-fill.ensures)), table_begins _ _ _ w.1)))
+loop-p-init c = let w = walk_first _ _ c.requires.accepts.0 _ _ c.first_piece-p.ensures (omega arith) in (refl, (w.0, (c.of-x.ensures.known, table_begins _ _ _ w.1)))
 
 pub put_held-requires-clause-known : goal.put_held-requires-clause-known
 put_held-requires-clause-known c = c.loop-p.invariant.1.1.0
@@ -29,4 +29,4 @@ pub loop-p-preserved : goal.loop-p-preserved
 loop-p-preserved c = let w = walk_next _ _ c.requires.accepts.0 _ _ _ c.loop-p.invariant.1.0 c.loop-p-test.true c.next_piece-p.ensures in (search rules, (w.0, (c.loop-p.invariant.1.1.0, table_walks _ w.1 c.loop-p.invariant.1.1.1 c.put_held.ensures)))
 
 pub returns : goal.returns
-returns c = table_all _ c.loop-p.invariant.1.1.1 (omega (arith, c.loop-p.invariant.1.0.to_last)) (c.loop-p.invariant.1.0.ended (omega (arith, c.loop-p.invariant.1.0.to_last))) c.loop-p.invariant.1.0.sides
+returns c = let q = c.of-x.ensures.same in rw (← q) (table_all _ c.loop-p.invariant.1.1.1 (omega (arith, c.loop-p.invariant.1.0.to_last)) (c.loop-p.invariant.1.0.ended (omega (arith, c.loop-p.invariant.1.0.to_last))) c.loop-p.invariant.1.0.sides)

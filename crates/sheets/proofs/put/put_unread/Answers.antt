@@ -5,14 +5,8 @@ use Rattle.sheets.proofs.TableLaws.{row_bytes, room_for, unread_more, filled_end
 use native.Mathlib.Omega.{arith}
 use Rattle.sheets.proofs.put.put_unread.Goals as goal
 
-pub overflow_mul-j : goal.overflow_mul-j
-overflow_mul-j c = record { fits = omega (arith, c.requires.room.sides.columns_few) }
-
 pub loop-j-init : goal.loop-j-init
 loop-j-init c = (omega arith, (omega arith, filled_none _ (λ i k h. omega arith)))
-
-pub overflow_mul-right : goal.overflow_mul-right
-overflow_mul-right c = record { fits = omega (arith, c.requires.room.sides.columns_few) }
 
 pub overflow_mul-out : goal.overflow_mul-out
 overflow_mul-out c = record { fits = omega (arith, c.requires.room.sides.columns_few) }
@@ -25,9 +19,6 @@ overflow_add-out c = record { fits = omega (arith, row_bytes _ _ c.requires.room
 
 pub bounds-out-r : goal.bounds-out-r
 bounds-out-r c = omega (arith, c.loop-j.invariant.1.1.long, room_for _ _ c.requires.room _ c.requires.inside.0 c.loop-j.j (omega arith))
-
-pub overflow_add-j : goal.overflow_add-j
-overflow_add-j c = record { fits = omega (arith, c.requires.room.sides.columns_few) }
 
 pub loop-j-preserved : goal.loop-j-preserved
 loop-j-preserved c = (omega arith, (omega arith, unread_more _ _ _ _ _ _ _ c.loop-j.invariant.1.1 refl c.requires.room c.requires.inside.0 (omega arith) (omega arith)))

@@ -8,7 +8,7 @@ use native.Mathlib.Omega.{arith}
 use Rattle.sheets.proofs.weigh.weigh_all.Goals as goal
 
 pub loop-p-init : goal.loop-p-init
-loop-p-init c = let w = walk_first _ _ c.requires.accepts.0 _ _ c.first_piece-p.ensures (omega arith) in (refl, (w.0, ((c.shape_of-shape.ensures.tile_columns, (c.kind_of-kind.ensures, c.fill_pattern-fill.ensures)), heavy_begins _ _ _ _ _ _ w.1)))
+loop-p-init c = let w = walk_first _ _ c.requires.accepts.0 _ _ c.first_piece-p.ensures (omega arith) in (refl, (w.0, (c.of-x.ensures.known, heavy_begins _ _ _ _ _ _ w.1)))
 
 pub weigh_tile-piece-requires-clause-known : goal.weigh_tile-piece-requires-clause-known
 weigh_tile-piece-requires-clause-known c = c.loop-p.invariant.1.1.0
@@ -26,7 +26,7 @@ pub loop-p-smaller : goal.loop-p-smaller
 loop-p-smaller c = let w = walk_next _ _ c.requires.accepts.0 _ _ _ c.loop-p.invariant.1.0 c.loop-p-test.true c.next_piece-p.ensures in let i = (c.loop-p.invariant.1.0.piece c.loop-p-test.true).sides in walk_less _ w.1 i.0 i.1.0 i.1.1.0
 
 pub loop-p-preserved : goal.loop-p-preserved
-loop-p-preserved c = let w = walk_next _ _ c.requires.accepts.0 _ _ _ c.loop-p.invariant.1.0 c.loop-p-test.true c.next_piece-p.ensures in (search rules, (w.0, (c.loop-p.invariant.1.1.0, heavy_walks _ _ _ _ _ _ _ _ _ _ _ _ _ w.1 c.loop-p.invariant.1.1.1 c.weigh_tile-piece.ensures c.greater-w.ensures)))
+loop-p-preserved c = let w = walk_next _ _ c.requires.accepts.0 _ _ _ c.loop-p.invariant.1.0 c.loop-p-test.true c.next_piece-p.ensures in (search rules, (w.0, (c.loop-p.invariant.1.1.0, heavy_walks _ _ _ _ _ _ _ _ _ _ _ _ _ w.1 c.loop-p.invariant.1.1.1 c.weigh_tile-piece.ensures c.max-w.ensures)))
 
 pub returns : goal.returns
-returns c = heavy_all _ _ _ _ _ _ _ c.loop-p.invariant.1.1.1 (omega (arith, c.loop-p.invariant.1.0.to_last)) (c.loop-p.invariant.1.0.ended (omega (arith, c.loop-p.invariant.1.0.to_last)))
+returns c = let q = c.of-x.ensures.same in rw (← q) (heavy_all _ _ _ _ _ _ _ c.loop-p.invariant.1.1.1 (omega (arith, c.loop-p.invariant.1.0.to_last)) (c.loop-p.invariant.1.0.ended (omega (arith, c.loop-p.invariant.1.0.to_last))))

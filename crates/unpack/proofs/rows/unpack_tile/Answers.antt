@@ -21,16 +21,10 @@ pub shape_of-row-then-count_right : goal.shape_of-row-then-count_right
 shape_of-row-then-count_right c = c.all_rows.auto.row ∙ length-set {A = ℕ} c.args.row.now 0 c.u32_at.result
 
 pub returns-then-count_right : goal.returns-then-count_right
-returns-then-count_right c = answer_good _ _ _ _ _ _ _ _ _ _ c.args.row.now _ _ _ c.requires.shape.1.1 c.u32_at.ensures (c.clear.ensures ∙ ap no_row c.requires.shape.0) refl (head_means _ _ _ c.requires.head).1.1.0 c.requires.head c.all_rows.ensures _ _ _ _ _ c.in-Done.is c.u32_at-count.ensures (ap (λ (k : ℕ). k - 1) c.requires.shape.1.0) c.count_right.ensures c.if-count_right.true
+returns-then-count_right c = answer_good _ _ _ _ _ _ _ _ _ _ c.args.row.now _ _ _ c.requires.shape.1.1 c.u32_at.ensures (c.fill.ensures.after (λ y e. e) ∙ ap no_row c.requires.shape.0) refl (head_means _ _ _ c.requires.head).1.1.0 c.requires.head c.all_rows.ensures _ _ _ _ _ c.in_ok-tile.was c.u32_at-count.ensures (ap (λ (k : ℕ). k - 1) c.requires.shape.1.0) c.count_right.ensures c.if-count_right.true
 
-pub shape_of-row-in-Bad : goal.shape_of-row-in-Bad
-shape_of-row-in-Bad c = c.all_rows.auto.row ∙ length-set {A = ℕ} c.args.row.now 0 c.u32_at.result
+pub returns-in_err-tile : goal.returns-in_err-tile
+returns-in_err-tile c t n e g = rw c.from_residual.ensures (answer_bad _ _ _ _ _ _ _ _ _ _ c.args.row.now _ _ _ c.requires.shape.1.1 c.u32_at.ensures (c.fill.ensures.after (λ y e. e) ∙ ap no_row c.requires.shape.0) refl (head_means _ _ _ c.requires.head).1.1.0 c.requires.head c.all_rows.ensures c.in_err-tile.was t n e g)
 
-pub returns-in-Bad : goal.returns-in-Bad
-returns-in-Bad c = answer_bad _ _ _ _ _ _ _ _ _ _ c.args.row.now _ _ _ c.requires.shape.1.1 c.u32_at.ensures (c.clear.ensures ∙ ap no_row c.requires.shape.0) refl (head_means _ _ _ c.requires.head).1.1.0 c.requires.head c.all_rows.ensures c.in-Bad.is
-
-pub shape_of-row-else-count_right : goal.shape_of-row-else-count_right
-shape_of-row-else-count_right c = c.all_rows.auto.row ∙ length-set {A = ℕ} c.args.row.now 0 c.u32_at.result
-
-pub returns-else-count_right : goal.returns-else-count_right
-returns-else-count_right c = answer_count _ _ _ _ _ _ _ _ _ _ c.args.row.now _ _ _ c.requires.shape.1.1 c.u32_at.ensures (c.clear.ensures ∙ ap no_row c.requires.shape.0) refl (head_means _ _ _ c.requires.head).1.1.0 c.requires.head c.all_rows.ensures _ _ _ _ _ c.in-Done.is c.u32_at-count.ensures (ap (λ (k : ℕ). k - 1) c.requires.shape.1.0) c.count_right.ensures c.if-count_right.false
+pub returns : goal.returns
+returns c = answer_count _ _ _ _ _ _ _ _ _ _ c.args.row.now _ _ _ c.requires.shape.1.1 c.u32_at.ensures (c.fill.ensures.after (λ y e. e) ∙ ap no_row c.requires.shape.0) refl (head_means _ _ _ c.requires.head).1.1.0 c.requires.head c.all_rows.ensures _ _ _ _ _ c.in_ok-tile.was c.u32_at-count.ensures (ap (λ (k : ℕ). k - 1) c.requires.shape.1.0) c.count_right.ensures c.if-count_right.false

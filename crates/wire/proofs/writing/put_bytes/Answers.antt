@@ -1,9 +1,7 @@
 -- `wire::writing::put_bytes` meets its contract. Assumes nothing.
-use borrow.Author.Rules.{rules}
 use native.Mathlib.Omega.{arith}
-use mathlib.Core.Path.{sym, ◌∙◌}
-use lib.ListN.{length-set}
-use Rattle.wire.proofs.PutLaws.{put_not, pasted_none, pasted_more, pasted_all}
+use mathlib.Core.Path.{refl, sym}
+use Rattle.wire.proofs.PutLaws.{put_not, mid_put}
 use Rattle.wire.proofs.writing.put_bytes.Goals as goal
 
 pub returns-then-out-src : goal.returns-then-out-src
@@ -12,11 +10,5 @@ returns-then-out-src c = sym (put_not _ _ _ (omega arith))
 pub returns-then-out-src-2 : goal.returns-then-out-src-2
 returns-then-out-src-2 c = sym (put_not _ _ _ (omega arith))
 
-pub loop-i-init : goal.loop-i-init
-loop-i-init c = (search rules, search rules, pasted_none _ _ _)
-
-pub loop-i-preserved : goal.loop-i-preserved
-loop-i-preserved c = (search rules, simp length-set (search rules), rw c.loop-i.invariant.2 (pasted_more _ _ _ _ (omega arith) (omega arith)))
-
 pub returns : goal.returns
-returns c = c.loop-i.invariant.2 ∙ pasted_all _ _ _ _ (omega arith) (omega arith)
+returns c = mid_put _ _ _ _ c.copy_from_slice.ensures.after refl (omega arith)
