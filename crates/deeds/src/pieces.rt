@@ -1,13 +1,13 @@
 // Goes over a rectangle tile by tile, each piece of it that lies in one tile once. Rows and columns count from the rectangle's first.
 ghost use Rattle.std.specs.Prelude.{◌≡◌, ◌+◌, ◌-◌, ◌*◌, ◌≤◌, ◌<◌};
 ghost use Rattle.answer.specs.Answers.{cell_kind, cell_verdict};
-ghost use Rattle.store.specs.Face.{most_grid_side, Accepts, AtPiece, Ready};
+ghost use Rattle.store.specs.Face.{most_grid_side, Accepts, AtPiece, Answered, Ready};
 ghost use Rattle.deeds.specs.Deeds.{cells_of};
 ghost use Rattle.deeds.specs.Tallies.{tally_in, numbered_tally, cells_held, judged_by, judged_in};
 
 use crate::tally::Tally;
 use crate::{Rule, tally};
-use answer::Refusal;
+use answer::{Held, Refusal};
 use store::many::Rectangle;
 use store::pieces::{HeldPiece, Piece};
 use store::{description, many, pieces};
@@ -77,15 +77,37 @@ fn tally_piece(x: &HeldPiece, rule: Rule) -> Tally
 }
 
 // A piece whose first cell is not refused and has a kind: where that is a fill all are, and none is visited.
-fn tally_tile(x: &HeldPiece, rule: Rule, kind: u32) -> Tally
-    requires ready { Ready x.now }
-    requires kind { kind ≡ cell_kind (cells_held x.now x.now.p.top x.now.p.left) }
-    ensures { result ≡ tally_in rule x.now.p.top x.now.p.bottom x.now.p.left x.now.p.right (cells_held x.now) }
+fn tally_tile(
+    file: &[u8],
+    compressor: u32,
+    held: Result<Held, Refusal>,
+    memory: &[u32],
+    a: Rectangle,
+    rule: Rule,
+    kind: u32,
+    p: Piece,
+) -> Tally
+    requires accepts { Accepts file.now a }
+    requires at { AtPiece file.now a p }
+    requires kind { kind ≡ cell_kind (cells_of file.now compressor a.e a.row a.column p.top p.left) }
+    requires answered { Answered file.now compressor a p held memory.now }
+    ensures { result ≡ tally_in rule p.top p.bottom p.left p.right (cells_of file.now compressor a.e a.row a.column) }
 {
     if kind == 33 {
-        return tally::of_fills((x.p.bottom - x.p.top) * (x.p.right - x.p.left));
+        return tally::of_fills((p.bottom - p.top) * (p.right - p.left));
     }
-    tally_piece(x, rule)
+    let x = HeldPiece {
+        file,
+        compressor,
+        a,
+        p,
+        held,
+        memory,
+        kind: description::kind_of(file, a.e),
+        fill: description::fill_pattern(file, a.e),
+        across: description::shape_of(file).tile_columns as u64,
+    };
+    tally_piece(&x, rule)
 }
 
 // A piece, by what is held of its tile: refused as its first cell is.
@@ -106,18 +128,8 @@ fn judge_tile(
     let column = a.column + p.left;
     let cell = many::held_cell(file, compressor, held, memory, row, column, a.e);
     answer::cell_verdict(cell)?;
-    let x = HeldPiece {
-        file,
-        compressor,
-        a,
-        p,
-        held,
-        memory,
-        kind: description::kind_of(file, a.e),
-        fill: description::fill_pattern(file, a.e),
-        across: description::shape_of(file).tile_columns as u64,
-    };
-    Ok(tally_tile(&x, rule, answer::cell_kind(cell)))
+    let kind = answer::cell_kind(cell);
+    Ok(tally_tile(file, compressor, held, memory, a, rule, kind, p))
 }
 
 // All pieces: what was counted, or the first refusal.

@@ -18,18 +18,7 @@ overflow_add-column c = record { fits = omega (arith, rectangle_small _ _ c.requ
 pub tally_tile-requires : goal.tally_tile-requires
 tally_tile-requires c =
     let n = answered_piece _ _ _ _ _ _ c.hold_lent-held.ensures.holds c.requires.accepts c.requires.at in
-    record {
-      ready =
-          record {
-            accepts = c.requires.accepts;
-            at = c.requires.at;
-            answered = n;
-            kind = c.kind_of.ensures;
-            fill = c.fill_pattern.ensures;
-            across = c.shape_of.ensures.tile_columns;
-          };
-      kind = c.cell_kind.ensures ∙ ap cell_kind (first_cell _ _ _ _ c.requires.accepts c.requires.at _ _ _ c.held_cell-cell.ensures n);
-    }
+    record { accepts = c.requires.accepts; at = c.requires.at; kind = c.cell_kind-kind.ensures ∙ ap cell_kind (first_cell _ _ _ _ c.requires.accepts c.requires.at _ _ _ c.held_cell-cell.ensures n); answered = n }
 
 pub returns-in_err-cell_verdict : goal.returns-in_err-cell_verdict
 returns-in_err-cell_verdict c = let e : c.from_residual.result ≡ Err c.in_err-cell_verdict.field-0.0 = search rules in rw e (tile_refused _ _ _ _ c.cell_verdict.ensures (first_cell _ _ _ _ c.requires.accepts c.requires.at _ _ _ c.held_cell-cell.ensures (answered_piece _ _ _ _ _ _ c.hold_lent-held.ensures.holds c.requires.accepts c.requires.at)) _ c.in_err-cell_verdict.was)
