@@ -6,13 +6,13 @@ use mathlib.Core.List.{List}
 use mathlib.Core.Bool.{Bool, true, false, not}
 use lib.Dec.{eqb}
 use borrow.Author.Tests.{ne_eqb}
-use Rattle.wire.specs.Tests.{both}
 use Rattle.record.specs.Record.{type_at, content_at}
 use Rattle.record.specs.Chain.{starts, first_record, header_end, records, records_of}
 use Rattle.record.proofs.FindLaws.{is_found, some_found, every_found}
 use Rattle.bodies.specs.TileRecord.{tile_index}
 use Rattle.check_directory.specs.References.{refers_to, refers_or_zero, no_other}
 use Rattle.check_directory.specs.TileRules.{tiles_listed}
+use Rattle.check_directory.specs.inner.Search.{referred, other, unlisted}
 use Rattle.bodies.specs.TileDirectory.{tile_reference}
 
 -- whether something was found
@@ -31,13 +31,7 @@ pub was_some : (f : Option ℕ) → (f ≡ None → ⊥) → true ≡ is_found f
 was_some (Some x) n = refl
 was_some None n = absurd (n refl)
 
--- what is looked for: a record of a type whose content a reference gives, or does not give; and what finding it says
-
-abbrev pub referred : List ℕ → ℕ → ℕ → ℕ → Bool
-referred s k r x = both (eqb (type_at s x) k) (eqb (content_at x) r)
-
-abbrev pub other : List ℕ → ℕ → ℕ → ℕ → Bool
-other s k r x = both (eqb (type_at s x) k) (not (eqb (content_at x) r))
+-- what finding a record says
 
 pub refers_is : (s : List ℕ) (k r : ℕ) (f : Option ℕ) → f ≡ first_record s (header_end s) (referred s k r) → is_found f ≡ refers_to s k r
 unfolding refers_to records_of records first_record
@@ -48,11 +42,6 @@ unfolding no_other records_of records first_record
 no_other_is s k r f e =
     ap (λ (g : Option ℕ). not (is_found g)) e
     ∙ sym (every_found (λ x. eqb (content_at x) r) (λ x. eqb (type_at s x) k) (other s k r) (λ x. refl) (starts s (header_end s)))
-
--- and a tile record that is not listed at its own index
-
-abbrev pub unlisted : List ℕ → ℕ → Bool
-unlisted s x = both (eqb (type_at s x) 2) (not (eqb (tile_reference s (tile_index s x)) (content_at x)))
 
 pub listed_is : (s : List ℕ) (f : Option ℕ) → f ≡ first_record s (header_end s) (unlisted s) → not (is_found f) ≡ tiles_listed s
 unfolding tiles_listed records_of records first_record

@@ -7,7 +7,8 @@
 -- Where every tile record is listed at its own index, nothing else is listed just where there are as many references that are not
 -- zero as tile records (`only_is`). The functions count, in time that grows with the file's length. The definitions say it reference
 -- by reference, as document 01 does.
--- The pages stand in the order in which to read them.
+-- The pages stand in the order in which to read them; `inner` only serves faster bodies, and no rule rests on it.
 pub mod References
 pub mod TileRules
 pub mod Correspondence
+pub mod inner

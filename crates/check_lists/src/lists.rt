@@ -173,13 +173,35 @@ fn is_not_once(s: &[u8], list: ListKind, base: usize, counts: &[u8], kind: u32, 
     false
 }
 
-// The first such record.
+// The test for such a record.
+#[derive(Clone, Copy)]
+struct NotOnce<'a> {
+    list: ListKind,
+    base: usize,
+    counts: &'a [u8],
+}
+
+impl chain::Test for NotOnce<'_> {
+    ghost passes = { λ t s x. not_once_in s t.list t.base t.counts.now x };
+
+    fn test(&self, seen: chain::Seen<'_>) -> bool {
+        is_not_once(
+            seen.file,
+            self.list,
+            self.base,
+            self.counts,
+            seen.kind,
+            seen.start,
+        )
+    }
+}
+
+// The first one.
 fn find_not_once(s: &[u8], list: ListKind, base: usize, counts: &[u8]) -> Option<usize>
     ensures { result ≡ first_record s.now (header_end s.now) (not_once_in s.now list base counts.now) }
 {
-    chain::find(s, chain::header_end(s), |kind, start| {
-        is_not_once(s, list, base, counts, kind, start)
-    })
+    let test = NotOnce { list, base, counts };
+    chain::find(s, chain::header_end(s), &test)
 }
 
 // The first record of the list's type in the window that is not listed once.

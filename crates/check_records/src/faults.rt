@@ -1,5 +1,5 @@
 // Stages 6 to 8: the start of the first record that fails.
-ghost use Rattle.std.specs.Prelude.{◌≡◌};
+ghost use Rattle.std.specs.Prelude.{◌≡◌, not};
 ghost use Rattle.record.specs.Record.{Told};
 ghost use Rattle.record.specs.Chain.{records};
 ghost use Rattle.check_records.specs.Faults.{body_right, right_of, first_wrong, chain_fault, checksum_fault, body_fault};
@@ -43,14 +43,25 @@ fn keeps(s: &[u8], rule: Rule, kind: u32, at: usize, length: usize) -> bool
     }
 }
 
-// The first record behind the header that does not.
+// The test for a record that does not.
+#[derive(Clone, Copy)]
+struct Wrong {
+    rule: Rule,
+}
+
+impl chain::Test for Wrong {
+    ghost passes = { λ t s x. not (right_of s t.rule x) };
+
+    fn test(&self, seen: chain::Seen<'_>) -> bool {
+        !keeps(seen.file, self.rule, seen.kind, seen.start, seen.length)
+    }
+}
+
+// The first one behind the header.
 fn first_wrong(s: &[u8], rule: Rule) -> Option<usize>
     ensures { result ≡ first_wrong s.now rule (records s.now) }
 {
-    chain::find(s, chain::header_end(s), |kind, at| {
-        let length = wire::u32_at(s, at) as usize;
-        !keeps(s, rule, kind, at, length)
-    })
+    chain::find(s, chain::header_end(s), &Wrong { rule })
 }
 
 // Stage 7: the header first.

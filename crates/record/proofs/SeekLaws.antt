@@ -13,7 +13,6 @@ use Rattle.record.specs.declared.Step.{Step}
 use Rattle.record.specs.declared.Step.TheVariants.{Record, Bad, End}
 use Rattle.record.specs.Record.{type_at, record_ok, step_at, Told}
 use Rattle.record.specs.Chain.{starts, end_of, find_not, first_record}
-use Rattle.record.specs.Asked.{Askable, Decides}
 use Rattle.record.proofs.ChainLaws.{stepped, stepped_bad, stepped_end, less, past_bad, first_here, first_next, first_none, end_none, end_record}
 use Rattle.record.specs.contracts.Step.{the_type}
 
@@ -64,35 +63,6 @@ pub seek_over :
     {p : ℕ → Bool} {s : List ℕ} {from at : ℕ} {x : Step} → Seeking p s from at → x ≡ step_at s at →
     (tag_of the_type x ≡ 1) ⊎ (tag_of the_type x ≡ 2) → None ≡ first_record s from p
 seek_over {p} {s} {from} {at} {x} i v t = first_none p s at (over s at x v t) ∙ i.same
-
--- a test that the caller hands over, which is asked of each record's type and start
-
-pub ask : (s : List ℕ) (at : ℕ) {k st n : ℕ} {nx : Cursor} {x : Step} (f : ℕ → ℕ → Type 0) → Askable s f → x ≡ Record k st n nx → x ≡ step_at s at → f k st
-ask s at f a u v = let h = stepped u v in rw (h.kind, h.start) (a at h.ok h.before_end)
-
-pub record Sought (s : List ℕ) (post : ℕ → ℕ → Bool → Type 0) (from at : ℕ) : Type 0 where
-  pub so_far : (p : ℕ → Bool) → Decides s post p → Seeking p s from at
-
-pub sought_begin : {s : List ℕ} {post : ℕ → ℕ → Bool → Type 0} {at : ℕ} → Sought s post at at
-sought_begin = record { so_far = λ p d. seek_begin refl }
-
-module _
-    {post : ℕ → ℕ → Bool → Type 0} {s : List ℕ} {from at k st n : ℕ} {nx : Cursor} {x : Step} {r : Bool} (i : Sought s post from at)
-    (u : x ≡ Record k st n nx) (v : x ≡ step_at s at) (q : post k st r)
-  where
-    decided : {p : ℕ → Bool} → Decides s post p → r ≡ p st
-    decided d = let h = stepped u v in d st (rw h.start h.ok) (rw h.start h.before_end) r (rw (← h.kind) q)
-
-    pub sought_next : r ≡ false → Sought s post from nx.at
-    sought_next e = record { so_far = λ p d. seek_next (i.so_far p d) u v (decided d) e }
-
-    pub sought_found : r ≡ true → (p : ℕ → Bool) → Decides s post p → Some st ≡ first_record s from p
-    sought_found e p d = seek_found (i.so_far p d) u v (decided d) e
-
-pub sought_over :
-    {post : ℕ → ℕ → Bool → Type 0} {s : List ℕ} {from at : ℕ} {x : Step} → Sought s post from at → x ≡ step_at s at →
-    (tag_of the_type x ≡ 1) ⊎ (tag_of the_type x ≡ 2) → (p : ℕ → Bool) → Decides s post p → None ≡ first_record s from p
-sought_over i v t p d = seek_over (i.so_far p d) v t
 
 -- where they end
 

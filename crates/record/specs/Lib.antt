@@ -8,4 +8,3 @@
 pub mod Types
 pub mod Record
 pub mod Chain
-pub mod Asked

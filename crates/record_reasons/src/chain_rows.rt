@@ -1,7 +1,7 @@
 // Stage 6: what stands where the records end, if the file does not end there.
 #![tactic(auto, using(reasons::proofs::ReasonLaws::chain), unfolding(crate::specs::RecordRows::extent_rows, crate::specs::RecordRows::type_rows, crate::specs::RecordRows::record_rows))]
 
-ghost use Rattle.std.specs.Prelude.{◌≡◌, ◌<◌, length};
+ghost use Rattle.std.specs.Prelude.{◌≡◌, ◌<◌, true, length};
 ghost use Rattle.record.specs.Chain.{records};
 ghost use Rattle.reasons.specs.Rows.{first_failing};
 ghost use Rattle.record_reasons.specs.RecordRows.{extent_rows, type_rows, record_rows, chain_rows};
@@ -9,11 +9,23 @@ ghost use Rattle.record_reasons.specs.RecordRows.{extent_rows, type_rows, record
 use reasons::{Fault, rows};
 use record::chain;
 
+// The test that every record passes.
+#[derive(Clone, Copy)]
+struct Every;
+
+impl chain::Test for Every {
+    ghost passes = { λ t s x. true };
+
+    fn test(&self, _seen: chain::Seen<'_>) -> bool {
+        true
+    }
+}
+
 // How many records stand behind the header.
 fn good_records(s: &[u8]) -> usize
     ensures { result ≡ length (records s.now) }
 {
-    chain::count(s, |_, _| true)
+    chain::count(s, &Every)
 }
 
 fn extent(s: &[u8], k: u64, at: usize) -> Result<(), Fault>
