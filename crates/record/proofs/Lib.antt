@@ -3,3 +3,4 @@ pub mod SeekLaws
 pub mod FindLaws
 pub mod TallyLaws
 pub mod FitLaws
+pub mod WalkLaws

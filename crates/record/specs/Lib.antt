@@ -8,3 +8,5 @@
 pub mod Types
 pub mod Record
 pub mod Chain
+pub mod Asked
+pub mod Walk

@@ -3,6 +3,7 @@
 
 pub mod chain;
 pub mod frame;
+pub mod walk;
 
 ghost use Rattle.std.specs.Prelude.{◌≡◌};
 ghost use Rattle.record.specs.Record.{record_ok, step_at};
